@@ -5,8 +5,8 @@ use Rattle.std.proofs.lemmas.Option.{same_Some, none-some, option_and_then_some}
 use Rattle.mls_nodes.specs.Limits.{leaf_limit}
 use Rattle.mls_nodes.specs.declared.leaf.LeafNode.{LeafNode}
 use Rattle.mls_tree.specs.Tree.{Tree, height, leaf_count, member_count, leaf_at}
-use Rattle.mls_tree.specs.BlankLeaves.{first_blank_leaf, IsFirstBlank, AllLeavesSet}
-use Rattle.mls_tree.specs.TreeOperations.{blank_tree, extend, add, add_at, added_leaf, grown_for, number_or, is_overfilled_above}
+use Rattle.mls_tree.specs.BlankLeaves.{first_blank_leaf, IsFirstBlank, AllLeavesNonBlank}
+use Rattle.mls_tree.specs.TreeOperations.{blank_tree, extend, add, add_at, added_leaf, extended_if_full, number_or, is_overfilled_above}
 use Rattle.mls_tree.proofs.Trees.{leaf_count-positive}
 use Rattle.mls_tree.proofs.Kept.{leaf_at-extend}
 use Rattle.mls_tree.proofs.FirstBlanks.{first_blank_leaf-leftmost}
@@ -29,8 +29,8 @@ apart_last (k ∷ js) j i a = apart_last js j i a.1
 
 -- ---- a leaf that is not the added one
 
-beside_by : (t : Tree) (x : LeafNode) (i : ℕ) (o : Option ℕ) → MatchOption o (AllLeavesSet t) (λ j. IsFirstBlank t j) → i ≢ number_or (leaf_count t) o
-    → leaf_at 0 (add_at (grown_for o t) (number_or (leaf_count t) o) x) i ≡ leaf_at 0 t i
+beside_by : (t : Tree) (x : LeafNode) (i : ℕ) (o : Option ℕ) → MatchOption o (AllLeavesNonBlank t) (λ j. IsFirstBlank t j) → i ≢ number_or (leaf_count t) o
+    → leaf_at 0 (add_at (extended_if_full o t) (number_or (leaf_count t) o) x) i ≡ leaf_at 0 t i
 beside_by t x i None h away =
     leaf_at-add_at_other (extend t) (leaf_count t) i x (omega (arith, leaf_count-positive (blank_tree (height t)))) away ∙ leaf_at-extend t i
 beside_by t x i (Some j) h away = leaf_at-add_at_other t j i x h.inside away
@@ -44,7 +44,7 @@ pub one_added : (t : Tree) (x : LeafNode) (xs : List LeafNode) (g : AppliedTree)
 unfolding after_adds
 one_added t x xs g e =
     go (after_adds xs (add t x)) refl
-    (unless (is_overfilled_above 0 (grown_for (first_blank_leaf 0 t) t) (added_leaf t)) (option_map (after_leaf (added_leaf t)) (after_adds xs (add t x))) g e)
+    (unless (is_overfilled_above 0 (extended_if_full (first_blank_leaf 0 t) t) (added_leaf t)) (option_map (after_leaf (added_leaf t)) (after_adds xs (add t x))) g e)
   where
     go : (o : Option AppliedTree) → after_adds xs (add t x) ≡ o → option_map (after_leaf (added_leaf t)) o ≡ Some g
         → (h : AppliedTree) × (after_adds xs (add t x) ≡ Some h) × (h.tree ≡ g.tree) × (added_leaf t ∷ h.added ≡ g.added)

@@ -9,8 +9,8 @@ use Rattle.mls_msgs.specs.declared.proposal.Proposal.{Proposal}
 use Rattle.mls_msgs.specs.declared.proposal.Proposal.TheVariants.{Add, Update, Remove, ContextExtensions, PreSharedKey, ReInit, ExternalInit}
 use Rattle.mls_nodes.specs.Limits.{leaf_limit}
 use Rattle.mls_tree.specs.Tree.{Tree, height, leaf_count, member_count, leaf_at}
-use Rattle.mls_tree.specs.BlankLeaves.{first_blank_leaf, IsFirstBlank, AllLeavesSet, AreSetBelow}
-use Rattle.mls_tree.specs.TreeOperations.{extend, add, add_at, added_leaf, grown_for, number_or, blank_tree, add_unmerged, with_unmerged}
+use Rattle.mls_tree.specs.BlankLeaves.{first_blank_leaf, IsFirstBlank, AllLeavesNonBlank, AreNonBlankBelow}
+use Rattle.mls_tree.specs.TreeOperations.{extend, add, add_at, added_leaf, extended_if_full, number_or, blank_tree, add_unmerged, with_unmerged}
 use Rattle.mls_tree.proofs.Trees.{leaf_count-positive}
 use Rattle.mls_tree.proofs.Kept.{leaf_at-change_above, leaf_count-change_above, leaf_at-extend}
 use Rattle.mls_tree.proofs.Added.{add-set_below}
@@ -82,8 +82,8 @@ module _ (u : Tree) (j : ℕ) (x : LeafNode) (inside : j < leaf_count u) (blank 
       ∙ ap (λ n. n + 1) (member_count-change_above (with_unmerged j) 0 u j)
 
 -- with a new member there is one more, by the leftmost blank leaf
-one_member : (t : Tree) (x : LeafNode) (o : Option ℕ) → MatchOption o (AllLeavesSet t) (λ j. IsFirstBlank t j)
-    → member_count (add_at (grown_for o t) (number_or (leaf_count t) o) x) ≡ member_count t + 1
+one_member : (t : Tree) (x : LeafNode) (o : Option ℕ) → MatchOption o (AllLeavesNonBlank t) (λ j. IsFirstBlank t j)
+    → member_count (add_at (extended_if_full o t) (number_or (leaf_count t) o) x) ≡ member_count t + 1
 one_member t x None all =
     member_count-add_at (extend t) (leaf_count t) x (omega (arith, leaf_count-positive (blank_tree (height t))))
     (leaf_at-extend t (leaf_count t) ∙ leaf_at-past 0 t (leaf_count t) (omega arith))
@@ -92,7 +92,7 @@ one_member t x (Some j) first = member_count-add_at t j x first.inside first.bla
 
 pub blank_inside : (t : Tree) (j : ℕ) → first_blank_leaf 0 t ≡ Some j → j < leaf_count t
 blank_inside t j e =
-    let first : IsFirstBlank t j = subst (λ o. MatchOption o (AllLeavesSet t) (λ j. IsFirstBlank t j)) e (first_blank_leaf-leftmost t) in
+    let first : IsFirstBlank t j = subst (λ o. MatchOption o (AllLeavesNonBlank t) (λ j. IsFirstBlank t j)) e (first_blank_leaf-leftmost t) in
     first.inside
 
 pub member_count-add : (t : Tree) (x : LeafNode) → member_count (add t x) ≡ member_count t + 1
@@ -111,7 +111,7 @@ append_parent_hash added g = applied_tree g.tree (added ++ g.added)
 -- where a walk stands, before the rest of the list
 pub record Adding (whole : Option AppliedTree) (rest : List ListItem) (t : Tree) (added : List ℕ) (start : ℕ) : Type 0 where
   pub so_far : whole ≡ option_map (append_parent_hash added) (after_adds (new_members rest) t)
-  pub set : AreSetBelow t start
+  pub set : AreNonBlankBelow t start
   pub capacity : member_count t + length (new_members rest) ≤ leaf_limit
 
 none_before : (o : Option AppliedTree) → o ≡ option_map (append_parent_hash []) o

@@ -5,7 +5,7 @@ use Rattle.std.specs.Int.{w8}
 use Rattle.mls_wire.specs.Encoding.{◌⊕◌, number, vector, optional}
 use Rattle.mls_nodes.specs.Layout as layout
 use Rattle.mls_nodes.specs.declared.parent.ParentNode.{ParentNode}
-use Rattle.mls_tree.specs.TreeHash.{hash_of_parent, parent_hash_input}
+use Rattle.mls_tree.specs.TreeHash.{hash_of_parent, parent_tree_hash_input}
 
 -- what is there
 pub taken_out : {A : Type 0} (o : Option A) → IsSome o → (x : A) × (o ≡ Some x)
@@ -49,5 +49,5 @@ pub parts_some : (H : List ℕ → List ℕ) (p : Option ParentNode) (a b : Opti
 parts_some H p None b h = absurd (cc)
 parts_some H p (Some x) None h = absurd (cc)
 parts_some H p (Some x) (Some y) h =
-    let whole = mapped_some H (parent_hash_input p x y) h in
+    let whole = mapped_some H (parent_tree_hash_input p x y) h in
     (refl, left_encoded (optional layout.parent p) (vector x ⊕ vector y) (right_encoded (number w8 2) (optional layout.parent p ⊕ vector x ⊕ vector y) whole), refl)

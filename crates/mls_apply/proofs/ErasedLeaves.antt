@@ -5,7 +5,7 @@ use Rattle.mls_nodes.specs.declared.leaf.LeafNode.{LeafNode}
 use Rattle.mls_nodes.specs.declared.parent.ParentNode.{ParentNode}
 use Rattle.mls_tree.specs.Tree.{Tree, leaf, branch, height, leaf_count}
 use Rattle.mls_tree.specs.BlankLeaves.{first_of, first_blank_leaf}
-use Rattle.mls_tree.specs.TreeOperations.{put_leaf, change_above, with_unmerged, add_unmerged, is_overfilled, is_overfilled_above, blank_tree, add, add_at, added_leaf, grown_for, number_or}
+use Rattle.mls_tree.specs.TreeOperations.{put_leaf, change_above, with_unmerged, add_unmerged, is_overfilled, is_overfilled_above, blank_tree, add, add_at, added_leaf, extended_if_full, number_or}
 use Rattle.mls_apply.specs.AppliedList.{AppliedTree, after_leaf, after_adds}
 use Rattle.mls_apply.specs.AddSteps.{is_overfull_add}
 
@@ -64,9 +64,9 @@ module _ (c : LeafNode) where
       ∙ (λ i. if nat_lt j (first + leaf_count l) then branch (put_leaf-erased first l j x i) n (erased c r) else branch (erased c l) n (put_leaf-erased (first + leaf_count l) r j x i))
       ∙ (λ i. if nat_lt j (first + sym (leaf_count-erased l) i) then branch (put_leaf first (erased c l) j (Some c)) n (erased c r) else branch (erased c l) n (put_leaf (first + sym (leaf_count-erased l) i) (erased c r) j (Some c)))
 
-  grown_for-erased : (o : Option ℕ) (t : Tree) → erased c (grown_for o t) ≡ grown_for o (erased c t)
-  grown_for-erased None t = λ i. branch (erased c t) None ((blank_tree-erased (height t) ∙ ap blank_tree (sym (height-erased t))) i)
-  grown_for-erased (Some j) t = refl
+  extended_if_full-erased : (o : Option ℕ) (t : Tree) → erased c (extended_if_full o t) ≡ extended_if_full o (erased c t)
+  extended_if_full-erased None t = λ i. branch (erased c t) None ((blank_tree-erased (height t) ∙ ap blank_tree (sym (height-erased t))) i)
+  extended_if_full-erased (Some j) t = refl
 
   added_leaf-erased : (t : Tree) → added_leaf (erased c t) ≡ added_leaf t
   added_leaf-erased t = λ i. number_or (leaf_count-erased t i) (first_blank-erased 0 t i)
@@ -77,15 +77,15 @@ module _ (c : LeafNode) where
 
   add-erased : (t : Tree) (x : LeafNode) → erased c (add t x) ≡ add (erased c t) c
   add-erased t x =
-      add_at-erased (grown_for (first_blank_leaf 0 t) t) (added_leaf t) x
-      ∙ ap (λ v. add_at v (added_leaf t) c) (grown_for-erased (first_blank_leaf 0 t) t)
-      ∙ (λ i. add_at (grown_for (sym (first_blank-erased 0 t) i) (erased c t)) (sym (added_leaf-erased t) i) c)
+      add_at-erased (extended_if_full (first_blank_leaf 0 t) t) (added_leaf t) x
+      ∙ ap (λ v. add_at v (added_leaf t) c) (extended_if_full-erased (first_blank_leaf 0 t) t)
+      ∙ (λ i. add_at (extended_if_full (sym (first_blank-erased 0 t) i) (erased c t)) (sym (added_leaf-erased t) i) c)
 
   overfull-erased : (t : Tree) → is_overfull_add (erased c t) ≡ is_overfull_add t
   overfull-erased t =
-      (λ i. is_overfilled_above 0 (grown_for (first_blank-erased 0 t i) (erased c t)) (added_leaf-erased t i))
-      ∙ ap (λ v. is_overfilled_above 0 v (added_leaf t)) (sym (grown_for-erased (first_blank_leaf 0 t) t))
-      ∙ overfilled-erased 0 (grown_for (first_blank_leaf 0 t) t) (added_leaf t)
+      (λ i. is_overfilled_above 0 (extended_if_full (first_blank-erased 0 t i) (erased c t)) (added_leaf-erased t i))
+      ∙ ap (λ v. is_overfilled_above 0 v (added_leaf t)) (sym (extended_if_full-erased (first_blank_leaf 0 t) t))
+      ∙ overfilled-erased 0 (extended_if_full (first_blank_leaf 0 t) t) (added_leaf t)
 
   -- in trees that are alike but for the leaf nodes, members are added at the same leaves
   same_places : (xs : List LeafNode) (t u : Tree) → erased c t ≡ erased c u → node_indices (after_adds xs t) ≡ node_indices (after_adds xs u)

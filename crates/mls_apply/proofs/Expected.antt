@@ -11,7 +11,7 @@ use Rattle.mls_nodes.specs.declared.leaf_source.LeafSource.{LeafSource}
 use Rattle.mls_nodes.specs.declared.parent.ParentNode.{ParentNode}
 use Rattle.mls_msgs.specs.declared.commit.UpdatePath.{UpdatePath}
 use Rattle.mls_tree.specs.Tree.{Tree, leaf, branch, leaf_count}
-use Rattle.mls_tree.specs.TreeHash.{tree_hash, hash_of_parent, leaf_hash_input, parent_hash_input as hashed_parent}
+use Rattle.mls_tree.specs.TreeHash.{tree_hash, hash_of_parent, leaf_tree_hash_input, parent_tree_hash_input as hashed_parent}
 use Rattle.mls_tree.specs.Paths.{resolution, filtered_direct_path, where_resolved}
 use Rattle.mls_hash.specs.ParentHash.{parent_hash_input}
 use Rattle.mls_apply.specs.MergePath.{PathStep, path_step_at, path_step, path_parent, path_hash, merged_from, merged, hashes_from, expected_hashes, append_parent_hash}
@@ -36,7 +36,7 @@ module _ (H : List ℕ → List ℕ) (short : (m : List ℕ) → IsSome (vector 
   parent_written p (Some x) (Some y) h e = mapped_written (hashed_parent p x y) h e
 
   hash_written : (first : ℕ) (t : Tree) (h : List ℕ) → tree_hash H first t ≡ Some h → IsSome (vector h)
-  hash_written first (leaf x) h e = mapped_written (leaf_hash_input first x) h e
+  hash_written first (leaf x) h e = mapped_written (leaf_tree_hash_input first x) h e
   hash_written first (branch l p r) h e = parent_written p (tree_hash H first l) (tree_hash H (first + leaf_count l) r) h e
 
   -- a new parent has a parent hash, which has a spelling

@@ -8,8 +8,8 @@ use Rattle.mls_nodes.specs.declared.leaf.LeafNode.{LeafNode}
 use Rattle.mls_msgs.specs.declared.key_package.KeyPackage.{KeyPackage}
 use Rattle.mls_msgs.specs.declared.proposal.Proposal.TheVariants.{Add}
 use Rattle.mls_tree.specs.Tree.{Tree, member_count, leaf_at}
-use Rattle.mls_tree.specs.BlankLeaves.{first_blank_leaf, AreSetBelow}
-use Rattle.mls_tree.specs.TreeOperations.{add, added_leaf, grown_for, is_overfilled_above}
+use Rattle.mls_tree.specs.BlankLeaves.{first_blank_leaf, AreNonBlankBelow}
+use Rattle.mls_tree.specs.TreeOperations.{add, added_leaf, extended_if_full, is_overfilled_above}
 use Rattle.mls_tree.proofs.Added.{add-set_below}
 use Rattle.mls_apply.specs.AppliedList.{AppliedTree, applied_tree, after_leaf, after_adds, added_to, new_members}
 use Rattle.mls_apply.specs.AddSteps.{is_overfull_add, Adds}
@@ -27,7 +27,7 @@ after_those added o = option_map (λ js. added ++ js) o
 pub record Fitting (whole : Option AppliedTree) (rest : List ListItem) (first t : Tree) (added : List ℕ) (start : ℕ) : Type 0 where
   pub so_far : node_indices whole ≡ after_those added (node_indices (after_adds (new_members rest) t))
   pub others : (j : ℕ) → IsApart added j → leaf_at 0 t j ≡ leaf_at 0 first j
-  pub set : AreSetBelow t start
+  pub set : AreNonBlankBelow t start
   pub capacity : member_count t + length (new_members rest) ≤ leaf_limit
 
 none_before : (o : Option (List ℕ)) → o ≡ after_those [] o

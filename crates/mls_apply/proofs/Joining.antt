@@ -7,21 +7,21 @@ use Rattle.mls_nodes.specs.declared.parent.ParentNode.{ParentNode}
 use Rattle.mls_tree.specs.Tree.{Tree, leaf, branch, leaf_count}
 use Rattle.mls_tree.specs.BlankLeaves.{first_blank_leaf}
 use Rattle.mls_tree.specs.Paths.{resolution, filtered_direct_path, where_resolved}
-use Rattle.mls_tree.specs.TreeOperations.{put_leaf, change_above, with_unmerged, add_unmerged, grown_for, add, seat}
+use Rattle.mls_tree.specs.TreeOperations.{put_leaf, change_above, with_unmerged, add_unmerged, extended_if_full, add, seat}
 use Rattle.mls_tree.proofs.Choices.{is_less, not_less}
 use Rattle.mls_tree.proofs.Kept.{leaf_count-change_above, leaf_count-put_leaf}
 use Rattle.mls_check.specs.PreservedValidity.{IsParentHashValidTree}
 use Rattle.mls_check.proofs.Remaining.{sound_grow}
 use Rattle.mls_apply.specs.MergePath.{PathStep, path_step_at, append_parent_hash, merged_from, hashes_from}
 use Rattle.mls_apply.specs.PathRules.{copath_resolutions, append_non_empty}
-use Rattle.mls_apply.specs.CommitsPreserveValidity.{SeatsKeepSound, JoinsMergeAsAdds, JoinsExpectAsAdds, JoinsCountAsAdds, JoinsResolveAsAdds}
+use Rattle.mls_apply.specs.CommitsPreserveValidity.{SeatsPreserveValidity, JoinsMergeAsAdds, JoinsExpectAsAdds, JoinsCountAsAdds, JoinsResolveAsAdds}
 
 -- ---- the seat
 
-pub seats_sound : SeatsKeepSound
+pub seats_sound : SeatsPreserveValidity
 seats_sound H t h = by_blank (first_blank_leaf 0 t)
   where
-    by_blank : (o : Option ℕ) → IsParentHashValidTree H (grown_for o t)
+    by_blank : (o : Option ℕ) → IsParentHashValidTree H (extended_if_full o t)
     by_blank None = sound_grow H t h
     by_blank (Some j) = h
 

@@ -21,7 +21,7 @@ use Rattle.mls_apply.specs.declared.list_item.ListItem.{ListItem}
 use Rattle.mls_apply.specs.ListRules.{removed_leaf, is_leaf_number, maps_to, maps_once}
 use Rattle.mls_apply.specs.Senders.{member_index, leaf_of_member}
 use Rattle.mls_apply.specs.AppliedList.{updated_at, after_update, after_updates, after_remove, after_removes, without_adds, new_members, ExceedsCapacity}
-use Rattle.mls_apply.specs.TargetLeaves.{removed_by, removed_leaves, number_in, removed_in, is_non_blank_if_some, updates_set_leaf, update_set_leaves, concerns_set_leaf, concern_set_leaves, map_to_non_blank}
+use Rattle.mls_apply.specs.TargetLeaves.{removed_by, removed_leaves, number_in, removed_in, is_non_blank_if_some, updates_non_blank_leaf, update_non_blank_leaves, targets_non_blank_leaf, target_non_blank_leaves, map_to_non_blank}
 use Rattle.mls_apply.proofs.Leaves.{leaf_inside, kept_beside, put_there}
 use Rattle.mls_apply.proofs.Encodings.{taken_out}
 use Rattle.mls_apply.proofs.LeavesAreValid.{member_count-change_above, member_count-replaced, member_count-blanked, member_count-truncate}
@@ -112,11 +112,11 @@ module _ (f : ListItem → Option ℕ) where
           ap (λ k. is_some (leaf_at 0 t k)) (sym same) ∙ sym (ap (is_non_blank_if_some t) h) ∙ (both (is_non_blank_if_some t (f x)) (map_to_non_blank f t xs) all).0
 
 -- those that Updates and those that Removes concern
-concerned-parts : (t : Tree) (xs : List ListItem) → concern_set_leaves t xs ≡ (update_set_leaves t xs && map_to_non_blank removed_by t xs)
+concerned-parts : (t : Tree) (xs : List ListItem) → target_non_blank_leaves t xs ≡ (update_non_blank_leaves t xs && map_to_non_blank removed_by t xs)
 concerned-parts t [] = refl
 concerned-parts t (x ∷ xs) =
-    ap (λ b. concerns_set_leaf t x && b) (concerned-parts t xs)
-    ∙ regrouped (updates_set_leaf t x.sender x.proposal) (is_non_blank_if_some t (removed_by x)) (update_set_leaves t xs) (map_to_non_blank removed_by t xs)
+    ap (λ b. targets_non_blank_leaf t x && b) (concerned-parts t xs)
+    ∙ regrouped (updates_non_blank_leaf t x.sender x.proposal) (is_non_blank_if_some t (removed_by x)) (update_non_blank_leaves t xs) (map_to_non_blank removed_by t xs)
   where
     regrouped : (a b c d : Bool) → ((a && b) && (c && d)) ≡ ((a && c) && (b && d))
     regrouped true true c d = refl
@@ -125,7 +125,7 @@ concerned-parts t (x ∷ xs) =
     regrouped false b c d = refl
 
 -- the members that update their leaves, in trees whose set leaves are the same
-updates-alike : (t u : Tree) → ((j : ℕ) → is_some (leaf_at 0 u j) ≡ is_some (leaf_at 0 t j)) → (xs : List ListItem) → update_set_leaves u xs ≡ update_set_leaves t xs
+updates-alike : (t u : Tree) → ((j : ℕ) → is_some (leaf_at 0 u j) ≡ is_some (leaf_at 0 t j)) → (xs : List ListItem) → update_non_blank_leaves u xs ≡ update_non_blank_leaves t xs
 updates-alike t u alike [] = refl
 updates-alike t u alike (x ∷ xs) = (λ i. one x.proposal i && updates-alike t u alike xs i)
   where
@@ -133,7 +133,7 @@ updates-alike t u alike (x ∷ xs) = (λ i. one x.proposal i && updates-alike t 
     of_member None = refl
     of_member (Some j) = alike j
 
-    one : (p : Proposal) → updates_set_leaf u x.sender p ≡ updates_set_leaf t x.sender p
+    one : (p : Proposal) → updates_non_blank_leaf u x.sender p ≡ updates_non_blank_leaf t x.sender p
     one (Add k) = refl
     one (Update y) = of_member (member_index x.sender)
     one (Remove i) = refl
@@ -148,25 +148,25 @@ members_low t shape = omega (arith, member_count-low t, leaf_count-limit (record
 
 -- ---- Updates
 
-updates_set : (xs : List ListItem) (t : Tree) → is_some (after_updates xs t) ≡ update_set_leaves t xs
+updates_set : (xs : List ListItem) (t : Tree) → is_some (after_updates xs t) ≡ update_non_blank_leaves t xs
 unfolding after_updates
 updates_set [] t = refl
 updates_set (x ∷ xs) t = go (updates_set xs) x.proposal
   where
     Later : Type 0
-    Later = (u : Tree) → is_some (after_updates xs u) ≡ update_set_leaves u xs
+    Later = (u : Tree) → is_some (after_updates xs u) ≡ update_non_blank_leaves u xs
 
     at : Later → (i : ℕ) (y : LeafNode) (b : Bool) → is_some (leaf_at 0 t i) ≡ b
-        → is_some (option_and_then (after_updates xs) (if b then Some (update t i y) else None)) ≡ (b && update_set_leaves t xs)
+        → is_some (option_and_then (after_updates xs) (if b then Some (update t i y) else None)) ≡ (b && update_non_blank_leaves t xs)
     at later i y true set = later (update t i y) ∙ updates-alike t (update t i y) (set-update t i y set) xs
     at later i y false blank = refl
 
     of_member : Later → (y : LeafNode) (o : Option ℕ)
-        → is_some (option_and_then (after_updates xs) (updated_at o y t)) ≡ (is_some (leaf_of_member t o) && update_set_leaves t xs)
+        → is_some (option_and_then (after_updates xs) (updated_at o y t)) ≡ (is_some (leaf_of_member t o) && update_non_blank_leaves t xs)
     of_member later y None = refl
     of_member later y (Some i) = at later i y (is_some (leaf_at 0 t i)) refl
 
-    go : Later → (p : Proposal) → is_some (option_and_then (after_updates xs) (after_update x.sender p t)) ≡ (updates_set_leaf t x.sender p && update_set_leaves t xs)
+    go : Later → (p : Proposal) → is_some (option_and_then (after_updates xs) (after_update x.sender p t)) ≡ (updates_non_blank_leaf t x.sender p && update_non_blank_leaves t xs)
     go later (Add k) = later t
     go later (Remove i) = later t
     go later (ContextExtensions es) = later t
@@ -400,18 +400,18 @@ module _ (items : List ListItem) (t : Tree) where
       removes_count items s.0 v s.2 ∙ (updates_keep items t s.0 s.1).count
 
   -- each leaf that is removed may be one of a tree's
-  pub removed_low : (shape : HasShape t) → concern_set_leaves t items ≡ true → (i : ℕ) → maps_to removed_by items (Some i) ≡ true → i < leaf_limit
+  pub removed_low : (shape : HasShape t) → target_non_blank_leaves t items ≡ true → (i : ℕ) → maps_to removed_by items (Some i) ≡ true → i < leaf_limit
   removed_low shape all i e =
-      let parts = both (update_set_leaves t items) (map_to_non_blank removed_by t items) (sym (concerned-parts t items) ∙ all) in
+      let parts = both (update_non_blank_leaves t items) (map_to_non_blank removed_by t items) (sym (concerned-parts t items) ∙ all) in
       let inside = leaf_inside t i (mapped_set removed_by t items parts.1 i e) in
       let limit = leaf_count-limit (record { tree = t; shape = shape }) in
       omega arith
 
   -- a list whose leaves are set, none of which is removed twice, can be applied but for its Adds
   pub room_lacking : (leaf_limit + length (removed_leaves items) < member_count t + length (new_members items))
-      → concern_set_leaves t items ≡ true → maps_once removed_by items ≡ true → ExceedsCapacity items t
+      → target_non_blank_leaves t items ≡ true → maps_once removed_by items ≡ true → ExceedsCapacity items t
   room_lacking many all once =
-      let parts = both (update_set_leaves t items) (map_to_non_blank removed_by t items) (sym (concerned-parts t items) ∙ all) in
+      let parts = both (update_non_blank_leaves t items) (map_to_non_blank removed_by t items) (sym (concerned-parts t items) ∙ all) in
       let u = taken_out (after_updates items t) (updates_set items t ∙ parts.0) in
       let v = taken_out (after_removes items u.0) (removes_after u.0 u.1 ∙ (λ k. parts.1 k && once k)) in
       let applied : without_adds items t ≡ Some v.0 = ap (option_and_then (after_removes items)) u.1 ∙ v.1 in
@@ -420,7 +420,7 @@ module _ (items : List ListItem) (t : Tree) where
 
   -- and no other one lacks room
   pub lacking_room : ExceedsCapacity items t
-      → (leaf_limit + length (removed_leaves items) < member_count t + length (new_members items)) × (concern_set_leaves t items ≡ true) × (maps_once removed_by items ≡ true)
+      → (leaf_limit + length (removed_leaves items) < member_count t + length (new_members items)) × (target_non_blank_leaves t items ≡ true) × (maps_once removed_by items ≡ true)
   lacking_room h =
       let s = steps items t h.tree h.applied in
       let replaced = sym (updates_set items t) ∙ ap is_some s.1 in

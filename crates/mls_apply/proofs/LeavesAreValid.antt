@@ -7,7 +7,7 @@ use Rattle.mls_nodes.specs.declared.leaf.LeafNode.{LeafNode}
 use Rattle.mls_nodes.specs.declared.parent.ParentNode.{ParentNode}
 use Rattle.mls_tree.specs.Tree.{Tree, leaf, branch, height, leaf_count, member_count, leaf_at}
 use Rattle.mls_tree.specs.BlankLeaves.{first_of, first_blank_leaf}
-use Rattle.mls_tree.specs.TreeOperations.{put_leaf, change_above, blank_tree, extend, has_set_leaf, truncate}
+use Rattle.mls_tree.specs.TreeOperations.{put_leaf, change_above, blank_tree, extend, has_non_blank_leaf, truncate}
 use Rattle.mls_tree.proofs.Choices.{below, from, same}
 use Rattle.mls_tree.proofs.Kept.{either, or_none}
 
@@ -112,19 +112,19 @@ member_count-blanked first t i a b set =
 
 -- ---- a tree is made smaller
 
-none_set : (t : Tree) → has_set_leaf t ≡ false → member_count t ≡ 0
+none_set : (t : Tree) → has_non_blank_leaf t ≡ false → member_count t ≡ 0
 none_set (leaf None) e = refl
 none_set (leaf (Some x)) e = absurd (false≢true (sym e))
 none_set (branch l n r) e =
-    let children = or_none (has_set_leaf l) (has_set_leaf r) e in
+    let children = or_none (has_non_blank_leaf l) (has_non_blank_leaf r) e in
     let a = none_set l children.0 in
     let b = none_set r children.1 in
     omega arith
 
 pub member_count-truncate : (t : Tree) → member_count (truncate t) ≡ member_count t
 member_count-truncate (leaf x) = refl
-member_count-truncate (branch l n r) = go (has_set_leaf r) refl (member_count-truncate l)
+member_count-truncate (branch l n r) = go (has_non_blank_leaf r) refl (member_count-truncate l)
   where
-    go : (b : Bool) → has_set_leaf r ≡ b → member_count (truncate l) ≡ member_count l → member_count (if b then branch l n r else truncate l) ≡ member_count l + member_count r
+    go : (b : Bool) → has_non_blank_leaf r ≡ b → member_count (truncate l) ≡ member_count l → member_count (if b then branch l n r else truncate l) ≡ member_count l + member_count r
     go true e a = refl
     go false e a = let b = none_set r e in omega arith

@@ -34,7 +34,7 @@ module _ (H : List ℕ → List ℕ) (leaves : ℕ) where
   record IsHead (first : ℕ) (t : Tree) (hash : List ℕ) : Type 0 where
     node_index : ℕ
     node : Subtree
-    stands : subtree_at first t node_index ≡ Some node
+    descendant_is : subtree_at first t node_index ≡ Some node
     linked : linked_hash (root_entry node.tree) ≡ Some hash
     alone : resolution leaves first t ≡ node_index ∷ []
     ended : IsLeaf node.tree ⊎ ParentHashValid H leaves node
@@ -44,7 +44,7 @@ module _ (H : List ℕ → List ℕ) (leaves : ℕ) where
       → ParentHashLink H leaves (path_parent key hash) child other head.node
   head-link key hash h child other head e = record {
     node_index = head.node_index;
-    stands = head.stands;
+    descendant_is = head.descendant_is;
     hash = h;
     linked = head.linked;
     expected =
@@ -82,7 +82,7 @@ module _ (H : List ℕ → List ℕ) (leaves : ℕ) where
     set-head reached = record {
       node_index = root_node_index first (branch l (Some (path_parent key hash)) r);
       node = set_top;
-      stands = subtree_at-root first (branch l (Some (path_parent key hash)) r);
+      descendant_is = subtree_at-root first (branch l (Some (path_parent key hash)) r);
       linked = refl;
       alone = refl;
       ended = inr reached;
@@ -96,7 +96,7 @@ module _ (H : List ℕ → List ℕ) (leaves : ℕ) where
   blank-left first l r hash head e = record {
     node_index = head.node_index;
     node = head.node;
-    stands = in_left first l None r head.node_index head.node head.stands;
+    descendant_is = in_left first l None r head.node_index head.node head.descendant_is;
     linked = head.linked;
     alone = λ i. head.alone i ++ e i;
     ended = head.ended;
@@ -106,7 +106,7 @@ module _ (H : List ℕ → List ℕ) (leaves : ℕ) where
   blank-right first l r hash head e = record {
     node_index = head.node_index;
     node = head.node;
-    stands = in_right first l None r head.node_index head.node head.stands;
+    descendant_is = in_right first l None r head.node_index head.node head.descendant_is;
     linked = head.linked;
     alone = λ i. e i ++ head.alone i;
     ended = head.ended;
@@ -276,7 +276,7 @@ module _ (H : List ℕ → List ℕ) (leaves : ℕ) where
           head = λ c. record {
             node_index = 2 * first;
             node = record { first = first; tree = leaf (Some x) };
-            stands = subtree_at-root first (leaf (Some x));
+            descendant_is = subtree_at-root first (leaf (Some x));
             linked = c;
             alone = refl;
             ended = inl tt;

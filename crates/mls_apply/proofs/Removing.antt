@@ -6,7 +6,7 @@ use Rattle.mls_nodes.specs.declared.parent.ParentNode.{ParentNode}
 use Rattle.mls_msgs.specs.declared.proposal.Proposal.{Proposal}
 use Rattle.mls_msgs.specs.declared.proposal.Proposal.TheVariants.{Add, Update, Remove, ContextExtensions, PreSharedKey, ReInit, ExternalInit}
 use Rattle.mls_tree.specs.Tree.{Tree, leaf, branch, leaf_count, leaf_at}
-use Rattle.mls_tree.specs.TreeOperations.{put_leaf, change_above, has_set_leaf, truncate, remove}
+use Rattle.mls_tree.specs.TreeOperations.{put_leaf, change_above, has_non_blank_leaf, truncate, remove}
 use Rattle.mls_tree.proofs.Choices.{below}
 use Rattle.mls_tree.proofs.Kept.{leaf_at-truncate, leaf_at-none_set, leaf_count-put_leaf}
 use Rattle.mls_apply.specs.AppliedList.{after_remove, after_removes}
@@ -35,11 +35,11 @@ cleared-left first l n r i lt =
 -- A set leaf is cleared in a tree that was made smaller: to make it smaller after that is the same as to do so once.
 pub truncate-cleared : (first : ℕ) (t : Tree) (i : ℕ) → IsSome (leaf_at first t i) → truncate (cleared first (truncate t) i) ≡ truncate (cleared first t i)
 truncate-cleared first (leaf x) i set = refl
-truncate-cleared first (branch l n r) i set = go (truncate-cleared first l i) (has_set_leaf r) refl
+truncate-cleared first (branch l n r) i set = go (truncate-cleared first l i) (has_non_blank_leaf r) refl
   where
     -- the right half has no set leaf
     go : (IsSome (leaf_at first l i) → truncate (cleared first (truncate l) i) ≡ truncate (cleared first l i))
-        → (b : Bool) → has_set_leaf r ≡ b → truncate (cleared first (if b then branch l n r else truncate l) i) ≡ truncate (cleared first (branch l n r) i)
+        → (b : Bool) → has_non_blank_leaf r ≡ b → truncate (cleared first (if b then branch l n r else truncate l) i) ≡ truncate (cleared first (branch l n r) i)
     go in_left true e = refl
     go in_left false e =
         let in_child = inside_from first l n r i set (leaf_at-none_set (first + leaf_count l) r i e) in

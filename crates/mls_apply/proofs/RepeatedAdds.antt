@@ -11,18 +11,18 @@ use Rattle.mls_nodes.specs.declared.leaf.LeafNode.{LeafNode}
 use Rattle.mls_msgs.specs.declared.proposal.Proposal.{Proposal}
 use Rattle.mls_msgs.specs.declared.proposal.Proposal.TheVariants.{Add, Update, Remove, ContextExtensions, PreSharedKey, ReInit, ExternalInit}
 use Rattle.mls_tree.specs.Tree.{Tree, height, leaf_count, member_count, leaf_at, leaf_entry}
-use Rattle.mls_tree.specs.BlankLeaves.{first_blank_leaf, IsFirstBlank, AllLeavesSet}
-use Rattle.mls_tree.specs.TreeOperations.{blank_tree, extend, add, add_at, added_leaf, grown_for, number_or, is_overfilled_above}
+use Rattle.mls_tree.specs.BlankLeaves.{first_blank_leaf, IsFirstBlank, AllLeavesNonBlank}
+use Rattle.mls_tree.specs.TreeOperations.{blank_tree, extend, add, add_at, added_leaf, extended_if_full, number_or, is_overfilled_above}
 use Rattle.mls_tree.proofs.Trees.{leaf_count-positive}
 use Rattle.mls_tree.proofs.Kept.{leaf_at-extend}
 use Rattle.mls_tree.proofs.FirstBlanks.{first_blank_leaf-leftmost}
 use Rattle.mls_tree.proofs.Added.{leaf_at-add_at, leaf_at-add_at_other}
 use Rattle.mls_tree.proofs.Positions.{node_at-listing, leaf_at-listing}
-use Rattle.mls_check.specs.DistinctKeys.{encryption_key, key_at, IsDistinct, has_key, are_distinct, has_distinct_keys}
+use Rattle.mls_check.specs.DistinctKeys.{encryption_key, encryption_key_at, IsDistinct, has_key, are_distinct, has_distinct_keys}
 use Rattle.mls_check.proofs.Distinctness.{distinct-by_keys}
 use Rattle.mls_apply.specs.declared.list_item.ListItem.{ListItem}
 use Rattle.mls_apply.specs.AppliedList.{AppliedTree, applied_tree, outcome, with_members, new_members, added_to, without_adds, after_leaf, after_adds}
-use Rattle.mls_apply.specs.AddedKeys.{key_of_add, added_key, have_distinct_added_keys, RepeatedAddsRepeatKeys}
+use Rattle.mls_apply.specs.AddedKeys.{key_of_add, added_encryption_key, have_distinct_added_keys, RepeatedAddsRepeatKeys}
 use Rattle.mls_apply.proofs.Leaves.{leaf_inside}
 use Rattle.mls_apply.proofs.SoundOutcomes.{unless, where_so, mapped}
 
@@ -41,10 +41,10 @@ one_key (PreSharedKey _) xs keys e = e
 one_key (ReInit _) xs keys e = e
 one_key (ExternalInit _) xs keys e = e
 
-added_keys_are : (items : List ListItem) → filter_map added_key items ≡ keys_of (new_members items)
+added_keys_are : (items : List ListItem) → filter_map added_encryption_key items ≡ keys_of (new_members items)
 unfolding new_members
 added_keys_are [] = refl
-added_keys_are (x ∷ xs) = one_key x.proposal (new_members xs) (filter_map added_key xs) (added_keys_are xs)
+added_keys_are (x ∷ xs) = one_key x.proposal (new_members xs) (filter_map added_encryption_key xs) (added_keys_are xs)
 
 -- ---- where a member is added
 
@@ -53,8 +53,8 @@ pub record AddedAt (t : Tree) (x : LeafNode) (j : ℕ) (u : Tree) : Type 0 where
   pub there : leaf_at 0 u j ≡ Some x
   pub others : (i : ℕ) → IsSome (leaf_at 0 t i) → (i ≢ j) × (leaf_at 0 u i ≡ leaf_at 0 t i)
 
-added_by : (t : Tree) (x : LeafNode) (o : Option ℕ) → MatchOption o (AllLeavesSet t) (λ j. IsFirstBlank t j)
-    → AddedAt t x (number_or (leaf_count t) o) (add_at (grown_for o t) (number_or (leaf_count t) o) x)
+added_by : (t : Tree) (x : LeafNode) (o : Option ℕ) → MatchOption o (AllLeavesNonBlank t) (λ j. IsFirstBlank t j)
+    → AddedAt t x (number_or (leaf_count t) o) (add_at (extended_if_full o t) (number_or (leaf_count t) o) x)
 added_by t x None h = record {
   there = leaf_at-add_at (extend t) (leaf_count t) x (omega (arith, leaf_count-positive (blank_tree (height t))));
   others = λ i set. (
@@ -79,11 +79,11 @@ pub leaf_stays : (xs : List LeafNode) (t : Tree) (g : AppliedTree) (j : ℕ) (y 
 unfolding after_adds
 leaf_stays [] t g j y e at = subst (λ (v : AppliedTree). leaf_at 0 v.tree j ≡ Some y) (same_Some (applied_tree t []) g e) at
 leaf_stays (x ∷ xs) t g j y e at =
-    let m = mapped (added_leaf t) (after_adds xs (add t x)) g (unless (is_overfilled_above 0 (grown_for (first_blank_leaf 0 t) t) (added_leaf t)) (option_map (after_leaf (added_leaf t)) (after_adds xs (add t x))) g e) in
+    let m = mapped (added_leaf t) (after_adds xs (add t x)) g (unless (is_overfilled_above 0 (extended_if_full (first_blank_leaf 0 t) t) (added_leaf t)) (option_map (after_leaf (added_leaf t)) (after_adds xs (add t x))) g e) in
     subst (λ (v : Tree). leaf_at 0 v j ≡ Some y) m.2 (leaf_stays xs (add t x) m.0 j y m.1 (((added-at t x).others j (ap is_some at)).1 ∙ at))
 
 -- the key of a leaf by its node index
-leaf_key : (t : Tree) (j : ℕ) (y : LeafNode) → leaf_at 0 t j ≡ Some y → key_at t (2 * j) ≡ Some y.encryption_key
+leaf_key : (t : Tree) (j : ℕ) (y : LeafNode) → leaf_at 0 t j ≡ Some y → encryption_key_at t (2 * j) ≡ Some y.encryption_key
 leaf_key t j y at = ap (option_map encryption_key) (node_at-listing t (2 * j) ∙ sym (leaf_at-listing t j) ∙ ap leaf_entry at)
 
 differing : (b : Bool) → (b ≡ true → ⊥) → b ≡ false
@@ -96,7 +96,7 @@ no_key_again : (xs : List LeafNode) (t : Tree) (g : AppliedTree) (j : ℕ) (y : 
 unfolding after_adds
 no_key_again [] t g j y e d at = refl
 no_key_again (x ∷ xs) t g j y e d at =
-    let m = mapped (added_leaf t) (after_adds xs (add t x)) g (unless (is_overfilled_above 0 (grown_for (first_blank_leaf 0 t) t) (added_leaf t)) (option_map (after_leaf (added_leaf t)) (after_adds xs (add t x))) g e) in
+    let m = mapped (added_leaf t) (after_adds xs (add t x)) g (unless (is_overfilled_above 0 (extended_if_full (first_blank_leaf 0 t) t) (added_leaf t)) (option_map (after_leaf (added_leaf t)) (after_adds xs (add t x))) g e) in
     let a = added-at t x in
     let beside = a.others j (ap is_some at) in
     let distinct : IsDistinct m.0.tree = subst (λ (v : Tree). IsDistinct v) (sym m.2) d in
@@ -114,7 +114,7 @@ keys_apart : (xs : List LeafNode) (t : Tree) (g : AppliedTree) → after_adds xs
 unfolding after_adds are_distinct
 keys_apart [] t g e d = refl
 keys_apart (x ∷ xs) t g e d =
-    let m = mapped (added_leaf t) (after_adds xs (add t x)) g (unless (is_overfilled_above 0 (grown_for (first_blank_leaf 0 t) t) (added_leaf t)) (option_map (after_leaf (added_leaf t)) (after_adds xs (add t x))) g e) in
+    let m = mapped (added_leaf t) (after_adds xs (add t x)) g (unless (is_overfilled_above 0 (extended_if_full (first_blank_leaf 0 t) t) (added_leaf t)) (option_map (after_leaf (added_leaf t)) (after_adds xs (add t x))) g e) in
     let distinct : IsDistinct m.0.tree = subst (λ (v : Tree). IsDistinct v) (sym m.2) d in
     ap (λ b. not b && are_distinct (keys_of xs)) (no_key_again xs (add t x) m.0 (added_leaf t) x m.1 distinct (added-at t x).there)
     ∙ keys_apart xs (add t x) m.0 m.1 distinct

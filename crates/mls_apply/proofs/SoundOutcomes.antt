@@ -9,7 +9,7 @@ use Rattle.mls_msgs.specs.declared.proposal.Proposal.{Proposal}
 use Rattle.mls_msgs.specs.declared.proposal.Proposal.TheVariants.{Add, Update, Remove, ContextExtensions, PreSharedKey, ReInit, ExternalInit}
 use Rattle.mls_tree.specs.Tree.{Tree, member_count, leaf_at}
 use Rattle.mls_tree.specs.BlankLeaves.{first_blank_leaf}
-use Rattle.mls_tree.specs.TreeOperations.{update, remove, add, added_leaf, grown_for, is_overfilled_above}
+use Rattle.mls_tree.specs.TreeOperations.{update, remove, add, added_leaf, extended_if_full, is_overfilled_above}
 use Rattle.mls_apply.specs.declared.list_item.ListItem.{ListItem}
 use Rattle.mls_apply.specs.Senders.{member_index}
 use Rattle.mls_apply.specs.AppliedList.{AppliedTree, applied_tree, outcome, with_members, new_members, without_adds, after_leaf, after_adds, updated_at, after_update, after_updates, after_remove, after_removes}
@@ -72,7 +72,7 @@ module _ (H : List ℕ → List ℕ) where
   unfolding after_adds
   adds-sound [] t g e h = subst (λ (v : AppliedTree). IsParentHashValidTree H v.tree) (same_Some (applied_tree t []) g e) h
   adds-sound (x ∷ xs) t g e h =
-      let m = mapped (added_leaf t) (after_adds xs (add t x)) g (unless (is_overfilled_above 0 (grown_for (first_blank_leaf 0 t) t) (added_leaf t)) (option_map (after_leaf (added_leaf t)) (after_adds xs (add t x))) g e) in
+      let m = mapped (added_leaf t) (after_adds xs (add t x)) g (unless (is_overfilled_above 0 (extended_if_full (first_blank_leaf 0 t) t) (added_leaf t)) (option_map (after_leaf (added_leaf t)) (after_adds xs (add t x))) g e) in
       subst (IsParentHashValidTree H) m.2 (adds-sound xs (add t x) m.0 m.1 (sound_add H t x h))
 
   pub outcome-sound : (items : List ListItem) (t : Tree) (g : AppliedTree) → outcome items t ≡ Some g → IsParentHashValidTree H t → IsParentHashValidTree H g.tree

@@ -6,7 +6,7 @@ use Rattle.mls_msgs.specs.declared.proposal.Proposal.TheVariants.{Add, Update, R
 use Rattle.mls_nodes.specs.Limits.{leaf_limit}
 use Rattle.mls_tree.specs.Tree.{Tree}
 use Rattle.mls_tree.specs.BlankLeaves.{first_blank_leaf}
-use Rattle.mls_tree.specs.TreeOperations.{add, added_leaf, grown_for, is_overfilled_above}
+use Rattle.mls_tree.specs.TreeOperations.{add, added_leaf, extended_if_full, is_overfilled_above}
 
 -- `is_add p`: the proposal is an Add.
 abbrev pub is_add : Proposal → Bool
@@ -20,7 +20,7 @@ is_add (ExternalInit _) = false
 
 -- `is_overfull_add t`: an unmerged list would be too long if a member were added.
 abbrev pub is_overfull_add : Tree → Bool
-is_overfull_add t = is_overfilled_above 0 (grown_for (first_blank_leaf 0 t) t) (added_leaf t)
+is_overfull_add t = is_overfilled_above 0 (extended_if_full (first_blank_leaf 0 t) t) (added_leaf t)
 
 -- `Adds old x j new`: `new` is `old` with a member at leaf j.
 pub record Adds (old : Tree) (x : LeafNode) (j : ℕ) (new : Tree) : Type 0 where

@@ -18,13 +18,13 @@ key_of_add (PreSharedKey _) = None
 key_of_add (ReInit _) = None
 key_of_add (ExternalInit _) = None
 
--- `added_key x` is the encryption key of the leaf node of an item, if it is an Add.
-abbrev pub added_key : ListItem → Option (List ℕ)
-added_key x = key_of_add x.proposal
+-- `added_encryption_key x` is the encryption key of the leaf node of an item, if it is an Add.
+abbrev pub added_encryption_key : ListItem → Option (List ℕ)
+added_encryption_key x = key_of_add x.proposal
 
 -- `have_distinct_added_keys items`: no two Adds have one encryption key.
 unfoldable pub have_distinct_added_keys : List ListItem → Bool
-have_distinct_added_keys items = are_distinct (filter_map added_key items)
+have_distinct_added_keys items = are_distinct (filter_map added_encryption_key items)
 
 -- If two Adds of a list have one encryption key, then two nodes of the tree after the list have one.
 abbrev pub RepeatedAddsRepeatKeys : Type 0

@@ -9,7 +9,7 @@ use Rattle.mls_msgs.specs.declared.proposal.Proposal.{Proposal}
 use Rattle.mls_msgs.specs.declared.proposal.Proposal.TheVariants.{Add, Update, Remove, ContextExtensions, PreSharedKey, ReInit, ExternalInit}
 use Rattle.mls_tree.specs.Tree.{Tree, member_count, leaf_at}
 use Rattle.mls_tree.specs.BlankLeaves.{first_blank_leaf}
-use Rattle.mls_tree.specs.TreeOperations.{update, remove, add, added_leaf, grown_for, is_overfilled_above}
+use Rattle.mls_tree.specs.TreeOperations.{update, remove, add, added_leaf, extended_if_full, is_overfilled_above}
 use Rattle.mls_apply.specs.declared.list_item.ListItem.{ListItem}
 use Rattle.mls_apply.specs.Senders.{member_index}
 
@@ -83,7 +83,7 @@ after_leaf j g = applied_tree g.tree (j ∷ g.added)
 unfoldable pub after_adds : List LeafNode → Tree → Option AppliedTree
 after_adds [] t = Some (applied_tree t [])
 after_adds (x ∷ xs) t =
-    if is_overfilled_above 0 (grown_for (first_blank_leaf 0 t) t) (added_leaf t)
+    if is_overfilled_above 0 (extended_if_full (first_blank_leaf 0 t) t) (added_leaf t)
     then None
     else option_map (after_leaf (added_leaf t)) (after_adds xs (add t x))
 

@@ -15,15 +15,15 @@ use Rattle.mls_apply.specs.AppliedList.{AppliedTree, outcome}
 use Rattle.mls_apply.specs.PathRules.{has_first_parent_hash, path_length, copath_resolutions}
 
 -- The proposals of a commit preserve them (RFC 9420, 12.3).
-abbrev pub OutcomesKeepSound : Type 0
-OutcomesKeepSound =
+abbrev pub ProposalsPreserveValidity : Type 0
+ProposalsPreserveValidity =
     (H : List ℕ → List ℕ) (items : List ListItem) (t : Tree) (g : AppliedTree)
     → outcome items t ≡ Some g → IsParentHashValidTree H t → IsParentHashValidTree H g.tree
 
 -- After a path was merged whose leaf has the expected parent hash, each parent of the filtered direct path is
 -- parent-hash valid (RFC 9420, 7.5 and 7.9).
-abbrev pub PathsAreReached : Type 0
-PathsAreReached =
+abbrev pub MergedParentsAreValid : Type 0
+MergedParentsAreValid =
     (H : List ℕ → List ℕ) (t new : Tree) (i : ℕ) (x : LeafNode) (keys : List (List ℕ)) (node_index : ℕ)
     → has_first_parent_hash x.source (expected_hashes H t i keys) ≡ true → merged H t i x keys ≡ Some new
     → Contains (filtered_direct_path (leaf_count t) 0 t i) node_index → IsParentHashValidHere H new node_index
@@ -35,8 +35,8 @@ PathsLeaveOthers =
     → i < leaf_count t → merged H t i x keys ≡ Some new → AgreeOutside t new i
 
 -- Merging such a path preserves them.
-abbrev pub PathsKeepSound : Type 0
-PathsKeepSound =
+abbrev pub PathsPreserveValidity : Type 0
+PathsPreserveValidity =
     (H : List ℕ → List ℕ) (t new : Tree) (i : ℕ) (x : LeafNode) (keys : List (List ℕ))
     → has_first_parent_hash x.source (expected_hashes H t i keys) ≡ true
     → IsParentHashValidTree H t → merged H t i x keys ≡ Some new → IsParentHashValidTree H new
@@ -45,8 +45,8 @@ PathsKeepSound =
 -- `seat`. The standard adds the client as by an Add, and then merges its path. `y` is any leaf node of such an Add.
 
 -- The tree with the seat satisfies them too.
-abbrev pub SeatsKeepSound : Type 0
-SeatsKeepSound = (H : List ℕ → List ℕ) (t : Tree) → IsParentHashValidTree H t → IsParentHashValidTree H (seat t).tree
+abbrev pub SeatsPreserveValidity : Type 0
+SeatsPreserveValidity = (H : List ℕ → List ℕ) (t : Tree) → IsParentHashValidTree H t → IsParentHashValidTree H (seat t).tree
 
 -- The tree after the path is that after an Add and the path.
 abbrev pub JoinsMergeAsAdds : Type 0

@@ -1,5 +1,5 @@
 -- The update path of a commit, in the tree after the proposal list (RFC 9420, 7.5, 7.6 and 7.9).
--- Used by contracts: `refusal_of` and `merged_by`. Internal: `AreNewNodes`.
+-- Used by contracts: `committer_path_refusal` and `merged_by`. Internal: `AreNewNodes`.
 -- H is the hash function, t the tree after the list.
 use Rattle.std.specs.Prelude.{◌≡◌, ◌<◌, ℕ, List, All, map, Option, Some, option_map}
 use Rattle.mls_tree.specs.Tree.{Tree, leaf_count, IsParentNodeIndex}
@@ -12,9 +12,9 @@ use Rattle.mls_apply.specs.declared.committer_path.CommitterPath.{CommitterPath}
 use Rattle.mls_apply.specs.declared.fault.ApplyFault.{ApplyFault}
 use Rattle.mls_apply.specs.declared.new_parents.NewNodes.{NewNodes}
 
--- `refusal_of H t p` is the refusal of the path p, if there is one
-abbrev pub refusal_of : (List ℕ → List ℕ) → Tree → CommitterPath → Option ApplyFault
-refusal_of H t p = path_refusal H (applied_tree t p.added.now) p.leaf p.path.now
+-- `committer_path_refusal H t p` is the refusal of the path p, if there is one
+abbrev pub committer_path_refusal : (List ℕ → List ℕ) → Tree → CommitterPath → Option ApplyFault
+committer_path_refusal H t p = path_refusal H (applied_tree t p.added.now) p.leaf p.path.now
 
 -- `merged_by H t p` is the tree with the path p merged into it, if the path has a key for each of its nodes
 abbrev pub merged_by : (List ℕ → List ℕ) → Tree → CommitterPath → Option Tree

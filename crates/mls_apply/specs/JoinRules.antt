@@ -107,16 +107,16 @@ is_successor old x =
     not (bytes_eq old.encryption_key x.encryption_key)
     && (is_same_credential old.credential x.credential || bytes_eq old.signature_key x.signature_key)
 
--- `is_successor_if_set old x`: the leaf node `x` may replace `old`, if there is one (RFC 9420, 12.4.3.2).
-abbrev pub is_successor_if_set : Option LeafNode → LeafNode → Bool
-is_successor_if_set None x = true
-is_successor_if_set (Some old) x = is_successor old x
+-- `is_successor_if_non_blank old x`: the leaf node `x` may replace `old`, if there is one (RFC 9420, 12.4.3.2).
+abbrev pub is_successor_if_non_blank : Option LeafNode → LeafNode → Bool
+is_successor_if_non_blank None x = true
+is_successor_if_non_blank (Some old) x = is_successor old x
 
 -- `valid_if_resync t x p`: if the proposal is a Remove, `x` may replace the leaf that it removes.
 abbrev pub valid_if_resync : Tree → LeafNode → Proposal → Bool
 valid_if_resync t x (Add _) = true
 valid_if_resync t x (Update _) = true
-valid_if_resync t x (Remove i) = is_successor_if_set (leaf_at 0 t i) x
+valid_if_resync t x (Remove i) = is_successor_if_non_blank (leaf_at 0 t i) x
 valid_if_resync t x (ContextExtensions _) = true
 valid_if_resync t x (PreSharedKey _) = true
 valid_if_resync t x (ReInit _) = true

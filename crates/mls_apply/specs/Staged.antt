@@ -18,15 +18,15 @@ pub record Staged : Type 0 where
   pub indexed : Bool
   pub clean : Bool
 
-abbrev parts : Staged → Tree × (Tree × (Bool × Bool))
-parts s = (s.base, (s.tree, (s.indexed, s.clean)))
+abbrev staged_parts : Staged → Tree × (Tree × (Bool × Bool))
+staged_parts s = (s.base, (s.tree, (s.indexed, s.clean)))
 
-abbrev whole : Tree × (Tree × (Bool × Bool)) → Staged
-whole p = record { base = p.0; tree = p.1.0; indexed = p.1.1.0; clean = p.1.1.1 }
+abbrev staged_of_parts : Tree × (Tree × (Bool × Bool)) → Staged
+staged_of_parts p = record { base = p.0; tree = p.1.0; indexed = p.1.1.0; clean = p.1.1.1 }
 
 abbrev pub staged_coded : Coded Staged
 staged_coded =
-    code_by (Tree × (Tree × (Bool × Bool))) (coded× tree_coded (coded× tree_coded (coded× coded_bool coded_bool))) parts whole (λ _. refl)
+    code_by (Tree × (Tree × (Bool × Bool))) (coded× tree_coded (coded× tree_coded (coded× coded_bool coded_bool))) staged_parts staged_of_parts (λ _. refl)
 
 -- `IsSettled s`: the tree has no changes, and the index is that of the tree.
 pub record IsSettled (s : Staged) : Type 0 where

@@ -31,28 +31,28 @@ abbrev pub is_non_blank_if_some : Tree → Option ℕ → Bool
 is_non_blank_if_some t None = true
 is_non_blank_if_some t (Some i) = is_some (leaf_at 0 t i)
 
--- `updates_set_leaf t sender p`: if the proposal is an Update, its sender is a member whose leaf is non-blank.
-abbrev pub updates_set_leaf : Tree → Sender → Proposal → Bool
-updates_set_leaf t sender (Add _) = true
-updates_set_leaf t sender (Update _) = is_some (sender_leaf t sender)
-updates_set_leaf t sender (Remove _) = true
-updates_set_leaf t sender (ContextExtensions _) = true
-updates_set_leaf t sender (PreSharedKey _) = true
-updates_set_leaf t sender (ReInit _) = true
-updates_set_leaf t sender (ExternalInit _) = true
+-- `updates_non_blank_leaf t sender p`: if the proposal is an Update, its sender is a member whose leaf is non-blank.
+abbrev pub updates_non_blank_leaf : Tree → Sender → Proposal → Bool
+updates_non_blank_leaf t sender (Add _) = true
+updates_non_blank_leaf t sender (Update _) = is_some (sender_leaf t sender)
+updates_non_blank_leaf t sender (Remove _) = true
+updates_non_blank_leaf t sender (ContextExtensions _) = true
+updates_non_blank_leaf t sender (PreSharedKey _) = true
+updates_non_blank_leaf t sender (ReInit _) = true
+updates_non_blank_leaf t sender (ExternalInit _) = true
 
--- `update_set_leaves t items`: `updates_set_leaf` holds of each item.
-abbrev pub update_set_leaves : Tree → List ListItem → Bool
-update_set_leaves t items = list_all (λ x. updates_set_leaf t x.sender x.proposal) items
+-- `update_non_blank_leaves t items`: `updates_non_blank_leaf` holds of each item.
+abbrev pub update_non_blank_leaves : Tree → List ListItem → Bool
+update_non_blank_leaves t items = list_all (λ x. updates_non_blank_leaf t x.sender x.proposal) items
 
--- `concerns_set_leaf t x`: if the item is an Update or a Remove, there is a leaf to which it applies, and the leaf is
--- non-blank.
-abbrev pub concerns_set_leaf : Tree → ListItem → Bool
-concerns_set_leaf t x = updates_set_leaf t x.sender x.proposal && is_non_blank_if_some t (removed_by x)
+-- `targets_non_blank_leaf t x`: if the item is an Update or a Remove, there is a leaf to which it applies, and the leaf
+-- is non-blank.
+abbrev pub targets_non_blank_leaf : Tree → ListItem → Bool
+targets_non_blank_leaf t x = updates_non_blank_leaf t x.sender x.proposal && is_non_blank_if_some t (removed_by x)
 
--- `concern_set_leaves t items`: `concerns_set_leaf` holds of each item.
-abbrev pub concern_set_leaves : Tree → List ListItem → Bool
-concern_set_leaves t items = list_all (concerns_set_leaf t) items
+-- `target_non_blank_leaves t items`: `targets_non_blank_leaf` holds of each item.
+abbrev pub target_non_blank_leaves : Tree → List ListItem → Bool
+target_non_blank_leaves t items = list_all (targets_non_blank_leaf t) items
 
 -- `map_to_non_blank f t items`: each leaf to which `f` maps an item is non-blank.
 abbrev pub map_to_non_blank : (ListItem → Option ℕ) → Tree → List ListItem → Bool

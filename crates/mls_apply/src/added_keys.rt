@@ -1,7 +1,7 @@
 //! The encryption keys of the Adds of a proposal list (RFC 9420, 12.1.1).
 
 ghost use Rattle.std.specs.Prelude.{◌≡◌, IfOk, option_map};
-ghost use Rattle.mls_apply.specs.AddedKeys.{added_key, have_distinct_added_keys};
+ghost use Rattle.mls_apply.specs.AddedKeys.{added_encryption_key, have_distinct_added_keys};
 
 use crate::list_item::ListItem;
 use mls_msgs::Proposal;
@@ -9,8 +9,8 @@ use std::alloc::{AllocError, Global};
 use std::collections::BTreeSet;
 
 /// The encryption key of the leaf node of an item, if it is an Add.
-fn added_key<'a>(item: &ListItem<'a>) -> Option<&'a [u8]>
-    ensures { option_map (λ k. k.now) result ≡ added_key item.now }
+fn added_encryption_key<'a>(item: &ListItem<'a>) -> Option<&'a [u8]>
+    ensures { option_map (λ k. k.now) result ≡ added_encryption_key item.now }
 {
     match item.proposal {
         Proposal::Add(key_package) => Some(key_package.leaf_node.encryption_key.as_slice()),
@@ -29,7 +29,7 @@ pub fn have_distinct_added_keys(alloc: Global, items: &[ListItem<'_>]) -> Result
 {
     let mut met: BTreeSet<&[u8]> = BTreeSet::new(alloc);
     for item in items {
-        if let Some(key) = added_key(item) {
+        if let Some(key) = added_encryption_key(item) {
             if !met.insert(key)? {
                 return Ok(false);
             }

@@ -3,8 +3,8 @@
 ghost use Rattle.std.specs.Prelude.{◌≡◌, ◌+◌, ◌<◌, ◌≤◌, ◌⊎◌, true, false, None, Some, IsSome, Err, IfOk, IfErr, OnOk, length};
 ghost use Rattle.mls_nodes.specs.Limits.{leaf_limit};
 ghost use Rattle.mls_tree.specs.Tree.{leaf_count, member_count};
-ghost use Rattle.mls_tree.specs.BlankLeaves.{first_blank_leaf, AreSetBelow};
-ghost use Rattle.mls_tree.specs.TreeOperations.{added_leaf, grown_for, add_unmerged, is_overfilled_above};
+ghost use Rattle.mls_tree.specs.BlankLeaves.{first_blank_leaf, AreNonBlankBelow};
+ghost use Rattle.mls_tree.specs.TreeOperations.{added_leaf, extended_if_full, add_unmerged, is_overfilled_above};
 ghost use Rattle.mls_tree.specs.Journals.{before};
 ghost use Rattle.mls_apply.specs.AppliedList.{after_adds, applied_tree, new_members};
 ghost use Rattle.mls_apply.specs.AddSteps.{is_overfull_add, Adds};
@@ -26,12 +26,12 @@ pub(crate) fn leaf_for_member(
     journal: &mut Journal,
     start: u32,
 ) -> Result<u32, ApplyFault>
-    requires set { AreSetBelow tree.old.tree start }
+    requires set { AreNonBlankBelow tree.old.tree start }
     requires capacity { member_count tree.old.tree < leaf_limit }
     ensures index { IfOk result (λ j. j ≡ added_leaf tree.old.tree) }
     ensures inside { IfOk result (λ j. j < leaf_count tree.new.tree) }
     ensures tree { OnOk result
-        (tree.new.tree ≡ grown_for (first_blank_leaf 0 tree.old.tree) tree.old.tree) }
+        (tree.new.tree ≡ extended_if_full (first_blank_leaf 0 tree.old.tree) tree.old.tree) }
     ensures memory { IfErr result (λ e. e ≡ ApplyFault.OutOfMemory) }
     ensures before { before journal.new tree.new.tree ≡ before journal.old tree.old.tree }
 {
@@ -78,7 +78,7 @@ fn add_member(
     start: u32,
     leaf: &LeafNode,
 ) -> Result<u32, ApplyFault>
-    requires set { AreSetBelow tree.old.tree start }
+    requires set { AreNonBlankBelow tree.old.tree start }
     requires capacity { member_count tree.old.tree < leaf_limit }
     ensures added { IfOk result (λ j. Adds tree.old.tree leaf.now j tree.new.tree) }
     ensures too_many_leaves { result ≡ Err ApplyFault.TooManyLeaves

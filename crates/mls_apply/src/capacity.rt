@@ -10,7 +10,7 @@ ghost use Rattle.mls_tree.specs.Tree.{member_count};
 ghost use Rattle.mls_apply.specs.AddSteps.{is_add};
 ghost use Rattle.mls_apply.specs.ListRules.{maps_to, maps_once};
 ghost use Rattle.mls_apply.specs.AppliedList.{new_members, ExceedsCapacity};
-ghost use Rattle.mls_apply.specs.TargetLeaves.{removed_by, removed_leaves, removed_in, is_non_blank_if_some, updates_set_leaf, concern_set_leaves};
+ghost use Rattle.mls_apply.specs.TargetLeaves.{removed_by, removed_leaves, removed_in, is_non_blank_if_some, updates_non_blank_leaf, target_non_blank_leaves};
 
 use crate::list_item::ListItem;
 use crate::list_rules::removed_leaf;
@@ -81,7 +81,7 @@ fn exceeds_member_limit(tree: &PublicTree, items: &[ListItem<'_>]) -> bool
 }
 
 /// Whether the leaf that an item removes is set in a tree, if there is one.
-fn is_removed_set(tree: &PublicTree, item: &ListItem<'_>) -> bool
+fn is_removed_non_blank(tree: &PublicTree, item: &ListItem<'_>) -> bool
     ensures { result ≡ is_non_blank_if_some tree.now.tree (removed_by item.now) }
 {
     match removed_leaf(item) {
@@ -91,8 +91,8 @@ fn is_removed_set(tree: &PublicTree, item: &ListItem<'_>) -> bool
 }
 
 /// Whether the sender of an item is a member whose leaf is non-blank in a tree, if the item is an Update.
-fn updates_set_leaf(tree: &PublicTree, item: &ListItem<'_>) -> bool
-    ensures { result ≡ updates_set_leaf tree.now.tree item.now.sender item.now.proposal }
+fn updates_non_blank_leaf(tree: &PublicTree, item: &ListItem<'_>) -> bool
+    ensures { result ≡ updates_non_blank_leaf tree.now.tree item.now.sender item.now.proposal }
 {
     match item.proposal {
         Proposal::Add(_) => true,
@@ -106,10 +106,10 @@ fn updates_set_leaf(tree: &PublicTree, item: &ListItem<'_>) -> bool
 }
 
 /// Whether the leaf of each Update and of each Remove is set in a tree.
-fn are_set(tree: &PublicTree, items: &[ListItem<'_>]) -> bool
-    ensures { result ≡ concern_set_leaves tree.now.tree items.now }
+fn are_targets_non_blank(tree: &PublicTree, items: &[ListItem<'_>]) -> bool
+    ensures { result ≡ target_non_blank_leaves tree.now.tree items.now }
 {
-    items.iter().all(|item| updates_set_leaf(tree, item) && is_removed_set(tree, item))
+    items.iter().all(|item| updates_non_blank_leaf(tree, item) && is_removed_non_blank(tree, item))
 }
 
 /// The number that the leaf which an item removes has in the window from `first` on, if it is one of its leaves.
@@ -160,7 +160,7 @@ pub(crate) fn exceeds_capacity(tree: &PublicTree, items: &[ListItem<'_>]) -> boo
     if !exceeds_member_limit(tree, items) {
         return false;
     }
-    if !are_set(tree, items) {
+    if !are_targets_non_blank(tree, items) {
         return false;
     }
     is_removed_once(items)

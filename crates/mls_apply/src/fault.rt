@@ -18,7 +18,7 @@ pub enum ApplyFault {
     #[error("an updated leaf is not valid")]
     UpdateInvalid,
     /// Refusal 11: the leaf of a Remove is blank (RFC 9420, 12.1.3).
-    #[error("a removed leaf is not set")]
+    #[error("a removed leaf is blank")]
     RemoveInvalid,
     /// Refusal 13: a commit has a reference that no pending proposal has (RFC 9420, 12.4).
     #[error("a proposal is not known")]
@@ -30,7 +30,7 @@ pub enum ApplyFault {
     #[error("the committer is removed")]
     RemovesCommitter,
     /// Refusal 16: two Updates or Removes of the proposal list apply to one leaf (RFC 9420, 12.2).
-    #[error("two proposals concern one leaf")]
+    #[error("two Update or Remove proposals apply to one leaf")]
     SameLeafTwice,
     /// Refusal 17: a commit has no path, and its list is empty or has an Update, a Remove, a GroupContextExtensions or an
     /// ExternalInit (RFC 9420, 12.4 and 17.4).
@@ -57,15 +57,15 @@ pub enum ApplyFault {
     #[error("the parent hash of a path's leaf is not the one expected")]
     PathParentHash,
     /// Refusal 26: the proposal list has two GroupContextExtensions proposals (RFC 9420, 12.2).
-    #[error("two proposals bring extensions to the context")]
+    #[error("the proposal list has two GroupContextExtensions proposals")]
     TwoContextExtensions,
     /// Refusal 27: the required capabilities of a GroupContextExtensions proposal cannot be read (RFC 9420, 11.1 and
     /// 12.1.7).
-    #[error("the extensions brought to the context can't be read")]
+    #[error("the required capabilities of a GroupContextExtensions proposal can't be read")]
     ContextExtensionsInvalid,
     /// Refusal 31: the nonce of a PreSharedKey proposal has not the length of the suite's hash; or its usage is reinit or
     /// branch, and the epoch is not 0 or the sender no member (RFC 9420, 12.1.4).
-    #[error("an injected key is not valid")]
+    #[error("a PreSharedKey proposal is not valid")]
     PskInvalid,
     /// Refusal 32: the version of a ReInit is less than the group's (RFC 9420, 12.1.5).
     #[error("a reinitialization is to an earlier version")]
@@ -74,7 +74,7 @@ pub enum ApplyFault {
     #[error("an external init is outside an external commit")]
     ExternalInitMisplaced,
     /// Refusal 34: two PreSharedKey proposals of the list have equal PreSharedKeyIDs, nonce and all (RFC 9420, 12.2).
-    #[error("one key is injected twice")]
+    #[error("two PreSharedKey proposals have one PreSharedKeyID")]
     PskTwice,
     /// Refusal 35: the list has a ReInit and another proposal (RFC 9420, 12.2).
     #[error("a reinitialization is not alone")]

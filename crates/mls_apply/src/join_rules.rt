@@ -3,7 +3,7 @@
 ghost use Rattle.std.specs.Prelude.{◌≡◌, ◌≢◌, ◌↔◌, Some, None, Err, IfOk, IfErr, OnOk, option_copied};
 ghost use Rattle.std.specs.List.{list_all};
 ghost use Rattle.mls_msgs.specs.declared.framed_content.Sender.TheVariants.{NewMemberCommit};
-ghost use Rattle.mls_apply.specs.JoinRules.{all_items, are_same_certificates, is_external_init, is_join_list, is_join_proposal, is_remove, is_same_credential, is_successor, is_successor_if_set, is_value, join_items, join_refusal, valid_if_resync, value_count};
+ghost use Rattle.mls_apply.specs.JoinRules.{all_items, are_same_certificates, is_external_init, is_join_list, is_join_proposal, is_remove, is_same_credential, is_successor, is_successor_if_non_blank, is_value, join_items, join_refusal, valid_if_resync, value_count};
 ghost use Rattle.mls_apply.specs.ProposalRules.{valid_if_psk, valid_if_remove};
 
 use crate::fault::ApplyFault;
@@ -287,8 +287,8 @@ fn is_successor(old: &LeafNode, leaf: &LeafNode) -> bool
 }
 
 /// Returns whether a leaf node may replace a removed one, if that is non-blank.
-fn is_successor_if_set(old: Option<&LeafNode>, leaf: &LeafNode) -> bool
-    ensures { result ≡ is_successor_if_set (option_copied old.entry) leaf.now }
+fn is_successor_if_non_blank(old: Option<&LeafNode>, leaf: &LeafNode) -> bool
+    ensures { result ≡ is_successor_if_non_blank (option_copied old.entry) leaf.now }
 {
     match old {
         Some(old) => is_successor(old, leaf),
@@ -303,7 +303,7 @@ fn is_valid_if_resync(tree: &PublicTree, leaf: &LeafNode, proposal: &Proposal) -
     match proposal {
         Proposal::Add(_) => true,
         Proposal::Update(_) => true,
-        Proposal::Remove(index) => is_successor_if_set(tree.leaf(*index), leaf),
+        Proposal::Remove(index) => is_successor_if_non_blank(tree.leaf(*index), leaf),
         Proposal::ContextExtensions(_) => true,
         Proposal::PreSharedKey(_) => true,
         Proposal::ReInit(_) => true,

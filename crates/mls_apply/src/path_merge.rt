@@ -11,7 +11,7 @@ ghost use Rattle.mls_apply.specs.PathRules.{has_first_parent_hash, keys_refusal,
 ghost use Rattle.mls_apply.specs.ProposalRules.{is_from_commit};
 ghost use Rattle.mls_apply.specs.PathParents.{carried};
 ghost use Rattle.mls_apply.specs.PathModel.{hash_refusal, path_parents_model};
-ghost use Rattle.mls_apply.specs.CommitterPath.{refusal_of, AreNewNodes};
+ghost use Rattle.mls_apply.specs.CommitterPath.{committer_path_refusal, AreNewNodes};
 
 use crate::committer_path::CommitterPath;
 use crate::fault::ApplyFault;
@@ -156,10 +156,10 @@ fn checked_node_indices(
     ensures paired { IfOk result (λ node_indices. length path.now.path.now.nodes ≡ length node_indices.items) }
     ensures inside { OnOk result (path.now.leaf < leaf_count tree.now.tree) }
     ensures rules_hold { OnOk result ((H : List ℕ → List ℕ)
-        → refusal_of H tree.now.tree path.now
+        → committer_path_refusal H tree.now.tree path.now
         ≡ hash_refusal H path.now.path.now tree.now.tree path.now.leaf) }
     ensures refused { IfErr result (λ e. e ≢ ApplyFault.OutOfMemory → (H : List ℕ → List ℕ)
-        → refusal_of H tree.now.tree path.now ≡ Some e) }
+        → committer_path_refusal H tree.now.tree path.now ≡ Some e) }
     ensures outside { (result ≡ Err ApplyFault.NoSuchLeaf)
         ↔ (leaf_count tree.now.tree ≤ path.now.leaf) }
 {
@@ -240,9 +240,9 @@ pub(crate) fn filled_nodes(
     requires { ContainsKeysOf tree.old.tree index.now }
     ensures tree { tree.new.tree ≡ tree.old.tree }
     ensures made { IfOk result (AreNewNodes (hash_of suite) tree.old.tree path.now) }
-    ensures rules_hold { OnOk result (refusal_of (hash_of suite) tree.old.tree path.now ≡ None) }
+    ensures rules_hold { OnOk result (committer_path_refusal (hash_of suite) tree.old.tree path.now ≡ None) }
     ensures refused { IfErr result (λ e. e ≢ ApplyFault.OutOfMemory
-        → refusal_of (hash_of suite) tree.old.tree path.now ≡ Some e) }
+        → committer_path_refusal (hash_of suite) tree.old.tree path.now ≡ Some e) }
     ensures outside { (result ≡ Err ApplyFault.NoSuchLeaf)
         ↔ (leaf_count tree.old.tree ≤ path.now.leaf) }
 {

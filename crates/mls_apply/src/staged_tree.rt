@@ -14,7 +14,7 @@ ghost use Rattle.mls_tree.specs.TreeHash.{tree_hash};
 ghost use Rattle.mls_index.specs.TreeIndex.{ContainsKeysOf, HasBase};
 ghost use Rattle.mls_apply.specs.AppliedList.{applied_tree, outcome, without_adds, ExceedsCapacity};
 ghost use Rattle.mls_apply.specs.Outline.{IsOutline};
-ghost use Rattle.mls_apply.specs.CommitterPath.{merged_by, refusal_of};
+ghost use Rattle.mls_apply.specs.CommitterPath.{merged_by, committer_path_refusal};
 ghost use Rattle.mls_check.specs.DistinctKeys.{has_distinct_keys};
 ghost use Rattle.mls_check.specs.LeafValidation.{FindsFailing, IsMemberFault, LeavesAreValid, all_leaves, has_unique_signature_key, supports_required, supports_used_credentials};
 ghost use Rattle.mls_index.specs.FirstChanged.{leaf_rule};
@@ -202,9 +202,9 @@ impl StagedTree {
     ) -> Result<(), ApplyFault>
         ensures merged { OnOk result
             (merged_by (hash_of suite) self.old.tree path.now ≡ Some self.new.tree) }
-        ensures rules_hold { OnOk result (refusal_of (hash_of suite) self.old.tree path.now ≡ None) }
+        ensures rules_hold { OnOk result (committer_path_refusal (hash_of suite) self.old.tree path.now ≡ None) }
         ensures refused { IfErr result (λ e. e ≢ ApplyFault.OutOfMemory
-            → refusal_of (hash_of suite) self.old.tree path.now ≡ Some e) }
+            → committer_path_refusal (hash_of suite) self.old.tree path.now ≡ Some e) }
         ensures unchanged { IfErr result
             (λ e. e ≢ ApplyFault.OutOfMemory → self.new.tree ≡ self.old.tree) }
         ensures base { self.new.base ≡ self.old.base }

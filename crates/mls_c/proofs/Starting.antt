@@ -17,7 +17,7 @@ use Rattle.mls_report.specs.declared.read_inputs.StartFailure.TheVariants.{Found
 use Rattle.mls_report.proofs.StartsOnce.{one_tree}
 use Rattle.mls_c.specs.Queries.{query_records}
 use Rattle.mls_c.specs.Starts.{passed}
-use Rattle.mls_c.specs.StartSteps.{IsStartQuery, ListsStart, ListsFrom, FailsStart, Declines}
+use Rattle.mls_c.specs.StartSteps.{IsStartQuery, ListsStart, ListsFrom, FailsStart, DeclinesPassed}
 
 -- the records by the tree in the GroupInfo
 pub records-own : (G : VerifyFn) (info : GroupInfo) (h : RatchetTree) (records : List ℕ) → UsesTree None info.extensions h
@@ -50,15 +50,15 @@ module _ (info_bytes tree_bytes : List ℕ) (info : GroupInfo) (supplied : Optio
   }
 
 module _ (profile : Profile) (info_bytes tree_bytes : List ℕ) (info : GroupInfo) (supplied : Option RatchetTree) (is_read : IsReadAs profile info_bytes (passed tree_bytes) info supplied) where
-  declines : (G : VerifyFn) (finding : Finding) → FailsStart G info supplied finding → Declines profile G info_bytes tree_bytes finding
+  declines : (G : VerifyFn) (finding : Finding) → FailsStart G info supplied finding → DeclinesPassed profile G info_bytes tree_bytes finding
   declines G finding f =
-      subst (Declines profile G info_bytes tree_bytes) (sym f.finding_is) (record { found = (info, supplied, is_read, f.own, f.fails); verdict = refl })
+      subst (DeclinesPassed profile G info_bytes tree_bytes) (sym f.finding_is) (record { found = (info, supplied, is_read, f.not_out_of_memory, f.fails); verdict = refl })
 
-  pub says-declines : (G : VerifyFn) (failure : StartFailure) → Says (FailsStart G info supplied) failure → Says (Declines profile G info_bytes tree_bytes) failure
+  pub says-declines : (G : VerifyFn) (failure : StartFailure) → Says (FailsStart G info supplied) failure → Says (DeclinesPassed profile G info_bytes tree_bytes) failure
   says-declines G (Found finding) f = declines G finding f
   says-declines G (Fault e) f = f
 
 pub says-unread : (profile : Profile) (G : VerifyFn) (info_bytes tree_bytes : List ℕ) (failure : StartFailure) → Says (IsUnread profile info_bytes (passed tree_bytes)) failure
-    → Says (Declines profile G info_bytes tree_bytes) failure
+    → Says (DeclinesPassed profile G info_bytes tree_bytes) failure
 says-unread profile G info_bytes tree_bytes (Found finding) u = record { found = u.found G; verdict = u.verdict }
 says-unread profile G info_bytes tree_bytes (Fault e) u = u

@@ -13,11 +13,11 @@ use Rattle.mls_c.specs.Followers.{state_in, meaning_in}
 use Rattle.mls_c.specs.Numbers.{verdict_of, plain_verdict}
 use Rattle.mls_c.specs.Queries.{query_records}
 use Rattle.mls_c.specs.Starts.{passed, RunsOut, QueriesStart, RefusesStart, Starts, Resumes}
-use Rattle.mls_c.specs.StartSteps.{Declines, ListsFrom, PutsInProfile}
+use Rattle.mls_c.specs.StartSteps.{DeclinesPassed, ListsFrom, PutsInProfile}
 use Rattle.mls_c.specs.declared.group_follower.GroupFollower.{GroupFollower}
 use Rattle.mls_c.specs.declared.input_verdict.InputVerdict.{InputVerdict}
 
-pub refuses-start : (profile : Profile) (G : VerifyFn) (info tree : List ℕ) (v : InputVerdict) (finding : Finding) → Declines profile G info tree finding → v ≡ verdict_of finding → RefusesStart profile G info tree v
+pub refuses-start : (profile : Profile) (G : VerifyFn) (info tree : List ℕ) (v : InputVerdict) (finding : Finding) → DeclinesPassed profile G info tree finding → v ≡ verdict_of finding → RefusesStart profile G info tree v
 refuses-start profile G info tree v finding d is = record { finding = finding; found = d.found; refused = d.verdict; verdict_is = is }
 
 pub queries-lists : (G : VerifyFn) (info tree old new : List ℕ) (needed : ℕ) (v : InputVerdict) (records : List ℕ) (number : ℕ) → ListsFrom G info tree records

@@ -28,15 +28,15 @@ Moves (Some f) new P = (g : GroupFollower) × (new ≡ Some g) × P f g
 
 -- ---- a query
 
--- `Queries f message old new needed number`: the records of the signatures of the message that are not known to be good
--- were put into the buffer; or the bytes are no message, with the number of that refusal.
-pub data Queries (f : GroupFollower) (message old new : List ℕ) (needed number : ℕ) : Type 0 where
-  runs_out : number ≡ out_of_memory → new ≡ old → needed ≡ 0 → Queries f message old new needed number
+-- `PutsQuery f message old new needed number`: the records of the signatures of the message that are not known to be
+-- good were put into the buffer; or the bytes are no message, with the number of that refusal.
+pub data PutsQuery (f : GroupFollower) (message old new : List ℕ) (needed number : ℕ) : Type 0 where
+  runs_out : number ≡ out_of_memory → new ≡ old → needed ≡ 0 → PutsQuery f message old new needed number
   malformed : EncodesNoMessage (state_in f).profile message → number ≡ 1 → new ≡ old → needed ≡ 0
-      → Queries f message old new needed number
+      → PutsQuery f message old new needed number
   lists : (signatures : List SignatureToVerify) → AreSignaturesOf (state_in f) message signatures
       → IsPut (query_records (meaning_in f) signatures) old new needed number
-      → Queries f message old new needed number
+      → PutsQuery f message old new needed number
 
 -- ---- learning
 
@@ -63,9 +63,9 @@ put_reference (Ok (Proposal reference)) old = put reference old
 put_reference (Ok (Commit epoch)) old = old
 put_reference (Err e) old = old
 
--- `Answers f g message answer`: the follower processed the message with this result (`Follower::take`). Bytes that are too
--- long or have no header of a message, and messages that are not read, are refused even without memory.
-pub record Answers (f g : GroupFollower) (message : List ℕ) (answer : Result Taken Refusal) : Type 0 where
+-- `ProcessesMessage f g message answer`: the follower processed the message with this result (`Follower::take`). Bytes
+-- that are too long or have no header of a message, and messages that are not read, are refused even without memory.
+pub record ProcessesMessage (f g : GroupFollower) (message : List ℕ) (answer : Result Taken Refusal) : Type 0 where
   pub takes : IsTransition (meaning_in f) (state_in f) message answer (state_in g)
   pub meaning : meaning_in g ≡ meaning_in f
   pub limit : input_limit < length message → answer ≡ Err refusals.Malformed
@@ -77,14 +77,14 @@ pub record Answers (f g : GroupFollower) (message : List ℕ) (answer : Result T
 pub data Judges (f g : GroupFollower) (message old new : List ℕ) (j : Judgement) : Type 0 where
   too_small : length old < reference_size → j ≡ not_judged buffer_too_small → g ≡ f → new ≡ old
       → Judges f g message old new j
-  judges : (answer : Result Taken Refusal) → reference_size ≤ length old → Answers f g message answer
+  judges : (answer : Result Taken Refusal) → reference_size ≤ length old → ProcessesMessage f g message answer
       → j ≡ judgement_of answer → new ≡ put_reference answer old → Judges f g message old new j
 
 -- ---- the state
 
--- `Stores f old new needed number`: the file of the state was put into the buffer, or the state has none.
-pub data Stores (f : GroupFollower) (old new : List ℕ) (needed number : ℕ) : Type 0 where
-  runs_out : number ≡ out_of_memory → new ≡ old → needed ≡ 0 → Stores f old new needed number
-  over : HasNoFile (state_in f) → number ≡ too_long → new ≡ old → needed ≡ 0 → Stores f old new needed number
+-- `PutsStateFile f old new needed number`: the file of the state was put into the buffer, or the state has none.
+pub data PutsStateFile (f : GroupFollower) (old new : List ℕ) (needed number : ℕ) : Type 0 where
+  runs_out : number ≡ out_of_memory → new ≡ old → needed ≡ 0 → PutsStateFile f old new needed number
+  over : HasNoFile (state_in f) → number ≡ too_long → new ≡ old → needed ≡ 0 → PutsStateFile f old new needed number
   stores : (bytes : List ℕ) → EncodesState (state_in f) bytes → IsPut bytes old new needed number
-      → Stores f old new needed number
+      → PutsStateFile f old new needed number

@@ -83,9 +83,9 @@ members_profile = 1
 abbrev pub full_profile : ℕ
 full_profile = 2
 
--- `profile_of number` is the profile with this number.
-abbrev pub profile_of : ℕ → Option Profile
-profile_of number =
+-- `profile_with_number number` is the profile with this number.
+abbrev pub profile_with_number : ℕ → Option Profile
+profile_with_number number =
     if number == members_profile then Some Members
     else (if number == full_profile then Some Full else None)
 
@@ -133,19 +133,19 @@ tree_verdict number (trees.KeyRepeated place) = verdict number 4 place
 tree_verdict number (trees.ParentHashInvalid place) = verdict number 5 place
 tree_verdict number trees.OutOfMemory = plain_verdict out_of_memory
 
--- `leaf_of fault` is the leaf index of a fault of a leaf node.
-abbrev pub leaf_of : MemberFault → ℕ
-leaf_of (members.ExtensionUnlisted leaf) = leaf
-leaf_of (members.RequirementUnmet leaf) = leaf
-leaf_of (members.CredentialUnsupported leaf) = leaf
-leaf_of (members.SignatureKeyRepeated leaf) = leaf
-leaf_of (members.LeafSignature leaf) = leaf
-leaf_of members.OutOfMemory = 0
+-- `member_fault_leaf fault` is the leaf index of a fault of a leaf node.
+abbrev pub member_fault_leaf : MemberFault → ℕ
+member_fault_leaf (members.ExtensionUnlisted leaf) = leaf
+member_fault_leaf (members.RequirementUnmet leaf) = leaf
+member_fault_leaf (members.CredentialUnsupported leaf) = leaf
+member_fault_leaf (members.SignatureKeyRepeated leaf) = leaf
+member_fault_leaf (members.LeafSignature leaf) = leaf
+member_fault_leaf members.OutOfMemory = 0
 
 -- `member_verdict number fault` is the verdict of a leaf node that is not valid: what is wrong, and the leaf index.
 abbrev pub member_verdict : ℕ → MemberFault → InputVerdict
 member_verdict number members.OutOfMemory = plain_verdict out_of_memory
-member_verdict number fault = verdict number (member_number fault) (leaf_of fault)
+member_verdict number fault = verdict number (member_number fault) (member_fault_leaf fault)
 
 -- `start_verdict fault` is the verdict of a start that is refused.
 abbrev pub start_verdict : StartFault → InputVerdict
@@ -195,7 +195,7 @@ not_judged number = record { number = number; kind = 0; inner = 0; leaf = 0; epo
 -- leaf index.
 abbrev pub leaf_judgement : MemberFault → Judgement
 leaf_judgement fault =
-    record { number = 25; kind = 0; inner = member_number fault; leaf = leaf_of fault; epoch = 0 }
+    record { number = 25; kind = 0; inner = member_number fault; leaf = member_fault_leaf fault; epoch = 0 }
 
 -- `refused_judgement e` is the answer to a message that is refused, by the number of the rule.
 abbrev pub refused_judgement : Refusal → Judgement

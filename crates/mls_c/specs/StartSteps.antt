@@ -29,13 +29,13 @@ use Rattle.mls_c.specs.Starts.{passed, RunsOut, CanStartFrom}
 pub record FailsStart (G : VerifyFn) (info : GroupInfo) (supplied : Option RatchetTree) (finding : Finding)
     : Type 0 where
   pub fault : StartFault
-  pub own : fault ≢ starts.OutOfMemory
+  pub not_out_of_memory : fault ≢ starts.OutOfMemory
   pub fails : IsStartFault G info supplied fault
   pub finding_is : finding ≡ StartRefused fault
 
--- `Declines profile G info_bytes tree_bytes finding`: no follower with this profile starts from these bytes, and this is the
--- finding.
-pub record Declines (profile : Profile) (G : VerifyFn) (info_bytes tree_bytes : List ℕ) (finding : Finding)
+-- `DeclinesPassed profile G info_bytes tree_bytes finding`: no follower with this profile starts from these bytes, and
+-- this is the finding.
+pub record DeclinesPassed (profile : Profile) (G : VerifyFn) (info_bytes tree_bytes : List ℕ) (finding : Finding)
     : Type 0 where
   pub found : IsStartFinding profile G info_bytes (passed tree_bytes) finding
   pub verdict : finding_verdict finding ≡ No

@@ -43,12 +43,12 @@ PutsFinding (findings.TreeValid tree_hash) old new needed v =
     IsPut tree_hash old new needed v.number × (v ≡ plain_verdict v.number)
 PutsFinding finding old new needed v = (v ≡ verdict_of finding) × (new ≡ old) × (needed ≡ 0)
 
--- `Finds G context tree old new needed v`: the verdict is that of what is found of a GroupContext and its tree
--- (`mls_report`). If the tree is valid, its tree hash was put into the buffer.
-pub data Finds (G : VerifyFn) (context tree old new : List ℕ) (needed : ℕ) (v : InputVerdict) : Type 0 where
-  runs_out : RunsOut v → new ≡ old → needed ≡ 0 → Finds G context tree old new needed v
+-- `PutsTreeFinding G context tree old new needed v`: the verdict is that of what is found of a GroupContext and its
+-- tree (`mls_report`). If the tree is valid, its tree hash was put into the buffer.
+pub data PutsTreeFinding (G : VerifyFn) (context tree old new : List ℕ) (needed : ℕ) (v : InputVerdict) : Type 0 where
+  runs_out : RunsOut v → new ≡ old → needed ≡ 0 → PutsTreeFinding G context tree old new needed v
   finds : (finding : Finding) → IsTreeFinding G context tree finding → PutsFinding finding old new needed v
-      → Finds G context tree old new needed v
+      → PutsTreeFinding G context tree old new needed v
 
 -- ---- a start
 

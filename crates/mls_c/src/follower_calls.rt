@@ -3,7 +3,7 @@
 ghost use Rattle.std.specs.Prelude.{◌≡◌};
 ghost use Rattle.mls_c.specs.Followers.{state_in, meaning_in};
 ghost use Rattle.mls_c.specs.Messages as messages;
-ghost use Rattle.mls_c.specs.Messages.{Queries, Learns, Judges, Stores};
+ghost use Rattle.mls_c.specs.Messages.{PutsQuery, Learns, Judges, PutsStateFile};
 
 use crate::buffer::{put, put_sized};
 use crate::group_follower::GroupFollower;
@@ -40,7 +40,7 @@ impl GroupFollower {
         buffer: &mut [u8],
         needed: &mut usize,
     ) -> u32
-        ensures queries { Queries self.old message.now buffer.old buffer.new needed.new result }
+        ensures queries { PutsQuery self.old message.now buffer.old buffer.new needed.new result }
         ensures state { state_in self.new ≡ state_in self.old }
         ensures meaning { meaning_in self.new ≡ meaning_in self.old }
     {
@@ -85,7 +85,7 @@ impl GroupFollower {
 
     /// Puts the file of the state into a buffer. Returns 0 or why not.
     pub(crate) fn store(&self, buffer: &mut [u8], needed: &mut usize) -> u32
-        ensures { Stores self.now buffer.old buffer.new needed.new result }
+        ensures { PutsStateFile self.now buffer.old buffer.new needed.new result }
     {
         *needed = 0;
         match self.follower.encode_state() {

@@ -5,7 +5,7 @@ ghost use Rattle.mls_tree.specs.Tree.{member_count};
 ghost use Rattle.mls_report.specs.Replay.{one_if};
 ghost use Rattle.mls_c.specs.Buffers.{IsPut};
 ghost use Rattle.mls_c.specs.Followers.{state_in, meaning_in};
-ghost use Rattle.mls_c.specs.Messages.{Moves, Queries, Learns, Judges, Stores};
+ghost use Rattle.mls_c.specs.Messages.{Moves, PutsQuery, Learns, Judges, PutsStateFile};
 ghost use Rattle.mls_c.specs.Numbers as numbers;
 ghost use Rattle.mls_c.specs.Numbers.{no_follower};
 
@@ -144,7 +144,7 @@ pub extern "C" fn mls_follower_query(
     ensures none { follower.old.value ≡ None → (result ≡ no_follower)
         × (records.new ≡ records.old) × (needed.new ≡ 0) }
     ensures queries { Moves follower.old.value follower.new.value (λ f g.
-        Queries f message.now records.old records.new needed.new result
+        PutsQuery f message.now records.old records.new needed.new result
         × (state_in g ≡ state_in f) × (meaning_in g ≡ meaning_in f)) }
 {
     *needed = 0;
@@ -207,7 +207,7 @@ pub extern "C" fn mls_follower_state(
 ) -> u32
     ensures none { follower.old.value ≡ None → (result ≡ no_follower)
         × (state.new ≡ state.old) × (needed.new ≡ 0) }
-    ensures stores { IfSome follower.old.value (λ f. Stores f state.old state.new needed.new result) }
+    ensures stores { IfSome follower.old.value (λ f. PutsStateFile f state.old state.new needed.new result) }
     ensures unchanged { follower.new.value ≡ follower.old.value }
 {
     *needed = 0;

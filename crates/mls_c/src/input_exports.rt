@@ -7,7 +7,7 @@ ghost use Rattle.mls_c.specs.Numbers as numbers;
 ghost use Rattle.mls_c.specs.Numbers.{bad_receipts, unsupported_profile};
 ghost use Rattle.mls_msgs.specs.declared.profile.Profile.{Profile};
 ghost use Rattle.mls_c.specs.StartSteps.{PutsInProfile};
-ghost use Rattle.mls_c.specs.Starts.{RunsOut, PutsFinding, Finds, QueriesStart, Starts, Resumes};
+ghost use Rattle.mls_c.specs.Starts.{RunsOut, PutsFinding, PutsTreeFinding, QueriesStart, Starts, Resumes};
 
 use crate::buffer::put_sized;
 use crate::follower_handle::FollowerHandle;
@@ -28,8 +28,8 @@ use mls_report::read_inputs::StartFailure;
 use std::alloc::Global;
 
 /// Returns the profile with this number.
-fn profile_of(number: u32) -> Option<Profile>
-    ensures { result ≡ numbers.profile_of number }
+fn profile_with_number(number: u32) -> Option<Profile>
+    ensures { result ≡ numbers.profile_with_number number }
 {
     match number {
         1 => Some(Profile::Members),
@@ -81,7 +81,7 @@ fn put_tree_hash<C: SignatureCheck>(
     needed: &mut usize,
 ) -> InputVerdict
     requires { needed.old ≡ 0 }
-    ensures { Finds (C.meaning checker.now) context.now tree.now tree_hash.old tree_hash.new
+    ensures { PutsTreeFinding (C.meaning checker.now) context.now tree.now tree_hash.old tree_hash.new
         needed.new result }
 {
     match tree_finding(alloc, context, tree, checker) {
@@ -103,7 +103,7 @@ pub extern "C" fn mls_validate_tree(
 ) -> InputVerdict
     ensures not_whole { (AreWhole receipts.now → ⊥) → (result ≡ numbers.plain_verdict bad_receipts)
         × (tree_hash.new ≡ tree_hash.old) × (needed.new ≡ 0) }
-    ensures finds { AreWhole receipts.now → Finds (good_by receipts.now) context.now tree.now
+    ensures finds { AreWhole receipts.now → PutsTreeFinding (good_by receipts.now) context.now tree.now
         tree_hash.old tree_hash.new needed.new result }
 {
     *needed = 0;
@@ -220,15 +220,15 @@ pub extern "C" fn mls_follower_start(
     profile: u32,
     follower: &mut FollowerHandle,
 ) -> InputVerdict
-    ensures profile { numbers.profile_of profile ≡ None
+    ensures profile { numbers.profile_with_number profile ≡ None
         → (result ≡ numbers.plain_verdict unsupported_profile)
         × (follower.new.value ≡ follower.old.value) }
-    ensures not_whole { (p : Profile) → numbers.profile_of profile ≡ Some p → (AreWhole receipts.now → ⊥)
+    ensures not_whole { (p : Profile) → numbers.profile_with_number profile ≡ Some p → (AreWhole receipts.now → ⊥)
         → (result ≡ numbers.plain_verdict bad_receipts) × (follower.new.value ≡ follower.old.value) }
-    ensures starts { (p : Profile) → numbers.profile_of profile ≡ Some p → AreWhole receipts.now
+    ensures starts { (p : Profile) → numbers.profile_with_number profile ≡ Some p → AreWhole receipts.now
         → Starts p (good_by receipts.now) info.now tree.now follower.old.value follower.new.value result }
 {
-    let Some(named) = profile_of(profile) else {
+    let Some(named) = profile_with_number(profile) else {
         return plain_verdict(UNSUPPORTED_PROFILE);
     };
     match receipts_in(alloc, receipts) {
@@ -280,15 +280,15 @@ pub extern "C" fn mls_follower_resume(
     profile: u32,
     follower: &mut FollowerHandle,
 ) -> InputVerdict
-    ensures profile { numbers.profile_of profile ≡ None
+    ensures profile { numbers.profile_with_number profile ≡ None
         → (result ≡ numbers.plain_verdict unsupported_profile)
         × (follower.new.value ≡ follower.old.value) }
-    ensures not_whole { (p : Profile) → numbers.profile_of profile ≡ Some p → (AreWhole receipts.now → ⊥)
+    ensures not_whole { (p : Profile) → numbers.profile_with_number profile ≡ Some p → (AreWhole receipts.now → ⊥)
         → (result ≡ numbers.plain_verdict bad_receipts) × (follower.new.value ≡ follower.old.value) }
-    ensures resumes { (p : Profile) → numbers.profile_of profile ≡ Some p → AreWhole receipts.now
+    ensures resumes { (p : Profile) → numbers.profile_with_number profile ≡ Some p → AreWhole receipts.now
         → Resumes p (good_by receipts.now) state.now follower.old.value follower.new.value result }
 {
-    let Some(named) = profile_of(profile) else {
+    let Some(named) = profile_with_number(profile) else {
         return plain_verdict(UNSUPPORTED_PROFILE);
     };
     match receipts_in(alloc, receipts) {

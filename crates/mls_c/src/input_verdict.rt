@@ -132,8 +132,8 @@ fn tree_verdict(number: u32, fault: TreeFault) -> InputVerdict
 }
 
 /// Returns the leaf index of a fault of a leaf node.
-pub(crate) fn leaf_of(fault: MemberFault) -> u32
-    ensures { result ≡ numbers.leaf_of fault }
+pub(crate) fn member_fault_leaf(fault: MemberFault) -> u32
+    ensures { result ≡ numbers.member_fault_leaf fault }
 {
     match fault {
         MemberFault::ExtensionUnlisted(leaf) => leaf,
@@ -154,7 +154,7 @@ fn member_verdict(number: u32, fault: MemberFault) -> InputVerdict
         _ => InputVerdict {
             number,
             inner: member_number(fault) as u32,
-            place: leaf_of(fault) as u64,
+            place: member_fault_leaf(fault) as u64,
         },
     }
 }

@@ -3,7 +3,7 @@
 ghost use Rattle.std.specs.Prelude.{◌≡◌};
 ghost use Rattle.mls_c.specs.Numbers as numbers;
 
-use crate::input_verdict::{OUT_OF_MEMORY, leaf_of};
+use crate::input_verdict::{OUT_OF_MEMORY, member_fault_leaf};
 use mls_check::MemberFault;
 use mls_follow::{Refusal, Taken};
 use mls_report::fault_text::member_number;
@@ -45,7 +45,7 @@ fn leaf_judgement(fault: MemberFault) -> Judgement
         number: 25,
         kind: 0,
         inner: member_number(fault) as u32,
-        leaf: leaf_of(fault),
+        leaf: member_fault_leaf(fault),
         epoch: 0,
     }
 }

@@ -8,7 +8,7 @@ ghost use Rattle.mls_follow.specs.Start.{IsStart};
 ghost use Rattle.mls_report.specs.StartInputs.{IsInfo, IsSupplied, IsSuppliedUnread, IsReadAs, IsStarted};
 ghost use Rattle.mls_report.specs.StartSteps.{Says, IsUnread};
 ghost use Rattle.mls_c.specs.Starts.{passed};
-ghost use Rattle.mls_c.specs.StartSteps.{FailsStart, Declines};
+ghost use Rattle.mls_c.specs.StartSteps.{FailsStart, DeclinesPassed};
 
 use mls_check::SignatureCheck;
 use mls_follow::{Follower, StartFault};
@@ -110,7 +110,7 @@ pub(crate) fn started<C: SignatureCheck>(
     ensures started { IfOk result
         (λ f. IsStarted profile (C.meaning checker) info.now (passed tree.now) (state_of f)) }
     ensures checker { IfOk result (λ f. C.meaning (checker_of f) ≡ C.meaning checker) }
-    ensures refused { IfErr result (Says (Declines profile (C.meaning checker) info.now tree.now)) }
+    ensures refused { IfErr result (Says (DeclinesPassed profile (C.meaning checker) info.now tree.now)) }
 {
     match read_inputs(alloc, profile, info, tree) {
         Ok(inputs) => start_from(alloc, profile, inputs, checker),

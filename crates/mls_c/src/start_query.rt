@@ -9,7 +9,7 @@ ghost use Rattle.mls_follow.specs.CoveredLogs.{all_good};
 ghost use Rattle.mls_report.specs.StartSteps.{Says};
 ghost use Rattle.mls_c.specs.Queries as queries;
 ghost use Rattle.mls_c.specs.Starts.{passed, CanStartFrom};
-ghost use Rattle.mls_c.specs.StartSteps.{IsStartQuery, ListsStart, FailsStart, Declines, ListsFrom};
+ghost use Rattle.mls_c.specs.StartSteps.{IsStartQuery, ListsStart, FailsStart, DeclinesPassed, ListsFrom};
 
 use crate::query::query_records;
 use crate::start::{read_inputs, start_from};
@@ -131,7 +131,7 @@ pub(crate) fn start_records<C: SignatureCheck>(
 ) -> Result<Vec<u8>, StartFailure>
     ensures records { IfOk result
         (λ v. ListsFrom (C.meaning checker.now) info.now tree.now v.items) }
-    ensures refused { IfErr result (Says (Declines Members all_good info.now tree.now)) }
+    ensures refused { IfErr result (Says (DeclinesPassed Members all_good info.now tree.now)) }
 {
     match read_inputs(alloc, Profile::Members, info, tree) {
         Ok(inputs) => records_from(alloc, inputs, checker),

@@ -31,7 +31,7 @@ fn decoded_finding<C: SignatureCheck>(
     tree: &PublicTree,
     checker: &C,
 ) -> Result<Finding, RunFault>
-    requires followed { IsSupportedContext context.now }
+    requires supported { IsSupportedContext context.now }
     requires suite_of_context { suite ≡ context.now.cipher_suite }
     ensures found { (context_bytes tree_bytes : List ℕ) → IsContext context_bytes context.now
         → IsTreeOf tree_bytes (plain tree.now)
@@ -58,7 +58,7 @@ fn bytes_finding<C: SignatureCheck>(
     tree_bytes: &[u8],
     checker: &C,
 ) -> Result<Finding, RunFault>
-    requires followed { IsSupportedContext context.now }
+    requires supported { IsSupportedContext context.now }
     requires suite_of_context { suite ≡ context.now.cipher_suite }
     ensures found { (context_bytes : List ℕ) → IsContext context_bytes context.now
         → IfOk result (IsTreeFinding (C.meaning checker.now) context_bytes tree_bytes.now) }

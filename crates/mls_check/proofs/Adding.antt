@@ -8,16 +8,16 @@ use Rattle.std.proofs.lemmas.Option.{same_Some}
 use Rattle.mls_nodes.specs.declared.leaf.LeafNode.{LeafNode}
 use Rattle.mls_nodes.specs.declared.parent.ParentNode.{ParentNode}
 use Rattle.mls_tree.specs.Tree.{Tree, leaf, branch, height, leaf_count, leaf_at, Subtree, subtree_at}
-use Rattle.mls_tree.specs.BlankLeaves.{first_blank_leaf, IsFirstBlank, AllLeavesSet}
-use Rattle.mls_tree.specs.TreeOperations.{blank_tree, extend, add, add_at, grown_for, number_or}
+use Rattle.mls_tree.specs.BlankLeaves.{first_blank_leaf, IsFirstBlank, AllLeavesNonBlank}
+use Rattle.mls_tree.specs.TreeOperations.{blank_tree, extend, add, add_at, extended_if_full, number_or}
 use Rattle.mls_tree.proofs.Choices.{below, from, same, other}
 use Rattle.mls_tree.proofs.FirstBlanks.{first_blank_leaf-leftmost}
 use Rattle.mls_tree.proofs.Kept.{leaf_at-extend}
 use Rattle.mls_tree.proofs.Lookups.{leaf_at-past}
 use Rattle.mls_tree.proofs.Trees.{leaf_count-positive, subtree_at-stands}
 use Rattle.mls_hash.specs.ParentHash.{root_parent}
-use Rattle.mls_check.specs.ParentHashValid.{HasSetParent, ParentHashStep}
-use Rattle.mls_check.specs.UnmergedLists.{HasSortedEntries, lists, is_unmerged_in_all, is_consistent, HasConsistentUnmerged}
+use Rattle.mls_check.specs.ParentHashValid.{IsNonBlankParent, ParentHashStep}
+use Rattle.mls_check.specs.UnmergedLists.{HasSortedEntries, is_blank_or_lists, is_unmerged_in_all, is_consistent, HasConsistentUnmerged}
 use Rattle.mls_check.proofs.Elements.{contains-head, contains-tail, contains-found, all-each, and-left, and-right}
 use Rattle.mls_check.proofs.Walks.{contained}
 use Rattle.mls_check.specs.PreservedValidity.{HasValidUnmergedLists, IsParentHashValidTree, IsStepAt}
@@ -40,7 +40,7 @@ entered-set i first (leaf y) h =
     let e = eqb-true i first (and-left (i == first) (is_some y) h) in
     ap is_some (same i first y None e) ∙ and-right (i == first) (is_some y) h
 entered-set i first (branch l p r) h =
-    let g = and-right (lists p i) _ h in
+    let g = and-right (is_blank_or_lists p i) _ h in
     elim (cases_lt i (first + leaf_count l)) [
       | inl a ↦
           ap is_some (below i (first + leaf_count l) (leaf_at first l i) (leaf_at (first + leaf_count l) r i) a)
@@ -83,13 +83,13 @@ module _ (j : ℕ) (x : LeafNode) where
 
   -- ---- entered leaves
 
-  lists-old : (b : Bool) (n : Option ParentNode) (i : ℕ) → lists n i ≡ true → lists (touched_parent j x b n) i ≡ true
-  lists-old b None i h = refl
-  lists-old b (Some p) i h = contained (entered_list j b p.unmerged) i (list-has_old j b p.unmerged i (contains-found p.unmerged i h))
+  is_blank_or_lists-old : (b : Bool) (n : Option ParentNode) (i : ℕ) → is_blank_or_lists n i ≡ true → is_blank_or_lists (touched_parent j x b n) i ≡ true
+  is_blank_or_lists-old b None i h = refl
+  is_blank_or_lists-old b (Some p) i h = contained (entered_list j b p.unmerged) i (list-has_old j b p.unmerged i (contains-found p.unmerged i h))
 
-  lists-new : (n : Option ParentNode) → lists (touched_parent j x true n) j ≡ true
-  lists-new None = refl
-  lists-new (Some p) = contained (entered_list j true p.unmerged) j (list-has_new j p.unmerged)
+  is_blank_or_lists-new : (n : Option ParentNode) → is_blank_or_lists (touched_parent j x true n) j ≡ true
+  is_blank_or_lists-new None = refl
+  is_blank_or_lists-new (Some p) = contained (entered_list j true p.unmerged) j (list-has_new j p.unmerged)
 
   still-set : (b : Bool) (y : Option LeafNode) → is_some y ≡ true → is_some (if b then Some x else y) ≡ true
   still-set true y h = refl
@@ -103,8 +103,8 @@ module _ (j : ℕ) (x : LeafNode) where
       let left = touch j x first l in
       let right = touch j x (first + leaf_count l) r in
       let under = is_under j x first (leaf_count l + leaf_count r) in
-      let g = and-right (lists n i) _ h in
-      and_from (lists (touched_parent j x under n) i) _ (lists-old under n i (and-left (lists n i) _ h))
+      let g = and-right (is_blank_or_lists n i) _ h in
+      and_from (is_blank_or_lists (touched_parent j x under n) i) _ (is_blank_or_lists-old under n i (and-left (is_blank_or_lists n i) _ h))
       (elim (cases_lt i (first + leaf_count l)) [
         | inl a ↦
             below i (first + leaf_count left) (is_unmerged_in_all i first left) (is_unmerged_in_all i (first + leaf_count left) right) (omega (arith, a, count))
@@ -124,8 +124,8 @@ module _ (j : ℕ) (x : LeafNode) where
       let left = touch j x first l in
       let right = touch j x (first + leaf_count l) r in
       let is = under j x first (leaf_count l + leaf_count r) lo hi in
-      and_from (lists (touched_parent j x (is_under j x first (leaf_count l + leaf_count r)) n) j) _
-      (ap (λ b. lists (touched_parent j x b n) j) is ∙ lists-new n)
+      and_from (is_blank_or_lists (touched_parent j x (is_under j x first (leaf_count l + leaf_count r)) n) j) _
+      (ap (λ b. is_blank_or_lists (touched_parent j x b n) j) is ∙ is_blank_or_lists-new n)
       (elim (cases_lt j (first + leaf_count l)) [
         | inl a ↦
             below j (first + leaf_count left) (is_unmerged_in_all j first left) (is_unmerged_in_all j (first + leaf_count left) right) (omega (arith, a, count))
@@ -157,7 +157,7 @@ module _ (j : ℕ) (x : LeafNode) where
   -- ---- the tree
 
   module _ (H : List ℕ → List ℕ) (n : ℕ) where
-    set-touch : (first : ℕ) (t : Tree) → HasSetParent (touch j x first t) → HasSetParent t
+    set-touch : (first : ℕ) (t : Tree) → IsNonBlankParent (touch j x first t) → IsNonBlankParent t
     set-touch first (leaf y) h = h
     set-touch first (branch l None r) h = h
     set-touch first (branch l (Some p) r) h = tt
@@ -226,7 +226,7 @@ module _ (j : ℕ) (x : LeafNode) where
           subst (λ v. v) (λ i. ParentHashStep H (c i) (a i) (b i)) k
 
 module _ (H : List ℕ → List ℕ) (t : Tree) (x : LeafNode) (h : IsParentHashValidTree H t) where
-  by_answer : (o : Option ℕ) → MatchOption o (AllLeavesSet t) (λ j. IsFirstBlank t j) → IsParentHashValidTree H (add_at (grown_for o t) (number_or (leaf_count t) o) x)
+  by_answer : (o : Option ℕ) → MatchOption o (AllLeavesNonBlank t) (λ j. IsFirstBlank t j) → IsParentHashValidTree H (add_at (extended_if_full o t) (number_or (leaf_count t) o) x)
   by_answer None all =
       let pos = leaf_count-positive (blank_tree (height t)) in
       sound_add_at (leaf_count t) x H (extend t) (omega (arith, pos)) (leaf_at-extend t (leaf_count t) ∙ leaf_at-past 0 t (leaf_count t) (omega arith))
@@ -237,7 +237,7 @@ module _ (H : List ℕ → List ℕ) (t : Tree) (x : LeafNode) (h : IsParentHash
   sound_add = by_answer (first_blank_leaf 0 t) (first_blank_leaf-leftmost t)
 
 module _ (t : Tree) (x : LeafNode) where
-  lists_by : HasValidUnmergedLists t → (o : Option ℕ) → MatchOption o (AllLeavesSet t) (λ j. IsFirstBlank t j) → HasValidUnmergedLists (add_at (grown_for o t) (number_or (leaf_count t) o) x)
+  lists_by : HasValidUnmergedLists t → (o : Option ℕ) → MatchOption o (AllLeavesNonBlank t) (λ j. IsFirstBlank t j) → HasValidUnmergedLists (add_at (extended_if_full o t) (number_or (leaf_count t) o) x)
   lists_by h None all =
       lists_add_at (leaf_count t) x (extend t) (omega (arith, leaf_count-positive (blank_tree (height t)))) (parts_lists (extend t) t (grow_parents t) h)
   lists_by h (Some j) first = lists_add_at j x t first.inside h
@@ -256,7 +256,7 @@ module _ (t : Tree) (x : LeafNode) where
           lower = omega (arith, stands.to_right);
         }) step).0
 
-    steps_by : (o : Option ℕ) → MatchOption o (AllLeavesSet t) (λ j. IsFirstBlank t j) → IsStepAt H (add_at (grown_for o t) (number_or (leaf_count t) o) x) low high
+    steps_by : (o : Option ℕ) → MatchOption o (AllLeavesNonBlank t) (λ j. IsFirstBlank t j) → IsStepAt H (add_at (extended_if_full o t) (number_or (leaf_count t) o) x) low high
     steps_by None all =
         steps_add_at (leaf_count t) x H (extend t) (omega (arith, leaf_count-positive (blank_tree (height t))))
         (leaf_at-extend t (leaf_count t) ∙ leaf_at-past 0 t (leaf_count t) (omega arith)) (parts_consistent (extend t) t (grow_parents t) consistent) d s low high

@@ -9,7 +9,7 @@ use Rattle.mls_tree.specs.Tree.{Tree, leaf, branch, leaf_count, Subtree, subtree
 use Rattle.mls_tree.specs.Paths.{resolution}
 use Rattle.mls_tree.proofs.Trees.{subtree_at-stands, subtree_at-here, subtree_at-in_left, subtree_at-in_right, root_node_index-below}
 use Rattle.mls_hash.specs.ParentHash.{parent_hash}
-use Rattle.mls_check.specs.ParentHashValid.{linked_hash, AreChildren, IsUnmergedUnder, ParentHashLink, ParentHashStep, IsLeaf, ParentHashValid, from_leaf, from_parent, HasSetParent, IsParentHashValidAt}
+use Rattle.mls_check.specs.ParentHashValid.{linked_hash, AreChildren, IsUnmergedUnder, ParentHashLink, ParentHashStep, IsLeaf, ParentHashValid, from_leaf, from_parent, IsNonBlankParent, IsParentHashValidAt}
 use Rattle.mls_check.proofs.Decided.{Decided, decided-like, decided-and, decided-or, decided-implies, decided-lt, decided-same, decided-other, decided-contains, decided-agree, decided-all, found_below, above_all, contains-above}
 use Rattle.mls_check.proofs.Reaching.{ends, coe_link}
 
@@ -17,7 +17,7 @@ decided-leaf : (t : Tree) → Decided (IsLeaf t)
 decided-leaf (leaf x) = inl tt
 decided-leaf (branch l p r) = inr (λ h. absurd h)
 
-decided-set : (t : Tree) → Decided (HasSetParent t)
+decided-set : (t : Tree) → Decided (IsNonBlankParent t)
 decided-set (leaf x) = inr (λ h. absurd h)
 decided-set (branch l None r) = inr (λ h. absurd h)
 decided-set (branch l (Some p) r) = inl tt
@@ -99,22 +99,22 @@ module _ (H : List ℕ → List ℕ) (n : ℕ) where
         elim (found_below ComesBy (decided-by known) (2 * (child.first + leaf_count child.tree))) [
           | inl w ↦
               (let by = w.2 in let l = by.2 in
-              inl (by.0, record { node_index = w.0; stands = by.1; hash = l.hash; linked = l.linked; expected = l.expected; resolved = l.resolved; unmerged = l.unmerged }, l.ended))
+              inl (by.0, record { node_index = w.0; descendant_is = by.1; hash = l.hash; linked = l.linked; expected = l.expected; resolved = l.resolved; unmerged = l.unmerged }, l.ended))
           | inr none ↦
               inr (λ w.
               let k = w.1 in
-              let at = subtree_at-stands child.first child.tree k.node_index w.0 k.stands in
+              let at = subtree_at-stands child.first child.tree k.node_index w.0 k.descendant_is in
               let d = w.0 in
               none k.node_index (omega (arith, at.node_index, at.to_right, root_node_index-below d.first d.tree))
-              (w.0, k.stands, record { hash = k.hash; linked = k.linked; expected = k.expected; resolved = k.resolved; unmerged = k.unmerged; ended = w.2 }))
+              (w.0, k.descendant_is, record { hash = k.hash; linked = k.linked; expected = k.expected; resolved = k.resolved; unmerged = k.unmerged; ended = w.2 }))
         ]
 
   -- ---- a parent
 
-  set_top : (s : Subtree) → ParentHashValid H n s → HasSetParent s.tree
+  set_top : (s : Subtree) → ParentHashValid H n s → IsNonBlankParent s.tree
   set_top s r = (let w = ends s r in let step = w.1 in go s.first s.tree step.parent step.child step.other step.children)
     where
-      go : (first : ℕ) (t : Tree) (p : ParentNode) (child other : Subtree) → AreChildren first t p child other → HasSetParent t
+      go : (first : ℕ) (t : Tree) (p : ParentNode) (child other : Subtree) → AreChildren first t p child other → IsNonBlankParent t
       go first (leaf x) p child other h = absurd h
       go first (branch l None r) p child other h = absurd h
       go first (branch l (Some q) r) p child other h = tt
@@ -173,7 +173,7 @@ decided-parent_hash H t p = go (subtree_at 0 t p) refl
     go None e = inl (λ s f h. absurd (none-some s (sym e ∙ f)))
     go (Some s) e =
         elim (decided-set s.tree) [
-          | inr m ↦ inl (λ u f h. absurd (m (subst (λ (v : Subtree). HasSetParent v.tree) (same_Some u s (sym f ∙ e)) h)))
+          | inr m ↦ inl (λ u f h. absurd (m (subst (λ (v : Subtree). IsNonBlankParent v.tree) (same_Some u s (sym f ∙ e)) h)))
           | inl set ↦ elim (decided-tree H (leaf_count t) 0 t p s e) [
             | inl c ↦ inl (λ u f h. subst (λ v. ParentHashValid H (leaf_count t) v) (same_Some s u (sym e ∙ f)) c)
             | inr m ↦ inr (λ w. m (w s e set))

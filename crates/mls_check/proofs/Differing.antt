@@ -76,25 +76,25 @@ key_prefix-short key bytes short same = ap (from_be_bytes w64) (same ∙ padded 
 
 -- no two places below `low` have one key
 abbrev pub AreApart : (ℕ → Option (List ℕ)) → ℕ → Type 0
-AreApart key_at low =
-    (p q : ℕ) (key : List ℕ) → p < q → q < low → key_at p ≡ Some key → key_at q ≡ Some key → ⊥
+AreApart encryption_key_at low =
+    (p q : ℕ) (key : List ℕ) → p < q → q < low → encryption_key_at p ≡ Some key → encryption_key_at q ≡ Some key → ⊥
 
 -- the numbers have the beginnings of the keys below `low`, once for each key
-pub record Begun (key_at : ℕ → Option (List ℕ)) (low : ℕ) (numbers : List ℕ) : Type 0 where
-  pub met : (p : ℕ) (key : List ℕ) → p < low → key_at p ≡ Some key
-      → Contains numbers (key_prefix key)
-  pub apart : AllDiffer numbers → AreApart key_at low
+pub record Begun (encryption_key_at : ℕ → Option (List ℕ)) (low : ℕ) (prefixes : List ℕ) : Type 0 where
+  pub met : (p : ℕ) (key : List ℕ) → p < low → encryption_key_at p ≡ Some key
+      → Contains prefixes (key_prefix key)
+  pub apart : AllDiffer prefixes → AreApart encryption_key_at low
 
-pub Begun-none : (key_at : ℕ → Option (List ℕ)) → Begun key_at 0 []
-Begun-none key_at = record {
+pub Begun-none : (encryption_key_at : ℕ → Option (List ℕ)) → Begun encryption_key_at 0 []
+Begun-none encryption_key_at = record {
   met = λ p key low at. absurd (omega arith);
   apart = λ h p q key below low here there. absurd (omega arith);
 }
 
-module _ (key_at : ℕ → Option (List ℕ)) (low : ℕ) (numbers : List ℕ)
-    (begun : Begun key_at low numbers) where
+module _ (encryption_key_at : ℕ → Option (List ℕ)) (low : ℕ) (prefixes : List ℕ)
+    (begun : Begun encryption_key_at low prefixes) where
   -- a place without a key
-  pub Begun-blank : key_at low ≡ None → Begun key_at (low + 1) numbers
+  pub Begun-blank : encryption_key_at low ≡ None → Begun encryption_key_at (low + 1) prefixes
   Begun-blank blank = record {
     met = λ p key below at.
         elim (cases_lt p low) [
@@ -113,34 +113,34 @@ module _ (key_at : ℕ → Option (List ℕ)) (low : ℕ) (numbers : List ℕ)
   }
 
   -- a place with a key
-  module _ (key : List ℕ) (at : key_at low ≡ Some key) where
-    one_more : length (numbers ++ key_prefix key ∷ []) ≡ length numbers + 1
-    one_more = length-append numbers (key_prefix key ∷ [])
+  module _ (key : List ℕ) (at : encryption_key_at low ≡ Some key) where
+    one_more : length (prefixes ++ key_prefix key ∷ []) ≡ length prefixes + 1
+    one_more = length-append prefixes (key_prefix key ∷ [])
 
-    kept : AllDiffer (numbers ++ key_prefix key ∷ []) → AllDiffer numbers
+    kept : AllDiffer (prefixes ++ key_prefix key ∷ []) → AllDiffer prefixes
     kept differ i j d before in' same =
-        let at_i = get_or_append_left numbers (key_prefix key ∷ []) d i (omega arith) in
-        let at_j = get_or_append_left numbers (key_prefix key ∷ []) d j in' in
+        let at_i = get_or_append_left prefixes (key_prefix key ∷ []) d i (omega arith) in
+        let at_j = get_or_append_left prefixes (key_prefix key ∷ []) d j in' in
         differ i j d before (omega (arith, one_more)) (at_i ∙ same ∙ sym at_j)
 
-    unmet : AllDiffer (numbers ++ key_prefix key ∷ []) → Contains numbers (key_prefix key) → ⊥
+    unmet : AllDiffer (prefixes ++ key_prefix key ∷ []) → Contains prefixes (key_prefix key) → ⊥
     unmet differ there =
-        let at = get_or_append_left numbers (key_prefix key ∷ []) (key_prefix key) there.0 there.1 in
-        let end = get_or-append_seam numbers (key_prefix key) [] (key_prefix key) in
-        differ there.0 (length numbers) (key_prefix key) there.1
+        let at = get_or_append_left prefixes (key_prefix key ∷ []) (key_prefix key) there.0 there.1 in
+        let end = get_or-append_seam prefixes (key_prefix key) [] (key_prefix key) in
+        differ there.0 (length prefixes) (key_prefix key) there.1
         (omega (arith, one_more)) (at ∙ there.2 ∙ sym end)
 
-    begun_more : Begun key_at (low + 1) (numbers ++ key_prefix key ∷ [])
+    begun_more : Begun encryption_key_at (low + 1) (prefixes ++ key_prefix key ∷ [])
     begun_more = record {
       met = λ p other below there.
           elim (cases_lt p low) [
             | inl before ↦
                 let old = begun.met p other before there in
-                Contains-append_left numbers (key_prefix key ∷ []) (key_prefix other) old
+                Contains-append_left prefixes (key_prefix key ∷ []) (key_prefix other) old
             | inr here ↦
                 let last : p ≡ low = omega arith in
                 let same : key ≡ other = same_Some key other (sym at ∙ (rw last at there)) in
-                rw (← same) (Contains-push numbers (key_prefix key))
+                rw (← same) (Contains-push prefixes (key_prefix key))
           ];
       apart = λ differ p q other below high here there.
           elim (cases_lt q low) [
@@ -153,13 +153,13 @@ module _ (key_at : ℕ → Option (List ℕ)) (low : ℕ) (numbers : List ℕ)
     }
 
     pub Begun-key : (number : ℕ) (more : List ℕ) → number ≡ key_prefix key
-        → more ≡ numbers ++ number ∷ [] → Begun key_at (low + 1) more
+        → more ≡ prefixes ++ number ∷ [] → Begun encryption_key_at (low + 1) more
     Begun-key number more is pushed = rw (pushed, is) begun_more
 
 -- what follows where the numbers differ
-pub apart-answered : (key_at : ℕ → Option (List ℕ)) (low : ℕ) (numbers : List ℕ)
-    → Begun key_at low numbers → (P : Type 0) → (AreApart key_at low → P)
-    → (answer : Bool) → (IsTrue answer → AllDiffer numbers) → OnTrue answer P
-apart-answered key_at low numbers begun P conclude true differ =
+pub apart-answered : (encryption_key_at : ℕ → Option (List ℕ)) (low : ℕ) (prefixes : List ℕ)
+    → Begun encryption_key_at low prefixes → (P : Type 0) → (AreApart encryption_key_at low → P)
+    → (answer : Bool) → (IsTrue answer → AllDiffer prefixes) → OnTrue answer P
+apart-answered encryption_key_at low prefixes begun P conclude true differ =
     conclude (begun.apart (differ refl))
-apart-answered key_at low numbers begun P conclude false differ = tt
+apart-answered encryption_key_at low prefixes begun P conclude false differ = tt

@@ -13,7 +13,7 @@ use Rattle.mls_tree.proofs.Trees.{length-listing}
 use Rattle.mls_tree.proofs.Growing.{slice_get-append_left}
 use Rattle.mls_tree.proofs.Listings.{slice_get-append_right}
 use Rattle.mls_check.specs.FirstFailure.{IsFirstFailureIn}
-use Rattle.mls_check.specs.DistinctKeys.{encryption_key, key_at, HasUniqueKeyAt, IsDistinct, parent_keys, tree_keys, has_key, are_distinct, has_distinct_keys}
+use Rattle.mls_check.specs.DistinctKeys.{encryption_key, encryption_key_at, HasUniqueKeyAt, IsDistinct, parent_keys, tree_keys, has_key, are_distinct, has_distinct_keys}
 
 -- ---- the node at a place is the entry of the listing there
 
@@ -60,8 +60,8 @@ keys_among (Some n ∷ xs) = encryption_key n ∷ keys_among xs
 abbrev key_in : List (Option NodeValue) → ℕ → Option (List ℕ)
 key_in xs p = option_map encryption_key (node_in (slice_get xs p))
 
-key_at-listing : (t : Tree) (p : ℕ) → key_at t p ≡ key_in (listing t) p
-key_at-listing t p =
+encryption_key_at-listing : (t : Tree) (p : ℕ) → encryption_key_at t p ≡ key_in (listing t) p
+encryption_key_at-listing t p =
     let e : p ≡ 2 * 0 + p = omega arith in ap (option_map encryption_key) (ap (λ k. entry_of (subtree_at 0 t k)) e ∙ node_at-from 0 t p)
 
 keys_among-append : (xs ys : List (Option NodeValue)) → keys_among (xs ++ ys) ≡ keys_among xs ++ keys_among ys
@@ -153,10 +153,10 @@ pub distinct-by_keys : (t : Tree) → (has_distinct_keys t ≡ true) ↔ IsDisti
 unfolding has_distinct_keys
 distinct-by_keys t = (
   λ e p q n h.
-      apart (listing t) (ap are_distinct (sym (tree_keys-listing t)) ∙ e) p q h.key n (sym (key_at-listing t p) ∙ h.here) (sym (key_at-listing t q) ∙ h.there),
+      apart (listing t) (ap are_distinct (sym (tree_keys-listing t)) ∙ e) p q h.key n (sym (encryption_key_at-listing t p) ∙ h.here) (sym (encryption_key_at-listing t q) ∙ h.there),
   λ h.
       ap are_distinct (tree_keys-listing t)
-      ∙ distinct (listing t) (λ p q k n a b. h p q n (record { key = k; here = key_at-listing t p ∙ a; there = key_at-listing t q ∙ b })),
+      ∙ distinct (listing t) (λ p q k n a b. h p q n (record { key = k; here = encryption_key_at-listing t p ∙ a; there = encryption_key_at-listing t q ∙ b })),
 )
 
 -- whether a search for the first place whose key another one has finds none

@@ -8,7 +8,7 @@ use Rattle.mls_nodes.specs.NodeModel.{NodeValue, leaf_node, parent_node}
 use Rattle.mls_tree.specs.Tree.{Tree, leaf_count, Subtree, subtree_at, node_at}
 use Rattle.mls_tree.specs.TreeHash.{tree_hash}
 use Rattle.mls_tree.proofs.Trees.{leaf_count-positive}
-use Rattle.mls_check.specs.DistinctKeys.{key_at, HaveOneKey, HasUniqueKeyAt, IsDistinct}
+use Rattle.mls_check.specs.DistinctKeys.{encryption_key_at, HaveOneKey, HasUniqueKeyAt, IsDistinct}
 use Rattle.mls_check.specs.ParentHashValid.{IsParentHashValidAt}
 use Rattle.mls_check.specs.UnmergedLists.{is_consistent, HasSortedList, IsSortedAt, HasStrictlyIncreasingLists, HasConsistentUnmergedAt, HasConsistentUnmerged}
 use Rattle.mls_check.specs.ValidTree.{Valid, IsFirstTreeFault}
@@ -45,7 +45,7 @@ decided-consistent t p = go (subtree_at 0 t p) refl
 
 decided-one_key : (t : Tree) (p q : ℕ) → Decided (HaveOneKey t p q)
 decided-one_key t p q =
-    decided-like (λ w. record { key = w.0; here = w.1; there = w.2 }) (λ h. (h.key, h.here, h.there)) (decided-agree (key_at t p) (key_at t q))
+    decided-like (λ w. record { key = w.0; here = w.1; there = w.2 }) (λ h. (h.key, h.here, h.there)) (decided-agree (encryption_key_at t p) (encryption_key_at t q))
 
 decided-own_key : (t : Tree) (n : ℕ) → n + 1 ≡ 2 * leaf_count t → (p : ℕ) → Decided (HasUniqueKeyAt t p)
 decided-own_key t n e p =

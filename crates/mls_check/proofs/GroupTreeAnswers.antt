@@ -83,7 +83,7 @@ module _ (G : VerifyFn) (c : GroupContext) (t : RatchetTree) where
     determined_by required requires =
         ap (λ (r : RequiredCapabilities). member_fault G c.cipher_suite c.group_id r t.tree)
         (Requires-one c required f.required requires f.valid_tree.readable.requires)
-        ∙ (fault-first G c.cipher_suite c.group_id f.required t.tree fault f.own).0 first_of_members
+        ∙ (fault-first G c.cipher_suite c.group_id f.required t.tree fault f.not_out_of_memory).0 first_of_members
 
   -- ---- not both
 
@@ -91,7 +91,7 @@ module _ (G : VerifyFn) (c : GroupContext) (t : RatchetTree) where
       → HasMembers G c Own t required → IsGroupTreeFault G c Own fault → fault ≢ OutOfMemory → ⊥
   fault-no_members required RequirementsUnreadable h f own = f.none required h.valid_tree.readable.requires
   fault-no_members required (Tree fault) h f own =
-      fault-not_valid (hash_of c.cipher_suite) c.tree_hash t.tree fault f.own (first_of_tree fault f) h.valid_tree.valid
+      fault-not_valid (hash_of c.cipher_suite) c.tree_hash t.tree fault f.not_out_of_memory (first_of_tree fault f) h.valid_tree.valid
   fault-no_members required (Member fault) h f own =
       none-some fault (sym ((members-faultless G c.cipher_suite c.group_id required t.tree).0 h.members)
       ∙ determined_by fault f required h.valid_tree.readable.requires)
@@ -101,7 +101,7 @@ module _ (G : VerifyFn) (c : GroupContext) (t : RatchetTree) where
 
   valid-no_fault : (fault : TreeFault) (other : MemberFault) → FailsValid c Own fault → FailsMembers G c Own other → ⊥
   valid-no_fault fault other f g =
-      fault-not_valid (hash_of c.cipher_suite) c.tree_hash t.tree fault f.own (first_of_tree fault f) (valid_there other g)
+      fault-not_valid (hash_of c.cipher_suite) c.tree_hash t.tree fault f.not_out_of_memory (first_of_tree fault f) (valid_there other g)
 
   pub group_tree_fault-unique : (fault other : GroupTreeFault) → fault ≢ OutOfMemory → other ≢ OutOfMemory
       → IsGroupTreeFault G c Own fault → IsGroupTreeFault G c Own other → fault ≡ other
@@ -113,7 +113,7 @@ module _ (G : VerifyFn) (c : GroupContext) (t : RatchetTree) where
   group_tree_fault-unique (Tree fault) OutOfMemory m n f g = absurd (n refl)
   group_tree_fault-unique (Tree fault) RequirementsUnreadable m n f g = absurd (g.none f.required f.readable.requires)
   group_tree_fault-unique (Tree fault) (Tree other) m n f g =
-      ap Tree (fault-unique (hash_of c.cipher_suite) c.tree_hash t.tree fault other f.own g.own
+      ap Tree (fault-unique (hash_of c.cipher_suite) c.tree_hash t.tree fault other f.not_out_of_memory g.not_out_of_memory
       (first_of_tree fault f) (first_of_tree other g))
   group_tree_fault-unique (Tree fault) (Member other) m n f g = absurd (valid-no_fault fault other f g)
   group_tree_fault-unique (Member fault) OutOfMemory m n f g = absurd (n refl)

@@ -5,7 +5,7 @@ use Rattle.mls_nodes.specs.declared.context.GroupContext.{GroupContext}
 use Rattle.mls_nodes.specs.declared.required_capabilities.RequiredCapabilities.{RequiredCapabilities}
 use Rattle.mls_tree.specs.RatchetTree.{RatchetTree}
 use Rattle.mls_hash.specs.SuiteHash.{hash_of}
-use Rattle.mls_check.specs.GroupTree.{IsSupportedContext, HasTree, IsReadable, HasValidTree, HasMembers, FailsRequirements, FailsValid, FailsMembers, IsGroupTreeFault, tree_fault_of, member_fault_of}
+use Rattle.mls_check.specs.GroupTree.{IsSupportedContext, HasTree, HasReadableRequirements, HasValidTree, HasMembers, FailsRequirements, FailsValid, FailsMembers, IsGroupTreeFault, tree_fault_of, member_fault_of}
 use Rattle.mls_check.specs.LeafValidation.{LeavesAreValid, IsMemberFault}
 use Rattle.mls_check.specs.Signatures.{VerifyFn}
 use Rattle.mls_check.specs.ValidTree.{Valid, IsFirstTreeFault}
@@ -21,17 +21,17 @@ module _ (G : VerifyFn) (c : GroupContext) (t : RatchetTree) (followed : IsSuppo
   Own u = u ≡ t
 
   there : HasTree c Own t
-  there = record { followed = followed; uses = refl }
+  there = record { supported = followed; uses = refl }
 
   pub requirements_fail : HasNoRequirements c → FailsRequirements c Own
   requirements_fail none = record { tree = t; has_tree = there; none = none }
 
   module _ (required : RequiredCapabilities) (requires : Requires c required) where
-    read : IsReadable c Own t required
+    read : HasReadableRequirements c Own t required
     read = record { has_tree = there; requires = requires }
 
     pub invalid : (fault : TreeFault) → fault ≢ trees.OutOfMemory → IsFirstTreeFault (hash_of c.cipher_suite) c.tree_hash t.tree fault → FailsValid c Own fault
-    invalid fault own first = record { tree = t; required = required; readable = read; own = own; first = first }
+    invalid fault own first = record { tree = t; required = required; readable = read; not_out_of_memory = own; first = first }
 
     pub tree_fails : (fault : TreeFault) → IsFirstTreeFault (hash_of c.cipher_suite) c.tree_hash t.tree fault → IsGroupTreeFault G c Own (tree_fault_of fault)
     tree_fails trees.HashDiffers first = invalid trees.HashDiffers (λ e. cc) first
@@ -46,7 +46,7 @@ module _ (G : VerifyFn) (c : GroupContext) (t : RatchetTree) (followed : IsSuppo
       checked = record { readable = read; valid = valid }
 
       pub strangers : (fault : MemberFault) → fault ≢ members.OutOfMemory → IsMemberFault G c.cipher_suite c.group_id required t.tree fault → FailsMembers G c Own fault
-      strangers fault own first = record { tree = t; required = required; valid_tree = checked; own = own; first = first }
+      strangers fault own first = record { tree = t; required = required; valid_tree = checked; not_out_of_memory = own; first = first }
 
       pub members_fail : (fault : MemberFault) → IsMemberFault G c.cipher_suite c.group_id required t.tree fault → IsGroupTreeFault G c Own (member_fault_of fault)
       members_fail (members.ExtensionUnlisted i) first = strangers (members.ExtensionUnlisted i) (λ e. cc) first
@@ -63,9 +63,9 @@ module _ (G : VerifyFn) (c : GroupContext) (t : RatchetTree) (followed : IsSuppo
 
 module _ (G : VerifyFn) (c : GroupContext) (IsGiven IsToo : RatchetTree → Type 0) (too : (t : RatchetTree) → IsGiven t → IsToo t) where
   tree_too : (t : RatchetTree) → HasTree c IsGiven t → HasTree c IsToo t
-  tree_too t h = record { followed = h.followed; uses = too t h.uses }
+  tree_too t h = record { supported = h.supported; uses = too t h.uses }
 
-  readable_too : (t : RatchetTree) (required : RequiredCapabilities) → IsReadable c IsGiven t required → IsReadable c IsToo t required
+  readable_too : (t : RatchetTree) (required : RequiredCapabilities) → HasReadableRequirements c IsGiven t required → HasReadableRequirements c IsToo t required
   readable_too t required h = record { has_tree = tree_too t h.has_tree; requires = h.requires }
 
   valid_too : (t : RatchetTree) (required : RequiredCapabilities) → HasValidTree c IsGiven t required → HasValidTree c IsToo t required
@@ -82,7 +82,7 @@ module _ (G : VerifyFn) (c : GroupContext) (IsGiven IsToo : RatchetTree → Type
     tree = h.tree;
     required = h.required;
     readable = readable_too h.tree h.required h.readable;
-    own = h.own;
+    not_out_of_memory = h.not_out_of_memory;
     first = h.first;
   }
 
@@ -91,6 +91,6 @@ module _ (G : VerifyFn) (c : GroupContext) (IsGiven IsToo : RatchetTree → Type
     tree = h.tree;
     required = h.required;
     valid_tree = valid_too h.tree h.required h.valid_tree;
-    own = h.own;
+    not_out_of_memory = h.not_out_of_memory;
     first = h.first;
   }

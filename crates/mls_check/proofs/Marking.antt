@@ -9,8 +9,8 @@ use Rattle.mls_tree.specs.Tree.{Tree, leaf, branch, leaf_count, Subtree, subtree
 use Rattle.mls_tree.proofs.Trees.{subtree_at-stands, subtree_at-root, subtree_at-nested, subtree_at-in_left, subtree_at-in_right}
 use Rattle.mls_check.specs.FirstFailure.{IsFirstFailureIn}
 use Rattle.mls_tree.specs.NodeView.{HasChildren, parent_of}
-use Rattle.mls_check.specs.ParentHashValid.{ParentHashValid, IsParentHashValidAt, HasSetParent, IsParentHashValidHere}
-use Rattle.mls_check.specs.ParentHashMarks.{IsMarked, IsMarkedAt, AreSound, AreKept, AreAllMarkedAt, AreAllMarkedUnder}
+use Rattle.mls_check.specs.ParentHashValid.{ParentHashValid, IsParentHashValidAt, IsNonBlankParent, IsParentHashValidHere}
+use Rattle.mls_check.specs.ParentHashMarks.{IsMarked, IsMarkedAt, MarksAreValid, AreKept, AreAllMarkedAt, AreAllMarkedUnder}
 use Rattle.mls_check.proofs.Outside.{outside_above}
 
 -- an answer that was true exactly where P holds
@@ -47,7 +47,7 @@ module _ (H : List ℕ → List ℕ) (t : Tree) (marks : List Bool) where
       ]
 
   -- marks that are sound and whole tell which parents are reached
-  pub marks-marked : AreSound H t marks → ((s : Subtree) → subtree_at 0 t (root_node_index 0 t) ≡ Some s → (q : ℕ) (u : Subtree) → subtree_at s.first s.tree q ≡ Some u → ParentHashValid H (leaf_count t) u → IsMarked marks q)
+  pub marks-marked : MarksAreValid H t marks → ((s : Subtree) → subtree_at 0 t (root_node_index 0 t) ≡ Some s → (q : ℕ) (u : Subtree) → subtree_at s.first s.tree q ≡ Some u → ParentHashValid H (leaf_count t) u → IsMarked marks q)
       → (o : Option ℕ) → IsFirstFailureIn (IsMarkedAt t marks) o → IsFirstFailureIn (IsParentHashValidAt H t) o
   marks-marked sound whole o f = go o f
     where
@@ -61,10 +61,10 @@ module _ (H : List ℕ → List ℕ) (t : Tree) (marks : List Bool) where
       go None f = λ p. there p (f p)
       go (Some p) f = record { fails = λ h. f.fails (back p h); earlier = λ q l. there q (f.earlier q l) }
 
-parent-set : (s : Subtree) → HasSetParent s.tree → is_some (parent_of (root_entry s.tree)) ≡ true
+parent-set : (s : Subtree) → IsNonBlankParent s.tree → is_some (parent_of (root_entry s.tree)) ≡ true
 parent-set s h = go s.tree h
   where
-    go : (v : Tree) → HasSetParent v → is_some (parent_of (root_entry v)) ≡ true
+    go : (v : Tree) → IsNonBlankParent v → is_some (parent_of (root_entry v)) ≡ true
     go (leaf _) h = absurd h
     go (branch l None r) h = absurd h
     go (branch l (Some p) r) h = refl

@@ -15,7 +15,7 @@ use Rattle.mls_tree.specs.NodeView.{HasChildren}
 use Rattle.mls_tree.proofs.Choices.{below, from}
 use Rattle.mls_tree.proofs.Descent.{depth}
 use Rattle.mls_check.specs.UnmergedInAll.{is_unmerged_in_all_at}
-use Rattle.mls_check.specs.UnmergedLists.{lists, is_unmerged_in_all, is_consistent, HasConsistentUnmergedAt, IsSortedAt, HasSortedList}
+use Rattle.mls_check.specs.UnmergedLists.{is_blank_or_lists, is_unmerged_in_all, is_consistent, HasConsistentUnmergedAt, IsSortedAt, HasSortedList}
 use Rattle.mls_check.proofs.Elements.{contains-head, contains-tail, all-each, and-left}
 use Rattle.mls_check.proofs.Outside.{outside_above}
 use Rattle.mls_check.proofs.Walks.{one-fails, list_all-and, list_all-same, contained}
@@ -66,8 +66,8 @@ module _ (t : Tree) (p q u m : ℕ) (n : Option ParentNode) (h : HasChildren t p
   abbrev pub in_child : ℕ → Bool
   in_child i = if nat_lt i (h.first + leaf_count h.left) then is_unmerged_in_all i h.first h.left else is_unmerged_in_all i (h.first + leaf_count h.left) h.right
 
-  pub parent-entered : (leaves : List ℕ) → list_all (λ i. is_unmerged_in_all_at (subtree_at 0 t p) i) leaves ≡ (list_all (λ i. lists n i) leaves && list_all in_child leaves)
-  parent-entered leaves = (λ j. list_all (λ i. is_unmerged_in_all_at (h.whole j) i) leaves) ∙ list_all-and (λ i. lists n i) in_child leaves
+  pub parent-entered : (leaves : List ℕ) → list_all (λ i. is_unmerged_in_all_at (subtree_at 0 t p) i) leaves ≡ (list_all (λ i. is_blank_or_lists n i) leaves && list_all in_child leaves)
+  parent-entered leaves = (λ j. list_all (λ i. is_unmerged_in_all_at (h.whole j) i) leaves) ∙ list_all-and (λ i. is_blank_or_lists n i) in_child leaves
 
   pub children-entered : (leaves before after : List ℕ) → leaves ≡ before ++ after → All (λ i. i < m) before → All (λ i. m ≤ i) after
       → list_all in_child leaves ≡ (list_all (λ i. is_unmerged_in_all_at (subtree_at 0 t q) i) before && list_all (λ i. is_unmerged_in_all_at (subtree_at 0 t u) i) after)
@@ -83,16 +83,16 @@ module _ (t : Tree) (p q u m : ℕ) (n : Option ParentNode) (h : HasChildren t p
       (All-weaker (λ i. m ≤ i) (λ i. in_child i ≡ is_unmerged_in_all_at (subtree_at 0 t u) i)
       (λ i l. from i (h.first + leaf_count h.left) (is_unmerged_in_all i h.first h.left) (is_unmerged_in_all i (h.first + leaf_count h.left) h.right) (let s = h.split in omega (arith, l, s)) ∙ sym (ap (λ s. is_unmerged_in_all_at s i) h.right_child)) after high))
 
-  pub apart-entered : (leaves before after : List ℕ) → leaves ≡ before ++ after → All (λ i. i < m) before → All (λ i. m ≤ i) after → list_all (λ i. lists n i) leaves ≡ true
+  pub apart-entered : (leaves before after : List ℕ) → leaves ≡ before ++ after → All (λ i. i < m) before → All (λ i. m ≤ i) after → list_all (λ i. is_blank_or_lists n i) leaves ≡ true
       → list_all (λ i. is_unmerged_in_all_at (subtree_at 0 t p) i) leaves
       ≡ (list_all (λ i. is_unmerged_in_all_at (subtree_at 0 t q) i) before && list_all (λ i. is_unmerged_in_all_at (subtree_at 0 t u) i) after)
   apart-entered leaves before after e low high listed =
       parent-entered leaves ∙ ap (λ a. a && list_all in_child leaves) listed ∙ children-entered leaves before after e low high
 
 -- a parent lists each of its own leaves
-own-listed : (n : ParentNode) (xs : List ℕ) → ((i : ℕ) → Contains xs i → Contains n.unmerged i) → list_all (λ i. lists (Some n) i) xs ≡ true
+own-listed : (n : ParentNode) (xs : List ℕ) → ((i : ℕ) → Contains xs i → Contains n.unmerged i) → list_all (λ i. is_blank_or_lists (Some n) i) xs ≡ true
 own-listed n [] h = refl
-own-listed n (x ∷ xs) h = ap (λ a. a && list_all (λ i. lists (Some n) i) xs) (contained n.unmerged x (h x (contains-head x xs))) ∙ own-listed n xs (λ i c. h i (contains-tail x xs i c))
+own-listed n (x ∷ xs) h = ap (λ a. a && list_all (λ i. is_blank_or_lists (Some n) i) xs) (contained n.unmerged x (h x (contains-head x xs))) ∙ own-listed n xs (λ i c. h i (contains-tail x xs i c))
 
 module _ (t : Tree) (p q u m : ℕ) where
   pub consistent-parent : (n : ParentNode) → (h : HasChildren t p q u m (Some n))

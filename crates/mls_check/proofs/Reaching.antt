@@ -13,10 +13,10 @@ use Rattle.mls_tree.proofs.Trees.{leaf_count-positive, subtree_at-stands, subtre
 use Rattle.mls_hash.specs.ParentHash.{parent_hash, parent_hash_at, root_parent_hash}
 use Rattle.mls_hash.specs.declared.side.Side.{Side}
 use Rattle.mls_hash.specs.declared.side.Side.TheVariants.{Left, Right}
-use Rattle.mls_check.specs.UnmergedLists.{is_unmerged_in_all, is_consistent, lists, HasConsistentUnmerged}
+use Rattle.mls_check.specs.UnmergedLists.{is_unmerged_in_all, is_consistent, is_blank_or_lists, HasConsistentUnmerged}
 use Rattle.mls_tree.specs.NodeView.{HasChildren}
 use Rattle.mls_check.specs.ParentHashValid.{linked_hash, AreChildren, IsUnmergedUnder, ParentHashLink, ParentHashStep, IsLeaf, ParentHashValid, from_leaf, from_parent, IsParentHashValidHere}
-use Rattle.mls_check.specs.ParentHashMarks.{IsOnlyUnlisted, IsMarked, IsChainEnd, IsChainPredecessorIn, HasParentHash, AreSound, AreAllMarkedUnder}
+use Rattle.mls_check.specs.ParentHashMarks.{IsOnlyUnlisted, IsMarked, IsChainEnd, IsChainPredecessorIn, HasParentHash, MarksAreValid, AreAllMarkedUnder}
 use Rattle.mls_check.proofs.Lone.{lone_once}
 use Rattle.mls_check.proofs.Elements.{contains-nil, contains-cons, contains-head, contains-tail, contains-found, all-each, and-left, and-right, unmerged-in, unmerged-listed}
 
@@ -26,7 +26,7 @@ use Rattle.mls_check.proofs.Elements.{contains-nil, contains-cons, contains-head
 pub entered-range : (i first : ℕ) (t : Tree) → IsTrue (is_unmerged_in_all i first t) → (first ≤ i) × (i < first + leaf_count t)
 entered-range i first (leaf x) h = let e = eqb-true i first (and-left (i == first) (is_some x) h) in (omega arith, omega arith)
 entered-range i first (branch l p r) h =
-    let g = and-right (lists p i) _ h in
+    let g = and-right (is_blank_or_lists p i) _ h in
     elim (cases_lt i (first + leaf_count l)) [
       | inl a ↦
           (let k = entered-range i first l (sym (below i (first + leaf_count l) (is_unmerged_in_all i first l) (is_unmerged_in_all i (first + leaf_count l) r) a) ∙ g) in
@@ -53,7 +53,7 @@ entered-resolved n i first (branch l None r) lt h =
     ]
 entered-resolved n i first (branch l (Some p) r) lt h =
     contains-tail (2 * (first + leaf_count l) - 1) (unmerged_node_indices n p.unmerged) (2 * i)
-    (unmerged-in n p.unmerged i (contains-found p.unmerged i (and-left (lists (Some p) i) _ h)) lt)
+    (unmerged-in n p.unmerged i (contains-found p.unmerged i (and-left (is_blank_or_lists (Some p) i) _ h)) lt)
 
 -- ---- resolutions
 
@@ -129,7 +129,7 @@ module _ (H : List ℕ → List ℕ) (t : Tree) (node : ParentNode) (child other
   link-lone d k = record {
     here = k.resolved;
     unlisted = λ w.
-        let st = subtree_at-stands child.first child.tree k.node_index d k.stands in
+        let st = subtree_at-stands child.first child.tree k.node_index d k.descendant_is in
         let e = w.2 in
         let lo : child.first ≤ w.0 = omega (arith, st.node_index, st.from_left, root_node_index-above d.first d.tree) in
         let hi : w.0 < child.first + leaf_count child.tree = omega (arith, st.node_index, st.to_right, root_node_index-below d.first d.tree) in
@@ -154,7 +154,7 @@ module _ (H : List ℕ → List ℕ) (t : Tree) (node : ParentNode) (child other
 
   module _ (p : ℕ) (side : Side) (hashed : parent_hash_at H t p side ≡ parent_hash H node other.first other.tree) (marks : List Bool) where
     -- a candidate that carries the parent hash is a link
-    pub linked-up : AreSound H t marks → (o : Option ℕ) → IsChainPredecessorIn t node.unmerged c marks o → HasParentHash H t p side o
+    pub linked-up : MarksAreValid H t marks → (o : Option ℕ) → IsChainPredecessorIn t node.unmerged c marks o → HasParentHash H t p side o
         → (d : Subtree) × ParentHashLink H (leaf_count t) node child other d × (IsLeaf d.tree ⊎ ParentHashValid H (leaf_count t) d)
     linked-up sound None k h = absurd h
     linked-up sound (Some b) k h =
@@ -166,7 +166,7 @@ module _ (H : List ℕ → List ℕ) (t : Tree) (node : ParentNode) (child other
           d.0,
           record {
             node_index = b;
-            stands = d.1;
+            descendant_is = d.1;
             hash = h.0;
             linked = ap (λ o. linked_hash (entry_of o)) (sym whole) ∙ h.1;
             expected = sym hashed ∙ h.2;
@@ -186,11 +186,11 @@ module _ (H : List ℕ → List ℕ) (t : Tree) (node : ParentNode) (child other
     linked-down marked o k d link e = go o k
       where
         whole : subtree_at 0 t link.node_index ≡ Some d
-        whole = subtree_at-nested 0 t c child at link.node_index d link.stands
+        whole = subtree_at-nested 0 t c child at link.node_index d link.descendant_is
 
         ended : (IsLeaf d.tree ⊎ ParentHashValid H (leaf_count t) d) → IsChainEnd marks link.node_index
         ended (inl l) = inl (subst (λ v. v % 2 ≡ 0) (sym (subtree_at-stands 0 t link.node_index d whole).node_index) (leaf-even d.first d.tree l))
-        ended (inr r) = inr (marked link.node_index d link.stands r)
+        ended (inr r) = inr (marked link.node_index d link.descendant_is r)
 
         known : resolution_at t c ≡ Some (resolution (leaf_count t) child.first child.tree)
         known = ap (λ o. option_map (λ (s : Subtree). resolution (leaf_count t) s.first s.tree) o) at
@@ -235,7 +235,7 @@ module _ (H : List ℕ → List ℕ) (t : Tree) (p q u m : ℕ) (node : ParentNo
   hashed-left = ap (λ o. option_and_then (λ (s : Subtree). root_parent_hash H Left s.first s.tree) o) h.whole
 
   -- a chain that comes through the left half
-  pub marks-left : AreSound H t marks → (o : Option ℕ) → IsChainPredecessorIn t node.unmerged q marks o → HasParentHash H t p Right o → IsParentHashValidHere H t p
+  pub marks-left : MarksAreValid H t marks → (o : Option ℕ) → IsChainPredecessorIn t node.unmerged q marks o → HasParentHash H t p Right o → IsParentHashValidHere H t p
   marks-left sound o k c =
       let l = linked-up H t node (record { first = h.first; tree = h.left }) (record { first = h.first + leaf_count h.left; tree = h.right }) q h.left_child consistent entered-left p Right hashed-right marks sound o k c in
       let step : ParentHashStep H (leaf_count t) l.0 (record { first = h.first; tree = branch h.left (Some node) h.right }) = record {
@@ -251,7 +251,7 @@ module _ (H : List ℕ → List ℕ) (t : Tree) (p q u m : ℕ) (node : ParentNo
       )
 
   -- and one through the right half
-  pub marks-right : AreSound H t marks → (o : Option ℕ) → IsChainPredecessorIn t node.unmerged u marks o → HasParentHash H t p Left o → IsParentHashValidHere H t p
+  pub marks-right : MarksAreValid H t marks → (o : Option ℕ) → IsChainPredecessorIn t node.unmerged u marks o → HasParentHash H t p Left o → IsParentHashValidHere H t p
   marks-right sound o k c =
       let l = linked-up H t node (record { first = h.first + leaf_count h.left; tree = h.right }) (record { first = h.first; tree = h.left }) u h.right_child consistent entered-right p Left hashed-left marks sound o k c in
       let step : ParentHashStep H (leaf_count t) l.0 (record { first = h.first; tree = branch h.left (Some node) h.right }) = record {

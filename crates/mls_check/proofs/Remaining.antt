@@ -6,11 +6,11 @@ use Rattle.std.proofs.lemmas.Option.{same_Some, cond_some}
 use Rattle.mls_nodes.specs.declared.leaf.LeafNode.{LeafNode}
 use Rattle.mls_nodes.specs.declared.parent.ParentNode.{ParentNode}
 use Rattle.mls_tree.specs.Tree.{Tree, leaf, branch, height, leaf_count, Subtree, subtree_at, entry_of, root_entry}
-use Rattle.mls_tree.specs.TreeOperations.{put_leaf, change_above, has_set_leaf, truncate, blank_tree, extend, update, remove}
+use Rattle.mls_tree.specs.TreeOperations.{put_leaf, change_above, has_non_blank_leaf, truncate, blank_tree, extend, update, remove}
 use Rattle.mls_tree.proofs.Choices.{below, from}
 use Rattle.mls_tree.proofs.Kept.{either, leaf_count-change_above, leaf_count-put_leaf}
 use Rattle.mls_tree.proofs.Trees.{subtree_at-stands, subtree_at-here, subtree_at-in_left, subtree_at-in_right}
-use Rattle.mls_check.specs.ParentHashValid.{HasSetParent, IsParentHashValid}
+use Rattle.mls_check.specs.ParentHashValid.{IsNonBlankParent, IsParentHashValid}
 use Rattle.mls_check.specs.UnmergedLists.{HasSortedList, is_consistent, HasStrictlyIncreasingLists, HasConsistentUnmerged}
 use Rattle.mls_check.specs.PreservedValidity.{HasValidUnmergedLists, IsParentHashValidTree, HasParentsOf}
 use Rattle.mls_check.proofs.Carrying.{HasOwnList, marks-any}
@@ -20,7 +20,7 @@ use Rattle.mls_check.proofs.Reaching.{in_left, in_right}
 
 -- the same of parts of trees
 abbrev Parents : ℕ → Tree → Tree → Type 0
-Parents first t u = (p : ℕ) (s : Subtree) → subtree_at first t p ≡ Some s → HasSetParent s.tree → subtree_at first u p ≡ Some s
+Parents first t u = (p : ℕ) (s : Subtree) → subtree_at first t p ≡ Some s → IsNonBlankParent s.tree → subtree_at first u p ≡ Some s
 
 -- a subtree is the whole, or one of a half
 descend : (first : ℕ) (l : Tree) (n : Option ParentNode) (r : Tree) (p : ℕ) (s : Subtree) → subtree_at first (branch l n r) p ≡ Some s
@@ -33,15 +33,15 @@ descend first l n r p s e =
     ]
 
 -- a leaf is no parent
-leaf_only : (first : ℕ) (y : Option LeafNode) (p : ℕ) (s : Subtree) → subtree_at first (leaf y) p ≡ Some s → ¬ HasSetParent s.tree
+leaf_only : (first : ℕ) (y : Option LeafNode) (p : ℕ) (s : Subtree) → subtree_at first (leaf y) p ≡ Some s → ¬ IsNonBlankParent s.tree
 leaf_only first y p s e =
-    subst (λ (u : Subtree). ¬ HasSetParent u.tree) (cond_some (nat_eq p (2 * first)) (record { first = first; tree = leaf y }) s e).1 (λ h. h)
+    subst (λ (u : Subtree). ¬ IsNonBlankParent u.tree) (cond_some (nat_eq p (2 * first)) (record { first = first; tree = leaf y }) s e).1 (λ h. h)
 
-blank_only : (first h p : ℕ) (s : Subtree) → subtree_at first (blank_tree h) p ≡ Some s → ¬ HasSetParent s.tree
+blank_only : (first h p : ℕ) (s : Subtree) → subtree_at first (blank_tree h) p ≡ Some s → ¬ IsNonBlankParent s.tree
 blank_only first zero p s e = leaf_only first None p s e
 blank_only first (suc h) p s e =
     elim (descend first (blank_tree h) None (blank_tree h) p s e) [
-      | inl is ↦ subst (λ (u : Subtree). ¬ HasSetParent u.tree) (sym is) (λ set. set)
+      | inl is ↦ subst (λ (u : Subtree). ¬ IsNonBlankParent u.tree) (sym is) (λ set. set)
       | inr (inl a) ↦ blank_only first h p s a
       | inr (inr b) ↦ blank_only (first + leaf_count (blank_tree h)) h p s b
     ]
@@ -51,7 +51,7 @@ under_blank : (first : ℕ) (l k : Tree) (n : Option ParentNode) (r v : Tree) �
     → Parents first (branch l None r) (branch k n v)
 under_blank first l k n r v count a b p s e set =
     elim (descend first l None r p s e) [
-      | inl is ↦ absurd (subst (λ (u : Subtree). HasSetParent u.tree) is set)
+      | inl is ↦ absurd (subst (λ (u : Subtree). IsNonBlankParent u.tree) is set)
       | inr (inl x) ↦ in_left first k n v p s (a p s x set)
       | inr (inr y) ↦ in_right first k n v p s (ap (λ m. subtree_at (first + m) v p) (sym count) ∙ b p s y set)
     ]
@@ -98,7 +98,7 @@ parents_cleared first (branch l n r) i x =
 parents_shrink : (first : ℕ) (t : Tree) → Parents first (truncate t) t
 parents_shrink first (leaf y) = λ p s e set. e
 parents_shrink first (branch l n r) =
-    either (λ u. Parents first u (branch l n r)) (has_set_leaf r) (branch l n r) (truncate l) (λ p s e set. e)
+    either (λ u. Parents first u (branch l n r)) (has_non_blank_leaf r) (branch l n r) (truncate l) (λ p s e set. e)
     (λ p s e set. in_left first l n r p s (parents_shrink first l p s e set))
 
 pub shrink_parents : (t : Tree) → HasParentsOf (truncate t) t
@@ -107,7 +107,7 @@ shrink_parents t = parents_shrink 0 t
 pub grow_parents : (t : Tree) → HasParentsOf (extend t) t
 grow_parents t p s e set =
     elim (descend 0 t None (blank_tree (height t)) p s e) [
-      | inl is ↦ absurd (subst (λ (u : Subtree). HasSetParent u.tree) is set)
+      | inl is ↦ absurd (subst (λ (u : Subtree). IsNonBlankParent u.tree) is set)
       | inr (inl a) ↦ a
       | inr (inr b) ↦ absurd (blank_only (0 + leaf_count t) (height t) p s b set)
     ]
@@ -123,19 +123,19 @@ remove_parents t i p s e set = parents_cleared 0 t i None p s (parents_shrink 0 
 -- ---- sound trees
 
 module _ (t u : Tree) (h : HasParentsOf t u) where
-  sorted_top : (s : Subtree) → (HasSetParent s.tree → HasSortedList (root_entry s.tree)) → HasSortedList (root_entry s.tree)
+  sorted_top : (s : Subtree) → (IsNonBlankParent s.tree → HasSortedList (root_entry s.tree)) → HasSortedList (root_entry s.tree)
   sorted_top s k = go s.tree k
     where
-      go : (v : Tree) → (HasSetParent v → HasSortedList (root_entry v)) → HasSortedList (root_entry v)
+      go : (v : Tree) → (IsNonBlankParent v → HasSortedList (root_entry v)) → HasSortedList (root_entry v)
       go (leaf None) k = tt
       go (leaf (Some x)) k = tt
       go (branch l None r) k = tt
       go (branch l (Some q) r) k = k tt
 
-  consistent_top : (s : Subtree) → (HasSetParent s.tree → IsTrue (is_consistent s.first s.tree)) → IsTrue (is_consistent s.first s.tree)
+  consistent_top : (s : Subtree) → (IsNonBlankParent s.tree → IsTrue (is_consistent s.first s.tree)) → IsTrue (is_consistent s.first s.tree)
   consistent_top s k = go s.tree k
     where
-      go : (v : Tree) → (HasSetParent v → IsTrue (is_consistent s.first v)) → IsTrue (is_consistent s.first v)
+      go : (v : Tree) → (IsNonBlankParent v → IsTrue (is_consistent s.first v)) → IsTrue (is_consistent s.first v)
       go (leaf x) k = refl
       go (branch l None r) k = refl
       go (branch l (Some q) r) k = k tt

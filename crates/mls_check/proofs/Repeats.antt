@@ -9,7 +9,7 @@ use Rattle.std.proofs.lemmas.Option.{same_Some, none-some}
 use Rattle.std.proofs.lemmas.Bool.{cases_lt, cases_order, false≢true}
 use Rattle.std.proofs.lemmas.Bool.Decides.{Decides-at, Decides-like, Decides-or}
 use Rattle.mls_tree.specs.Tree.{Tree, leaf_count, entry_of}
-use Rattle.mls_check.specs.DistinctKeys.{key_at, HaveOneKey, HasUniqueKeyAt, IsDistinct, encryption_key}
+use Rattle.mls_check.specs.DistinctKeys.{encryption_key_at, HaveOneKey, HasUniqueKeyAt, IsDistinct, encryption_key}
 use Rattle.mls_check.specs.FirstFailure.{IsFirstFailureIn}
 use Rattle.mls_check.proofs.Outside.{outside_above}
 use Rattle.mls_check.proofs.Differing.{AreApart}
@@ -22,7 +22,7 @@ by_bytes x y = slice_cmp nat_cmp x.now y.now
 pub record HasKey (t : Tree) (low : ℕ) (key : List ℕ) : Type 0 where
   pub node_index : ℕ
   pub from : low ≤ node_index
-  pub is : key_at t node_index ≡ Some key
+  pub is : encryption_key_at t node_index ≡ Some key
 
 -- the set has just the keys of the places from `low` on
 abbrev pub HoldsKeys : Tree → ℕ → BTreeSet (Bor (List ℕ)) → Type 0
@@ -46,7 +46,7 @@ pub record Walked (t : Tree) (low : ℕ) (set : BTreeSet (Bor (List ℕ))) (firs
 same_bytes : (a b : List ℕ) → Decides (is_eq (slice_cmp nat_cmp a b)) (a ≡ b)
 same_bytes a b = Decides-at _ _ (sym (texts_ties a b)) (bytes_decides a b)
 
-pub no_key_above : (t : Tree) (n p : ℕ) → n + 1 ≡ 2 * leaf_count t → n ≤ p → key_at t p ≡ None
+pub no_key_above : (t : Tree) (n p : ℕ) → n + 1 ≡ 2 * leaf_count t → n ≤ p → encryption_key_at t p ≡ None
 no_key_above t n p e l = ap (λ o. option_map encryption_key (entry_of o)) (outside_above t p n e l)
 
 pub walked-start : (t : Tree) (n : ℕ) (set : BTreeSet (Bor (List ℕ))) → n + 1 ≡ 2 * leaf_count t → IsEmpty set → Walked t n set None
@@ -69,15 +69,15 @@ module _ (t : Tree) (low : ℕ) (set : BTreeSet (Bor (List ℕ))) (first : Optio
   wider : (k : List ℕ) → HasKey t low k → HasKey t (low - 1) k
   wider k h = record { node_index = h.node_index; from = omega (arith, h.from); is = h.is }
 
-  here_or_later : (k : List ℕ) → HasKey t (low - 1) k → (key_at t (low - 1) ≡ Some k) ⊎ HasKey t low k
+  here_or_later : (k : List ℕ) → HasKey t (low - 1) k → (encryption_key_at t (low - 1) ≡ Some k) ⊎ HasKey t low k
   here_or_later k h =
       elim (cases_lt h.node_index low) [
-        | inl u ↦ inl (let e : low - 1 ≡ h.node_index = omega (arith, h.from) in ap (λ p. key_at t p) e ∙ h.is)
+        | inl u ↦ inl (let e : low - 1 ≡ h.node_index = omega (arith, h.from) in ap (λ p. encryption_key_at t p) e ∙ h.is)
         | inr g ↦ inr (record { node_index = h.node_index; from = g; is = h.is })
       ]
 
   -- at a blank place nothing changes
-  pub walked-blank : key_at t (low - 1) ≡ None → Walked t (low - 1) set first
+  pub walked-blank : encryption_key_at t (low - 1) ≡ None → Walked t (low - 1) set first
   walked-blank b = record {
     held = λ k. (
       λ e. wider k.now ((w.held k).0 e),
@@ -86,7 +86,7 @@ module _ (t : Tree) (low : ℕ) (set : BTreeSet (Bor (List ℕ))) (first : Optio
     found = first_later-same t low pos first w.found (λ l. none-some _ (sym b ∙ l.one_key.here));
   }
 
-  module _ (k : Bor (List ℕ)) (e : key_at t (low - 1) ≡ Some k.now) (new : BTreeSet (Bor (List ℕ))) (u : Updates by_bytes set new k true) where
+  module _ (k : Bor (List ℕ)) (e : encryption_key_at t (low - 1) ≡ Some k.now) (new : BTreeSet (Bor (List ℕ))) (u : Updates by_bytes set new k true) where
     held-more : HoldsKeys t (low - 1) new
     held-more q =
         Decides-at _ _ (u.0 q ∙ either (is_eq (by_bytes k q)) (contains by_bytes set q))
@@ -136,7 +136,7 @@ walked-end t set first low z w = go first (subst (λ v. IsFirstLater t v first) 
     }
 
 -- keys that are apart at all places of the tree are so everywhere
-pub distinct-apart : (t : Tree) (n : ℕ) → n + 1 ≡ 2 * leaf_count t → AreApart (key_at t) n
+pub distinct-apart : (t : Tree) (n : ℕ) → n + 1 ≡ 2 * leaf_count t → AreApart (encryption_key_at t) n
     → IsDistinct t
 distinct-apart t n e apart p = own_key t p (λ q _ w.
     let one = w.one_key in

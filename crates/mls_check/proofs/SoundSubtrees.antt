@@ -2,7 +2,7 @@
 use Rattle.std.proofs.Common.{◌≡◌, ℕ, ◌+◌, IsTrue, List, Option, Some, None, refl, subst}
 use Rattle.mls_tree.specs.Tree.{Tree, leaf, branch, leaf_count, Subtree, subtree_at, root_entry, entry_of}
 use Rattle.mls_hash.specs.ParentHash.{root_parent}
-use Rattle.mls_check.specs.ParentHashValid.{ParentHashValid, HasSetParent}
+use Rattle.mls_check.specs.ParentHashValid.{ParentHashValid, IsNonBlankParent}
 use Rattle.mls_check.specs.UnmergedLists.{HasSortedList, HasSortedEntries, is_consistent, HasStrictlyIncreasingLists, HasConsistentUnmerged}
 use Rattle.mls_check.proofs.OwnLeaves.{own_leaf}
 use Rattle.mls_check.specs.PreservedValidity.{IsParentHashValidTree}
@@ -13,7 +13,7 @@ use Rattle.mls_check.proofs.Carrying.{HasOwnList}
 pub record IsSoundSubtree (H : List ℕ → List ℕ) (n : ℕ) (first : ℕ) (t : Tree) : Type 0 where
   pub sorted : HasSortedEntries (root_parent t)
   pub consistent : IsTrue (is_consistent first t)
-  pub parent_hash : HasSetParent t → ParentHashValid H n (record { first = first; tree = t })
+  pub parent_hash : IsNonBlankParent t → ParentHashValid H n (record { first = first; tree = t })
 
 abbrev pub HasSoundSubtrees : (List ℕ → List ℕ) → ℕ → ℕ → Tree → Type 0
 HasSoundSubtrees H n = Everywhere (IsSoundSubtree H n)
@@ -76,7 +76,7 @@ module _ (H : List ℕ → List ℕ) where
 
   -- ---- blank parents, and leaves
 
-  pub sound_leaf : (n first : ℕ) (t : Tree) → ¬ HasSetParent t → IsTrue (is_consistent first t) → HasSortedEntries (root_parent t) → IsSoundSubtree H n first t
+  pub sound_leaf : (n first : ℕ) (t : Tree) → ¬ IsNonBlankParent t → IsTrue (is_consistent first t) → HasSortedEntries (root_parent t) → IsSoundSubtree H n first t
   sound_leaf n first t h consistent sorted = record { sorted = sorted; consistent = consistent; parent_hash = λ set. absurd (h set) }
 
   pub sound_blank : (n first : ℕ) (l r : Tree) → HasSoundSubtrees H n first l → HasSoundSubtrees H n (first + leaf_count l) r → HasSoundSubtrees H n first (branch l None r)

@@ -294,13 +294,13 @@ module _ (j : ℕ) (x : LeafNode) where
     touch-link b p child other d fresh away in_child in_other k =
         let list = entered_list j b p.unmerged in
         let count = leaf_count-touch child.first child.tree in
-        let free : IsFree d.first d.tree = everywhere-at IsFreeAt child.first child.tree k.node_index d k.stands fresh.free in
-        let at = subtree_at-stands child.first child.tree k.node_index d k.stands in
+        let free : IsFree d.first d.tree = everywhere-at IsFreeAt child.first child.tree k.node_index d k.descendant_is fresh.free in
+        let at = subtree_at-stands child.first child.tree k.node_index d k.descendant_is in
         let hashed = strip-touch p.unmerged list (λ i e. list-others j b p.unmerged i e) other.first other.tree away.free
         (λ lo hi. (let e = in_other lo hi in subst (λ c. is_among (entered_list j c p.unmerged) j ≡ true) (sym e) (contained (entered_list j true p.unmerged) j (list-has_new j p.unmerged)))) in
         record {
           node_index = k.node_index;
-          stands = subtree_at-touch child.first child.tree k.node_index d k.stands;
+          descendant_is = subtree_at-touch child.first child.tree k.node_index d k.descendant_is;
           hash = k.hash;
           linked = linked-touch d.first d.tree k.hash free k.linked;
           expected =
@@ -345,7 +345,7 @@ module _ (j : ℕ) (x : LeafNode) where
         let fresh_right : IsFresh right = record { free = fresh.free.2; low = omega (arith, fresh.low) } in
         let link = coe_link d q child other left right (sym a) b.0 b.1 k in
         let c = is_under first (leaf_count l + leaf_count r) in
-        let at = subtree_at-stands first l link.node_index d link.stands in (
+        let at = subtree_at-stands first l link.node_index d link.descendant_is in (
           record {
             parent = touched_node c p;
             child = touched left;
@@ -355,7 +355,7 @@ module _ (j : ℕ) (x : LeafNode) where
                 (λ lo hi. under first (leaf_count l + leaf_count r) lo (omega (arith, hi)))
                 (λ lo hi. under first (leaf_count l + leaf_count r) (omega (arith, lo)) (omega (arith, hi))) link;
           },
-          record { free = everywhere-at IsFreeAt first l link.node_index d link.stands fresh.free.1; low = omega (arith, at.to_right, fresh.low) },
+          record { free = everywhere-at IsFreeAt first l link.node_index d link.descendant_is fresh.free.1; low = omega (arith, at.to_right, fresh.low) },
         )
     step-in d first (branch l (Some p) r) q child other (a, inr b) fresh k =
         let left : Subtree = record { first = first; tree = l } in
@@ -364,7 +364,7 @@ module _ (j : ℕ) (x : LeafNode) where
         let fresh_right : IsFresh right = record { free = fresh.free.2; low = omega (arith, fresh.low) } in
         let link = coe_link d q child other right left (sym a) b.0 b.1 k in
         let c = is_under first (leaf_count l + leaf_count r) in
-        let at = subtree_at-stands (first + leaf_count l) r link.node_index d link.stands in (
+        let at = subtree_at-stands (first + leaf_count l) r link.node_index d link.descendant_is in (
           record {
             parent = touched_node c p;
             child = touched right;
@@ -374,7 +374,7 @@ module _ (j : ℕ) (x : LeafNode) where
                 (λ lo hi. under first (leaf_count l + leaf_count r) (omega (arith, lo)) (omega (arith, hi)))
                 (λ lo hi. under first (leaf_count l + leaf_count r) lo (omega (arith, hi))) link;
           },
-          record { free = everywhere-at IsFreeAt (first + leaf_count l) r link.node_index d link.stands fresh.free.2; low = omega (arith, at.to_right, fresh.low) },
+          record { free = everywhere-at IsFreeAt (first + leaf_count l) r link.node_index d link.descendant_is fresh.free.2; low = omega (arith, at.to_right, fresh.low) },
         )
 
     -- an addition keeps each step

@@ -12,15 +12,15 @@ abbrev pub encryption_key : NodeValue → List ℕ
 encryption_key (leaf_node x) = x.encryption_key
 encryption_key (parent_node p) = p.encryption_key
 
--- `key_at t p` is the encryption key of the non-blank node at node index p.
-abbrev pub key_at : Tree → ℕ → Option (List ℕ)
-key_at t p = option_map encryption_key (node_at t p)
+-- `encryption_key_at t p` is the encryption key of the non-blank node at node index p.
+abbrev pub encryption_key_at : Tree → ℕ → Option (List ℕ)
+encryption_key_at t p = option_map encryption_key (node_at t p)
 
 -- `HaveOneKey t p q`: the nodes at p and q are non-blank and have one encryption key.
 pub record HaveOneKey (t : Tree) (p q : ℕ) : Type 0 where
   pub key : List ℕ
-  pub here : key_at t p ≡ Some key
-  pub there : key_at t q ≡ Some key
+  pub here : encryption_key_at t p ≡ Some key
+  pub there : encryption_key_at t q ≡ Some key
 
 -- `HasUniqueKeyAt t p`: no other non-blank node has the encryption key of the node at node index p.
 abbrev pub HasUniqueKeyAt : Tree → ℕ → Type 0

@@ -31,18 +31,19 @@ pub record FailsSuite (c : GroupContext) : Type 0 where
 module _ (c : GroupContext) (IsGiven : RatchetTree → Type 0) where
   -- `HasTree c IsGiven t`: the context is supported, and `t` is the given tree.
   pub record HasTree (t : RatchetTree) : Type 0 where
-    pub followed : IsSupportedContext c
+    pub supported : IsSupportedContext c
     pub uses : IsGiven t
 
-  -- `IsReadable c IsGiven t required`: `HasTree` holds, and the group requires `required`, which can be read (RFC 9420, 11.1).
-  pub record IsReadable (t : RatchetTree) (required : RequiredCapabilities) : Type 0 where
+  -- `HasReadableRequirements c IsGiven t required`: `HasTree` holds, and the group requires `required`, which can be
+  -- read (RFC 9420, 11.1).
+  pub record HasReadableRequirements (t : RatchetTree) (required : RequiredCapabilities) : Type 0 where
     pub has_tree : HasTree t
     pub requires : Requires c required
 
-  -- `HasValidTree c IsGiven t required`: `IsReadable` holds, and the tree is valid for the tree hash of the context
-  -- (RFC 9420, 7.9.2, 12.4.3.1).
+  -- `HasValidTree c IsGiven t required`: `HasReadableRequirements` holds, and the tree is valid for the tree hash of
+  -- the context (RFC 9420, 7.9.2, 12.4.3.1).
   pub record HasValidTree (t : RatchetTree) (required : RequiredCapabilities) : Type 0 where
-    pub readable : IsReadable t required
+    pub readable : HasReadableRequirements t required
     pub valid : Valid (hash_of c.cipher_suite) c.tree_hash t.tree
 
   -- `FailsRequirements c IsGiven`: the context is supported and there is a tree, but the required capabilities cannot
@@ -56,8 +57,8 @@ module _ (c : GroupContext) (IsGiven : RatchetTree → Type 0) where
   pub record FailsValid (fault : TreeFault) : Type 0 where
     pub tree : RatchetTree
     pub required : RequiredCapabilities
-    pub readable : IsReadable tree required
-    pub own : fault ≢ trees.OutOfMemory
+    pub readable : HasReadableRequirements tree required
+    pub not_out_of_memory : fault ≢ trees.OutOfMemory
     pub first : IsFirstTreeFault (hash_of c.cipher_suite) c.tree_hash tree.tree fault
 
 module _ (G : VerifyFn) (c : GroupContext) (IsGiven : RatchetTree → Type 0) where
@@ -71,7 +72,7 @@ module _ (G : VerifyFn) (c : GroupContext) (IsGiven : RatchetTree → Type 0) wh
     pub tree : RatchetTree
     pub required : RequiredCapabilities
     pub valid_tree : HasValidTree c IsGiven tree required
-    pub own : fault ≢ members.OutOfMemory
+    pub not_out_of_memory : fault ≢ members.OutOfMemory
     pub first : IsMemberFault G c.cipher_suite c.group_id required tree.tree fault
 
   -- `IsGroupTreeFault G c IsGiven fault`: the fault is that of the first condition that fails. `OutOfMemory` says

@@ -6,7 +6,7 @@ use Rattle.mls_tree.specs.Tree.{Tree, leaf_count, Subtree, subtree_at, node_at}
 use Rattle.mls_tree.specs.Paths.{resolution_at}
 use Rattle.mls_hash.specs.ParentHash.{parent_hash_at}
 use Rattle.mls_hash.specs.declared.side.Side.{Side}
-use Rattle.mls_check.specs.ParentHashValid.{ParentHashValid, linked_hash, HasSetParent}
+use Rattle.mls_check.specs.ParentHashValid.{ParentHashValid, linked_hash, IsNonBlankParent}
 
 -- `IsLeafInList list u`: node index u is that of a leaf of the list.
 abbrev pub IsLeafInList : List ℕ → ℕ → Type 0
@@ -50,9 +50,9 @@ abbrev pub HasParentHash : (List ℕ → List ℕ) → Tree → ℕ → Side →
 HasParentHash H t node_index side None = ⊥
 HasParentHash H t node_index side (Some below) = (hash : List ℕ) × (linked_hash (node_at t below) ≡ Some hash) × (parent_hash_at H t node_index side ≡ Some hash)
 
--- `AreSound H t marks`: each marked parent is parent-hash valid.
-abbrev pub AreSound : (List ℕ → List ℕ) → Tree → List Bool → Type 0
-AreSound H t marks = (q : ℕ) → IsMarked marks q → (s : Subtree) → subtree_at 0 t q ≡ Some s → ParentHashValid H (leaf_count t) s
+-- `MarksAreValid H t marks`: each marked parent is parent-hash valid.
+abbrev pub MarksAreValid : (List ℕ → List ℕ) → Tree → List Bool → Type 0
+MarksAreValid H t marks = (q : ℕ) → IsMarked marks q → (s : Subtree) → subtree_at 0 t q ≡ Some s → ParentHashValid H (leaf_count t) s
 
 -- `AreKept old new`: what was marked is still marked.
 abbrev pub AreKept : List Bool → List Bool → Type 0
@@ -73,4 +73,4 @@ AreAllMarkedUnder H t marks node_index =
 
 -- `IsMarkedAt t marks p`: the parent at node index p is marked, if it is non-blank.
 abbrev pub IsMarkedAt : Tree → List Bool → ℕ → Type 0
-IsMarkedAt t marks p = (s : Subtree) → subtree_at 0 t p ≡ Some s → HasSetParent s.tree → IsMarked marks p
+IsMarkedAt t marks p = (s : Subtree) → subtree_at 0 t p ≡ Some s → IsNonBlankParent s.tree → IsMarked marks p

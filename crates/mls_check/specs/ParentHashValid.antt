@@ -40,7 +40,7 @@ IsUnmergedUnder p s u = (i : ℕ) × Contains p.unmerged i × (s.first ≤ i) ×
 -- resolution of `child`. The rest of that resolution is the set of unmerged leaves of `parent` in `child`.
 pub record ParentHashLink (H : List ℕ → List ℕ) (leaves : ℕ) (parent : ParentNode) (child other descendant : Subtree) : Type 0 where
   pub node_index : ℕ
-  pub stands : subtree_at child.first child.tree node_index ≡ Some descendant
+  pub descendant_is : subtree_at child.first child.tree node_index ≡ Some descendant
   pub hash : List ℕ
   pub linked : linked_hash (root_entry descendant.tree) ≡ Some hash
   pub expected : parent_hash H parent other.first other.tree ≡ Some hash
@@ -67,15 +67,15 @@ pub data ParentHashValid (H : List ℕ → List ℕ) (leaves : ℕ) : Subtree �
   from_leaf : (descendant above : Subtree) → ParentHashStep H leaves descendant above → IsLeaf descendant.tree → ParentHashValid H leaves above
   from_parent : (descendant above : Subtree) → ParentHashStep H leaves descendant above → ParentHashValid H leaves descendant → ParentHashValid H leaves above
 
--- `HasSetParent t`: the root of the tree is a non-blank parent.
-abbrev pub HasSetParent : Tree → Type 0
-HasSetParent (leaf _) = ⊥
-HasSetParent (branch _ None _) = ⊥
-HasSetParent (branch _ (Some _) _) = Unit {0}
+-- `IsNonBlankParent t`: the root of the tree is a non-blank parent.
+abbrev pub IsNonBlankParent : Tree → Type 0
+IsNonBlankParent (leaf _) = ⊥
+IsNonBlankParent (branch _ None _) = ⊥
+IsNonBlankParent (branch _ (Some _) _) = Unit {0}
 
 -- `IsParentHashValidAt H t p`: the parent at node index p is parent-hash valid, if it is non-blank.
 abbrev pub IsParentHashValidAt : (List ℕ → List ℕ) → Tree → ℕ → Type 0
-IsParentHashValidAt H t p = (s : Subtree) → subtree_at 0 t p ≡ Some s → HasSetParent s.tree → ParentHashValid H (leaf_count t) s
+IsParentHashValidAt H t p = (s : Subtree) → subtree_at 0 t p ≡ Some s → IsNonBlankParent s.tree → ParentHashValid H (leaf_count t) s
 
 -- `IsParentHashValid H t`: every non-blank parent is parent-hash valid (RFC 9420, 7.9.2).
 abbrev pub IsParentHashValid : (List ℕ → List ℕ) → Tree → Type 0

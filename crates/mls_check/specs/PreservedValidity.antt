@@ -3,7 +3,7 @@ use Rattle.std.specs.Prelude.{◌≡◌, ℕ, List, Some}
 use Rattle.mls_nodes.specs.declared.leaf.LeafNode.{LeafNode}
 use Rattle.mls_tree.specs.Tree.{Tree, leaf_count, Subtree, subtree_at}
 use Rattle.mls_tree.specs.TreeOperations.{update, remove, truncate, extend, add}
-use Rattle.mls_check.specs.ParentHashValid.{HasSetParent, ParentHashStep, IsParentHashValid}
+use Rattle.mls_check.specs.ParentHashValid.{IsNonBlankParent, ParentHashStep, IsParentHashValid}
 use Rattle.mls_check.specs.UnmergedLists.{HasStrictlyIncreasingLists, HasConsistentUnmerged}
 
 -- `HasValidUnmergedLists t`: the unmerged lists are strictly increasing and consistent (RFC 9420, 7.1 and 12.4.3.1).
@@ -37,19 +37,19 @@ AddsKeepSteps =
     → IsStepAt H (add t x) low high
 
 -- Adding a member preserves `IsParentHashValidTree`.
-abbrev pub AddsKeepSound : Type 0
-AddsKeepSound = (H : List ℕ → List ℕ) (t : Tree) (x : LeafNode) → IsParentHashValidTree H t → IsParentHashValidTree H (add t x)
+abbrev pub AddsPreserveValidity : Type 0
+AddsPreserveValidity = (H : List ℕ → List ℕ) (t : Tree) (x : LeafNode) → IsParentHashValidTree H t → IsParentHashValidTree H (add t x)
 
 -- ---- the other operations
 
 -- `HasParentsOf t u`: each non-blank parent of `t` is in `u` at the same node index, with the same subtree.
 abbrev pub HasParentsOf : Tree → Tree → Type 0
-HasParentsOf t u = (p : ℕ) (s : Subtree) → subtree_at 0 t p ≡ Some s → HasSetParent s.tree → subtree_at 0 u p ≡ Some s
+HasParentsOf t u = (p : ℕ) (s : Subtree) → subtree_at 0 t p ≡ Some s → IsNonBlankParent s.tree → subtree_at 0 u p ≡ Some s
 
 -- An operation that changes no subtree of a non-blank parent that remains preserves `IsParentHashValidTree`: the list
 -- and the links of a parent are in its subtree.
-abbrev pub PartsAreSound : Type 0
-PartsAreSound = (H : List ℕ → List ℕ) (t u : Tree) → HasParentsOf t u → IsParentHashValidTree H u → IsParentHashValidTree H t
+abbrev pub EqualParentsPreserveValidity : Type 0
+EqualParentsPreserveValidity = (H : List ℕ → List ℕ) (t u : Tree) → HasParentsOf t u → IsParentHashValidTree H u → IsParentHashValidTree H t
 
 -- Replacing a leaf changes no such subtree (RFC 9420, 12.1.2).
 abbrev pub UpdatesTouchNoParent : Type 0

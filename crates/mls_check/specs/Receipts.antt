@@ -36,9 +36,9 @@ unfoldable pub receipt_lines : List ℕ → List (List ℕ)
 receipt_lines [] = []
 receipt_lines (b ∷ bytes) = if b == 10 then [] ∷ receipt_lines bytes else before_lines b (receipt_lines bytes)
 
--- `decoded result` is what was decoded, if anything.
+-- `decoded result` is the bytes that were decoded from hexadecimal text, if they were.
 abbrev pub decoded : Result (List ℕ) FromHexError → Option (List ℕ)
-decoded (Ok digest) = Some digest
+decoded (Ok bytes) = Some bytes
 decoded (Err _) = None
 
 -- `digest_of line` is the digest on a line: 64 hexadecimal digits, of either case, are 32 bytes.

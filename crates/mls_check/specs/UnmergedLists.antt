@@ -26,17 +26,17 @@ IsSortedAt t p = HasSortedList (node_at t p)
 abbrev pub HasStrictlyIncreasingLists : Tree → Type 0
 HasStrictlyIncreasingLists t = (p : ℕ) → IsSortedAt t p
 
--- `lists p i`: the parent has leaf i in its unmerged list, or is blank.
-abbrev pub lists : Option ParentNode → ℕ → Bool
-lists None i = true
-lists (Some p) i = list_any (λ x. x == i) p.unmerged
+-- `is_blank_or_lists p i`: the parent has leaf i in its unmerged list, or is blank.
+abbrev pub is_blank_or_lists : Option ParentNode → ℕ → Bool
+is_blank_or_lists None i = true
+is_blank_or_lists (Some p) i = list_any (λ x. x == i) p.unmerged
 
 -- `is_unmerged_in_all i first t`: leaf i of the tree `t`, whose first leaf is `first`, is non-blank, and every
 -- non-blank parent above it in `t` has it in its unmerged list (RFC 9420, 12.4.3.1).
 abbrev pub is_unmerged_in_all : ℕ → ℕ → Tree → Bool
 is_unmerged_in_all i first (leaf x) = (i == first) && is_some x
 is_unmerged_in_all i first (branch l p r) =
-    lists p i && (if nat_lt i (first + leaf_count l) then is_unmerged_in_all i first l else is_unmerged_in_all i (first + leaf_count l) r)
+    is_blank_or_lists p i && (if nat_lt i (first + leaf_count l) then is_unmerged_in_all i first l else is_unmerged_in_all i (first + leaf_count l) r)
 
 -- `is_consistent first t`: the unmerged leaves of the root are consistent. Each is a non-blank leaf below it and is
 -- listed by every non-blank parent between the two (RFC 9420, 12.4.3.1). True if the root is blank or a leaf.

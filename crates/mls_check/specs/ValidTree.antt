@@ -40,9 +40,9 @@ pub record IsFirstRepeated (H : List ℕ → List ℕ) (hash : List ℕ) (t : Tr
   pub consistent : HasConsistentUnmerged t
   pub first : IsFirstFailure (HasUniqueKeyAt t) p
 
--- `IsFirstUnreached H hash t p`: the conditions of `Valid` before the last one hold, and p is the first node index of a
--- non-blank parent that is not parent-hash valid.
-pub record IsFirstUnreached (H : List ℕ → List ℕ) (hash : List ℕ) (t : Tree) (p : ℕ) : Type 0 where
+-- `IsFirstParentHashInvalid H hash t p`: the conditions of `Valid` before the last one hold, and p is the first node
+-- index of a non-blank parent that is not parent-hash valid.
+pub record IsFirstParentHashInvalid (H : List ℕ → List ℕ) (hash : List ℕ) (t : Tree) (p : ℕ) : Type 0 where
   pub hashed : tree_hash H 0 t ≡ Some hash
   pub sorted : HasStrictlyIncreasingLists t
   pub consistent : HasConsistentUnmerged t
@@ -56,7 +56,7 @@ IsFirstTreeFault H hash t HashDiffers = tree_hash H 0 t ≢ Some hash
 IsFirstTreeFault H hash t (UnmergedUnsorted p) = IsFirstUnsorted H hash t p
 IsFirstTreeFault H hash t (UnmergedUnsound p) = IsFirstInconsistent H hash t p
 IsFirstTreeFault H hash t (KeyRepeated p) = IsFirstRepeated H hash t p
-IsFirstTreeFault H hash t (ParentHashInvalid p) = IsFirstUnreached H hash t p
+IsFirstTreeFault H hash t (ParentHashInvalid p) = IsFirstParentHashInvalid H hash t p
 IsFirstTreeFault H hash t OutOfMemory = Unit {0}
 
 -- Each tree is valid, or some condition fails first at some node index.

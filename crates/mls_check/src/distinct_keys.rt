@@ -4,7 +4,7 @@ ghost use Rattle.std.specs.Prelude.{◌≡◌, IfOk};
 ghost use Rattle.std.specs.Bool.{OnTrue};
 ghost use Rattle.std.specs.Option.{option_copied};
 ghost use Rattle.mls_check.specs.FirstFailure.{IsFirstFailureIn};
-ghost use Rattle.mls_check.specs.DistinctKeys.{key_at, HasUniqueKeyAt, IsDistinct, has_distinct_keys};
+ghost use Rattle.mls_check.specs.DistinctKeys.{encryption_key_at, HasUniqueKeyAt, IsDistinct, has_distinct_keys};
 
 use crate::key_prefixes::{all_differ, key_prefix};
 use crate::node_count::node_index_count;
@@ -15,8 +15,8 @@ use std::alloc::{AllocError, Global};
 use std::collections::BTreeSet;
 
 /// Returns the encryption key of the non-blank node at a node index.
-fn key_at(tree: &PublicTree, node_index: u32) -> Option<&[u8]>
-    ensures { option_copied result ≡ key_at tree.now.tree node_index }
+fn encryption_key_at(tree: &PublicTree, node_index: u32) -> Option<&[u8]>
+    ensures { option_copied result ≡ encryption_key_at tree.now.tree node_index }
 {
     match tree.node(node_index) {
         Some(Node::Leaf(leaf)) => Some(leaf.encryption_key.as_slice()),
@@ -32,7 +32,7 @@ fn has_distinct_prefixes(alloc: Global, tree: &PublicTree) -> Result<bool, Alloc
     let node_indices = node_index_count(tree);
     let mut prefixes = Vec::with_capacity(alloc, node_indices as usize)?;
     for node_index in 0..node_indices {
-        if let Some(key) = key_at(tree, node_index) {
+        if let Some(key) = encryption_key_at(tree, node_index) {
             prefixes.push(key_prefix(key))?;
         }
     }
@@ -49,7 +49,7 @@ fn first_repeated_by_set(alloc: Global, tree: &PublicTree) -> Result<Option<u32>
     let mut node_index = node_index_count(tree);
     while node_index > 0 {
         node_index -= 1;
-        let Some(key) = key_at(tree, node_index) else {
+        let Some(key) = encryption_key_at(tree, node_index) else {
             continue;
         };
         if !later.insert(key)? {

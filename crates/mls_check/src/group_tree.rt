@@ -69,7 +69,7 @@ fn validate_tree_and_leaves<C: SignatureCheck>(
     tree: &PublicTree,
     checker: &C,
 ) -> Result<(), GroupTreeFault>
-    requires followed { IsSupportedContext context.now }
+    requires supported { IsSupportedContext context.now }
     requires suite_of_context { suite ≡ context.now.cipher_suite }
     requires required { Requires context.now required.now }
     ensures members { OnOk result (HasMembers (C.meaning checker.now) context.now
@@ -100,7 +100,7 @@ pub fn validate_group_tree<C: SignatureCheck>(
     tree: &PublicTree,
     checker: &C,
 ) -> Result<RequiredCapabilities, GroupTreeFault>
-    requires followed { IsSupportedContext context.now }
+    requires supported { IsSupportedContext context.now }
     requires suite_of_context { suite ≡ context.now.cipher_suite }
     ensures members { IfOk result (HasMembers (C.meaning checker.now) context.now
         (λ t. t ≡ plain tree.now) (plain tree.now)) }

@@ -18,11 +18,11 @@ pub fn key_prefix(key: &[u8]) -> u64
 }
 
 /// Returns whether the numbers are distinct: sorted, each is below the next.
-pub(crate) fn all_differ(mut numbers: Vec<u64>) -> bool
-    ensures { IsTrue result ↔ AllPairs (λ x y. x ≢ y) numbers.items }
+pub(crate) fn all_differ(mut prefixes: Vec<u64>) -> bool
+    ensures { IsTrue result ↔ AllPairs (λ x y. x ≢ y) prefixes.items }
 {
-    numbers.sort_unstable();
-    numbers
+    prefixes.sort_unstable();
+    prefixes
         .as_slice()
         .is_sorted_by(|lower, upper| *lower < *upper)
 }

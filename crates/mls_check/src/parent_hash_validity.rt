@@ -16,7 +16,7 @@ ghost use Rattle.mls_hash.specs.SubtreeHashes.{AreSubtreeHashes};
 ghost use Rattle.mls_check.specs.FirstFailure.{IsFirstFailureIn};
 ghost use Rattle.mls_check.specs.UnmergedLists.{HasStrictlyIncreasingLists, HasConsistentUnmerged};
 ghost use Rattle.mls_check.specs.ParentHashValid.{linked_hash, IsParentHashValidAt, IsParentHashValidHere};
-ghost use Rattle.mls_check.specs.ParentHashMarks.{RisesInLeaves, IsOnlyUnlisted, IsChainEnd, IsChainPredecessorIn, HasParentHash, AreSound, AreKept, AreAllMarkedAt, AreAllMarkedUnder, IsMarkedAt};
+ghost use Rattle.mls_check.specs.ParentHashMarks.{RisesInLeaves, IsOnlyUnlisted, IsChainEnd, IsChainPredecessorIn, HasParentHash, MarksAreValid, AreKept, AreAllMarkedAt, AreAllMarkedUnder, IsMarkedAt};
 
 use crate::node_count::node_index_count;
 use crate::sorted_leaf_lists::starts_with;
@@ -171,7 +171,7 @@ fn is_parent_hash_valid(
     requires known { AreKnownHashes (hash_of suite) tree.now.tree known.old }
     requires sorted { HasStrictlyIncreasingLists tree.now.tree }
     requires consistent { HasConsistentUnmerged tree.now.tree }
-    requires sound { AreSound (hash_of suite) tree.now.tree marks.now }
+    requires marks_valid { MarksAreValid (hash_of suite) tree.now.tree marks.now }
     requires marked { AreAllMarkedUnder (hash_of suite) tree.now.tree marks.now node_index }
     ensures marks { IfOk result
         (λ b. IsTrue b ↔ IsParentHashValidHere (hash_of suite) tree.now.tree node_index) }
@@ -230,9 +230,9 @@ fn mark_reached(
     requires sorted { HasStrictlyIncreasingLists tree.now.tree }
     requires consistent { HasConsistentUnmerged tree.now.tree }
     requires capacity { length marks.old + 1 ≡ 2 * leaf_count tree.now.tree }
-    requires sound { AreSound (hash_of suite) tree.now.tree marks.old }
+    requires marks_valid { MarksAreValid (hash_of suite) tree.now.tree marks.old }
     ensures known { AreKnownHashes (hash_of suite) tree.now.tree known.new }
-    ensures sound { OnOk result (AreSound (hash_of suite) tree.now.tree marks.new) }
+    ensures marks_valid { OnOk result (MarksAreValid (hash_of suite) tree.now.tree marks.new) }
     ensures preserved { OnOk result (AreKept marks.old marks.new) }
     ensures marked { OnOk result (AreAllMarkedAt (hash_of suite) tree.now.tree marks.new node_index) }
 {

@@ -25,17 +25,17 @@ pub enum TreeFault {
     #[error("the tree hash is not the context's")]
     HashDiffers,
     /// The unmerged list of the parent at the node index is not strictly increasing (RFC 9420, 7.1).
-    #[error("the unmerged leaves of the parent at place {0} do not rise")]
+    #[error("the unmerged leaves of the parent at node index {0} are not strictly increasing")]
     UnmergedUnsorted(u32),
     /// An unmerged leaf of the parent at the node index is no non-blank leaf below it, or a non-blank parent between
     /// the two does not list it (RFC 9420, 7.1 and 12.4.3.1).
-    #[error("an unmerged leaf of the parent at place {0} is no set leaf under it, or a parent between does not list it")]
+    #[error("an unmerged leaf of the parent at node index {0} is no non-blank leaf below it, or a parent between does not list it")]
     UnmergedUnsound(u32),
     /// Another node has the encryption key of the node at the node index (RFC 9420, 12.4.3.1).
-    #[error("another node has the encryption key of the node at place {0}")]
+    #[error("another node has the encryption key of the node at node index {0}")]
     KeyRepeated(u32),
     /// The parent at the node index is not parent-hash valid (RFC 9420, 7.9.2).
-    #[error("no chain of parent hashes leads to the parent at place {0}")]
+    #[error("the parent at node index {0} is not parent-hash valid")]
     ParentHashInvalid(u32),
     /// An allocation failed.
     #[error("out of memory")]

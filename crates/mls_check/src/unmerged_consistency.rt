@@ -10,7 +10,7 @@ ghost use Rattle.std.specs.List.{list_all};
 ghost use Rattle.std.specs.List.Sorted.{IsStrictlyIncreasing};
 ghost use Rattle.mls_tree.specs.Tree.{subtree_at};
 ghost use Rattle.mls_check.specs.FirstFailure.{IsFirstFailureIn};
-ghost use Rattle.mls_check.specs.UnmergedLists.{HasStrictlyIncreasingLists, HasConsistentUnmergedAt, HasSortedEntries, lists, is_unmerged_in_all};
+ghost use Rattle.mls_check.specs.UnmergedLists.{HasStrictlyIncreasingLists, HasConsistentUnmergedAt, HasSortedEntries, is_blank_or_lists, is_unmerged_in_all};
 ghost use Rattle.mls_check.specs.UnmergedInAll.{is_unmerged_in_all_at};
 
 use crate::node_count::node_index_count;
@@ -22,7 +22,7 @@ use mls_tree::{Part, PublicTree, split_leaves};
 fn lists_all(parent: Option<&ParentNode>, leaves: &[u32]) -> bool
     requires sorted { HasSortedEntries (option_copied parent) }
     requires increasing { IsStrictlyIncreasing leaves.now }
-    ensures { result ≡ list_all (λ i. lists (option_copied parent.entry) i) leaves.now }
+    ensures { result ≡ list_all (λ i. is_blank_or_lists (option_copied parent.entry) i) leaves.now }
 {
     match parent {
         Some(parent) => are_among(leaves, parent.unmerged.as_slice()),

@@ -9,10 +9,10 @@ use crate::node_count::node_index_count;
 use mls_tree::PublicTree;
 
 /// Returns whether each number is below the next.
-fn is_strictly_increasing(numbers: &[u32]) -> bool
-    ensures { IsTrue result ↔ IsStrictlyIncreasing numbers.now }
+fn is_strictly_increasing(indices: &[u32]) -> bool
+    ensures { IsTrue result ↔ IsStrictlyIncreasing indices.now }
 {
-    numbers.is_sorted_by(|lower, upper| *lower < *upper)
+    indices.is_sorted_by(|lower, upper| *lower < *upper)
 }
 
 /// Returns whether the unmerged list of the parent at a node index, if it has one, is strictly increasing.

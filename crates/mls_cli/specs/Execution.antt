@@ -48,9 +48,9 @@ module _ {File : Type 0} (F : Opener File) where
     pub memory : outcome ≡ Err Memory → Appends written0 written1 []
     pub failed : (outcome ≡ Err Read) ↔ (F.is_failed ended ≡ true)
 
-  -- `CarriesShow profile k name written0 written1 outcome`: the order `show`.
-  abbrev pub CarriesShow : Profile → ShowKind → List ℕ → Option (List ℕ) → Option (List ℕ) → ReportResult → Type 0
-  CarriesShow profile k name written0 written1 outcome =
+  -- `ExecutesShow profile k name written0 written1 outcome`: the order `show`.
+  abbrev pub ExecutesShow : Profile → ShowKind → List ℕ → Option (List ℕ) → Option (List ℕ) → ReportResult → Type 0
+  ExecutesShow profile k name written0 written1 outcome =
       CannotOpen F name written0 written1 outcome ⊎ RunsShow profile k name written0 written1 outcome
 
   -- `RunsValidateTree G context tree ..`: the report `validate-tree` of files with these names.
@@ -70,10 +70,10 @@ module _ {File : Type 0} (F : Opener File) where
     pub failed : (outcome ≡ Err Read)
         ↔ ((F.is_failed context_ended ≡ true) ⊎ (F.is_failed tree_ended ≡ true))
 
-  -- `CarriesValidateTree G context tree ..`: the command `validate-tree` was executed, or a file cannot be opened.
-  abbrev pub CarriesValidateTree : VerifyFn → List ℕ → List ℕ → Option (List ℕ) → Option (List ℕ)
+  -- `ExecutesValidateTree G context tree ..`: the command `validate-tree` was executed, or a file cannot be opened.
+  abbrev pub ExecutesValidateTree : VerifyFn → List ℕ → List ℕ → Option (List ℕ) → Option (List ℕ)
       → ReportResult → Type 0
-  CarriesValidateTree G context tree written0 written1 outcome =
+  ExecutesValidateTree G context tree written0 written1 outcome =
       CannotOpen F context written0 written1 outcome
       ⊎ ((Opens F context × CannotOpen F tree written0 written1 outcome)
       ⊎ RunsValidateTree G context tree written0 written1 outcome)
@@ -108,13 +108,13 @@ module _ {File : Type 0} (F : Opener File) where
     pub memory : outcome ≡ Err Memory → Appends written0 written1 []
     pub failed : (outcome ≡ Err Read) ↔ (F.is_failed ended ≡ true)
 
-  -- `CarriesValidate G group ..`: the command `validate` was executed, or a file cannot be opened.
-  abbrev pub CarriesValidate : VerifyFn → GroupFiles → Option (List ℕ) → Option (List ℕ) → ReportResult → Type 0
-  CarriesValidate G (Info profile info tree) written0 written1 outcome =
+  -- `ExecutesValidate G group ..`: the command `validate` was executed, or a file cannot be opened.
+  abbrev pub ExecutesValidate : VerifyFn → GroupFiles → Option (List ℕ) → Option (List ℕ) → ReportResult → Type 0
+  ExecutesValidate G (Info profile info tree) written0 written1 outcome =
       CannotOpen F info written0 written1 outcome
       ⊎ ((Opens F info × CannotOpenNamed F tree written0 written1 outcome)
       ⊎ RunsValidate profile G info tree written0 written1 outcome)
-  CarriesValidate G (State state) written0 written1 outcome =
+  ExecutesValidate G (State state) written0 written1 outcome =
       CannotOpen F state written0 written1 outcome ⊎ RunsValidateState G state written0 written1 outcome
 
   -- ---- a replay, and the state after it
@@ -205,15 +205,15 @@ module _ {File : Type 0} (F : Opener File) where
     pub failed : (outcome ≡ Err Read)
         ↔ ((F.is_failed state_ended ≡ true) ⊎ (F.is_failed log_ended ≡ true))
 
-  -- `CarriesReplay G group files ..`: the command `replay` was executed, or a file cannot be opened.
-  abbrev pub CarriesReplay : VerifyFn → GroupFiles → ReplayFiles → Option (List ℕ) → Option (List ℕ) → Bool → ReportResult
+  -- `ExecutesReplay G group files ..`: the command `replay` was executed, or a file cannot be opened.
+  abbrev pub ExecutesReplay : VerifyFn → GroupFiles → ReplayFiles → Option (List ℕ) → Option (List ℕ) → Bool → ReportResult
       → Type 0
-  CarriesReplay G (Info profile info tree) files written0 written1 is_failed outcome =
+  ExecutesReplay G (Info profile info tree) files written0 written1 is_failed outcome =
       CannotOpen F info written0 written1 outcome
       ⊎ ((Opens F info × CannotOpenNamed F tree written0 written1 outcome)
       ⊎ ((Opens F info × OpensNamed F tree × CannotOpen F files.log written0 written1 outcome)
       ⊎ RunsReplay profile G info tree files written0 written1 is_failed outcome))
-  CarriesReplay G (State state) files written0 written1 is_failed outcome =
+  ExecutesReplay G (State state) files written0 written1 is_failed outcome =
       CannotOpen F state written0 written1 outcome
       ⊎ ((Opens F state × CannotOpen F files.log written0 written1 outcome)
       ⊎ RunsReplayState G state files written0 written1 is_failed outcome)
@@ -259,16 +259,16 @@ module _ {File : Type 0} (F : Opener File) where
     pub failed : (outcome ≡ Err Read)
         ↔ ((F.is_failed state_ended ≡ true) ⊎ (has_failed (option_map F.is_failed log_ended) ≡ true))
 
-  -- `CarriesSignatures G group log ..`: the command `signatures` was executed, or a file cannot be opened. G is the
+  -- `ExecutesSignatures G group log ..`: the command `signatures` was executed, or a file cannot be opened. G is the
   -- verification function of the receipts.
-  abbrev pub CarriesSignatures : VerifyFn → GroupFiles → Option (List ℕ)
+  abbrev pub ExecutesSignatures : VerifyFn → GroupFiles → Option (List ℕ)
       → Option (List ℕ) → Option (List ℕ) → ReportResult → Type 0
-  CarriesSignatures G (Info profile info tree) log written0 written1 outcome =
+  ExecutesSignatures G (Info profile info tree) log written0 written1 outcome =
       CannotOpen F info written0 written1 outcome
       ⊎ ((Opens F info × CannotOpenNamed F tree written0 written1 outcome)
       ⊎ ((Opens F info × OpensNamed F tree × CannotOpenNamed F log written0 written1 outcome)
       ⊎ RunsSignatures profile G info tree log written0 written1 outcome))
-  CarriesSignatures G (State state) log written0 written1 outcome =
+  ExecutesSignatures G (State state) log written0 written1 outcome =
       CannotOpen F state written0 written1 outcome
       ⊎ ((Opens F state × CannotOpenNamed F log written0 written1 outcome)
       ⊎ RunsStateSignatures G state log written0 written1 outcome)
@@ -313,15 +313,15 @@ module _ {File : Type 0} (F : Opener File) where
     pub failed : (outcome ≡ Err Read)
         ↔ ((F.is_failed state_ended ≡ true) ⊎ (F.is_failed records_ended ≡ true))
 
-  -- `CarriesGate G group ..`: the command `gate` was executed, or a file cannot be opened. G is the verification function
-  -- of what is known to be good at first.
-  abbrev pub CarriesGate : VerifyFn → GroupFiles → Option (List ℕ) → Option (List ℕ) → ReportResult → Type 0
-  CarriesGate G (Info profile info tree) written0 written1 outcome =
+  -- `ExecutesGate G group ..`: the command `gate` was executed, or a file cannot be opened. G is the verification
+  -- function of what is known to be good at first.
+  abbrev pub ExecutesGate : VerifyFn → GroupFiles → Option (List ℕ) → Option (List ℕ) → ReportResult → Type 0
+  ExecutesGate G (Info profile info tree) written0 written1 outcome =
       CannotOpen F info written0 written1 outcome
       ⊎ ((Opens F info × CannotOpenNamed F tree written0 written1 outcome)
       ⊎ ((Opens F info × OpensNamed F tree × CannotOpen F stdin written0 written1 outcome)
       ⊎ RunsGate profile G info tree written0 written1 outcome))
-  CarriesGate G (State state) written0 written1 outcome =
+  ExecutesGate G (State state) written0 written1 outcome =
       CannotOpen F state written0 written1 outcome
       ⊎ ((Opens F state × CannotOpen F stdin written0 written1 outcome)
       ⊎ RunsGateState G state written0 written1 outcome)
@@ -337,36 +337,36 @@ module _ {File : Type 0} (F : Opener File) where
     pub memory : outcome ≡ Err Memory → Appends written0 written1 []
     pub failed : (outcome ≡ Err Read) ↔ (F.is_failed ended ≡ true)
 
-  -- `CarriesCheck k name ..`: the command `check` was executed, or the file cannot be opened.
-  abbrev pub CarriesCheck : CheckKind → List ℕ → Option (List ℕ) → Option (List ℕ) → ReportResult
+  -- `ExecutesCheck k name ..`: the command `check` was executed, or the file cannot be opened.
+  abbrev pub ExecutesCheck : CheckKind → List ℕ → Option (List ℕ) → Option (List ℕ) → ReportResult
       → Type 0
-  CarriesCheck k name written0 written1 outcome =
+  ExecutesCheck k name written0 written1 outcome =
       CannotOpen F name written0 written1 outcome ⊎ RunsCheck k name written0 written1 outcome
 
-  -- `CarriesReport G report ..`: a command was executed with the verification function G. `is_failed` is whether the
+  -- `ExecutesReport G report ..`: a command was executed with the verification function G. `is_failed` is whether the
   -- output has failed.
-  abbrev pub CarriesReport : VerifyFn → GroupReport → Option (List ℕ) → Option (List ℕ) → Bool → ReportResult
+  abbrev pub ExecutesReport : VerifyFn → GroupReport → Option (List ℕ) → Option (List ℕ) → Bool → ReportResult
       → Type 0
-  CarriesReport G (ValidateTree context tree) written0 written1 is_failed outcome =
-      CarriesValidateTree G context tree written0 written1 outcome
-  CarriesReport G (Validate group) written0 written1 is_failed outcome =
-      CarriesValidate G group written0 written1 outcome
-  CarriesReport G (Replay group files) written0 written1 is_failed outcome =
-      CarriesReplay G group files written0 written1 is_failed outcome
-  CarriesReport G (Signatures group log) written0 written1 is_failed outcome =
-      CarriesSignatures G group log written0 written1 outcome
-  CarriesReport G (Gate group) written0 written1 is_failed outcome =
-      CarriesGate G group written0 written1 outcome
+  ExecutesReport G (ValidateTree context tree) written0 written1 is_failed outcome =
+      ExecutesValidateTree G context tree written0 written1 outcome
+  ExecutesReport G (Validate group) written0 written1 is_failed outcome =
+      ExecutesValidate G group written0 written1 outcome
+  ExecutesReport G (Replay group files) written0 written1 is_failed outcome =
+      ExecutesReplay G group files written0 written1 is_failed outcome
+  ExecutesReport G (Signatures group log) written0 written1 is_failed outcome =
+      ExecutesSignatures G group log written0 written1 outcome
+  ExecutesReport G (Gate group) written0 written1 is_failed outcome =
+      ExecutesGate G group written0 written1 outcome
 
   -- `ExecutesOrder order ..`: a command was executed.
   abbrev pub ExecutesOrder : Order → Option (List ℕ) → Option (List ℕ) → Bool → ReportResult → Type 0
   ExecutesOrder (Show profile k name) written0 written1 is_failed outcome =
-      CarriesShow profile k name written0 written1 outcome
+      ExecutesShow profile k name written0 written1 outcome
   ExecutesOrder (Group report c) written0 written1 is_failed outcome =
-      RunsWithCheckerOrEnds F c (λ G. CarriesReport G report written0 written1 is_failed outcome)
+      RunsWithCheckerOrEnds F c (λ G. ExecutesReport G report written0 written1 is_failed outcome)
       written0 written1 is_failed outcome
   ExecutesOrder (Check k name) written0 written1 is_failed outcome =
-      CarriesCheck k name written0 written1 outcome
+      ExecutesCheck k name written0 written1 outcome
 
 -- `report_stores report`: the report stores a state after it.
 abbrev pub report_stores : GroupReport → Bool

@@ -77,7 +77,7 @@ module _ {File : Type 0} (F : Opener File) where
     pub given : F.gives name opened
     pub read : ReadsSome (F.left opened) (F.left ended)
     pub failed : (fault ≡ Read) ↔ (F.is_failed ended ≡ true)
-    pub own : fault ≢ Write
+    pub not_write_fault : fault ≢ Write
 
   -- `CannotReadFile name fault`: a file with this name cannot be opened, or cannot be read to its end.
   abbrev pub CannotReadFile : List ℕ → RunFault → Type 0

@@ -82,17 +82,17 @@ abbrev pub IsChecker : Option Text → Option Text → CheckerChoice → Type 0
 IsChecker trust receipts checker.Trust = (trust ≡ Some (codes "true")) × (receipts ≡ None)
 IsChecker trust receipts (checker.Receipts file) =
     (trust ≢ Some (codes "true")) × (receipts ≡ Some file)
-IsChecker trust receipts checker.Nobody = ⊥
+IsChecker trust receipts checker.NoReceipts = ⊥
 
 -- `SelectsReceipts receipts c`: `c` is the receipts file, if `--receipts` is given, else no checker.
 abbrev pub SelectsReceipts : Option Text → CheckerChoice → Type 0
 SelectsReceipts receipts checker.Trust = ⊥
 SelectsReceipts receipts (checker.Receipts file) = receipts ≡ Some file
-SelectsReceipts receipts checker.Nobody = receipts ≡ None
+SelectsReceipts receipts checker.NoReceipts = receipts ≡ None
 
 -- `IsFirstChecker trust receipts c`: at most one of `--trust` and `--receipts` is given, and `c` is the choice.
 abbrev pub IsFirstChecker : Option Text → Option Text → CheckerChoice → Type 0
-IsFirstChecker trust receipts checker.Nobody = (trust ≢ Some (codes "true")) × (receipts ≡ None)
+IsFirstChecker trust receipts checker.NoReceipts = (trust ≢ Some (codes "true")) × (receipts ≡ None)
 IsFirstChecker trust receipts c = IsChecker trust receipts c
 
 -- `IsValidateTree rows context tree c`: these are the options of `validate-tree`.

@@ -63,7 +63,7 @@ module _ {File : Type 0} (F : Opener File) (written0 written1 : Option (List ℕ
   -- `EndsOrder o`: a command is executed.
   pub record EndsOrder (o : Order) : Type 0 where
     pub outcome : ReportResult
-    pub carried : ExecutesOrder F o written0 written1 is_failed outcome
+    pub executed : ExecutesOrder F o written0 written1 is_failed outcome
     pub write : MeansWrite (stores_state o) is_failed outcome
     pub ends : Ends noted0 noted1 has_failed_notes exit outcome
 

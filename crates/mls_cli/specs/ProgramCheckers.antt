@@ -39,19 +39,19 @@ module _ {File : Type 0} (F : Opener File) where
   abbrev pub IsMeaning : CheckerChoice → VerifyFn → Type 0
   IsMeaning checker.Trust G = G ≡ (λ suite key content signature. true)
   IsMeaning (checker.Receipts name) G = HasReceipts name G
-  IsMeaning checker.Nobody G = G ≡ listed []
+  IsMeaning checker.NoReceipts G = G ≡ listed []
 
   -- `CannotReadReceipts c fault`: the receipts file cannot be read.
   abbrev pub CannotReadReceipts : CheckerChoice → RunFault → Type 0
   CannotReadReceipts checker.Trust fault = ⊥
   CannotReadReceipts (checker.Receipts name) fault = CannotReadFile F name fault
-  CannotReadReceipts checker.Nobody fault = ⊥
+  CannotReadReceipts checker.NoReceipts fault = ⊥
 
   -- `RefusesReceipts c fault`: the receipts file is read, and refused.
   abbrev pub RefusesReceipts : CheckerChoice → ReceiptsFault → Type 0
   RefusesReceipts checker.Trust fault = ⊥
   RefusesReceipts (checker.Receipts name) fault = IsUnlisted name fault
-  RefusesReceipts checker.Nobody fault = ⊥
+  RefusesReceipts checker.NoReceipts fault = ⊥
 
   -- `EndsUnread c ..`: there is no report, as the receipts file cannot be read. Nothing is written.
   pub record EndsUnread (c : CheckerChoice) (written0 written1 : Option (List ℕ))
@@ -70,7 +70,7 @@ module _ {File : Type 0} (F : Opener File) where
     pub printed : IfOk outcome (ReportsReceipts fault written0 written1)
     pub part : OnErr outcome (AppendsPrefix written0 written1 (receipts_line fault))
     pub memory : outcome ≡ Err Memory → Appends written0 written1 []
-    pub own : outcome ≢ Err Read
+    pub not_read_fault : outcome ≢ Err Read
     pub write : (outcome ≡ Err Write) ↔ (is_failed ≡ true)
 
   -- `RunsWithChecker c P`: P holds of the verification function of a choice.

@@ -4,7 +4,7 @@ ghost use Rattle.std.specs.Prelude.{◌≡◌, ◌≢◌, ◌↔◌, ◌⊎◌, 
 ghost use Rattle.mls_follow.specs.FollowerModel.{state_of};
 ghost use Rattle.mls_follow.specs.State.{State};
 ghost use Rattle.mls_follow.specs.StoredState.{EncodesState};
-ghost use Rattle.mls_cli.specs.Execution.{ExecutesOrder, EndsStoring, EndsSaved, MeansWrite, report_stores, stores_state, CarriesReport, CarriesShow, CarriesValidateTree, CarriesValidate, CarriesReplay, CarriesSignatures, CarriesGate, CarriesCheck};
+ghost use Rattle.mls_cli.specs.Execution.{ExecutesOrder, EndsStoring, EndsSaved, MeansWrite, report_stores, stores_state, ExecutesReport, ExecutesShow, ExecutesValidateTree, ExecutesValidate, ExecutesReplay, ExecutesSignatures, ExecutesGate, ExecutesCheck};
 ghost use Rattle.mls_cli.specs.Files.{opener, IsOpened, NamedFileIsMissing};
 ghost use Rattle.mls_cli.specs.ProgramCheckers.{checker_verify, RunsWithCheckerOrEnds, EndsUnread, EndsRefused};
 ghost use Rattle.mls_report.specs.StartInputs.{has_failed};
@@ -37,7 +37,7 @@ fn show<F: Files, K: Sink>(
     out: &mut K,
 ) -> Result<Verdict, RunFault>
     requires { K.is_failed out.old ≡ false }
-    ensures carried { CarriesShow
+    ensures executed { ExecutesShow
         (opener (F.gives files.now) (F.lacks files.now) (F.stores files.now) (F.refuses files.now)
         F.File.left F.File.is_failed)
         profile kind file.now (K.written out.old) (K.written out.new) result }
@@ -58,7 +58,7 @@ fn check<F: Files, K: Sink>(
     out: &mut K,
 ) -> Result<Verdict, RunFault>
     requires { K.is_failed out.old ≡ false }
-    ensures carried { CarriesCheck
+    ensures executed { ExecutesCheck
         (opener (F.gives files.now) (F.lacks files.now) (F.stores files.now) (F.refuses files.now)
         F.File.left F.File.is_failed)
         kind file.now (K.written out.old) (K.written out.new) result }
@@ -80,7 +80,7 @@ fn validate_tree<F: Files, K: Sink>(
     out: &mut K,
 ) -> Result<Verdict, RunFault>
     requires { K.is_failed out.old ≡ false }
-    ensures carried { CarriesValidateTree
+    ensures executed { ExecutesValidateTree
         (opener (F.gives files.now) (F.lacks files.now) (F.stores files.now) (F.refuses files.now)
         F.File.left F.File.is_failed)
         (checker_verify verifier.now) context.now tree.now
@@ -124,7 +124,7 @@ fn validate_info<F: Files, K: Sink>(
     out: &mut K,
 ) -> Result<Verdict, RunFault>
     requires { K.is_failed out.old ≡ false }
-    ensures carried { CarriesValidate
+    ensures executed { ExecutesValidate
         (opener (F.gives files.now) (F.lacks files.now) (F.stores files.now) (F.refuses files.now)
         F.File.left F.File.is_failed)
         (checker_verify verifier) (GroupFiles.Info profile info.now tree.now)
@@ -149,7 +149,7 @@ fn validate_state<F: Files, K: Sink>(
     out: &mut K,
 ) -> Result<Verdict, RunFault>
     requires { K.is_failed out.old ≡ false }
-    ensures carried { CarriesValidate
+    ensures executed { ExecutesValidate
         (opener (F.gives files.now) (F.lacks files.now) (F.stores files.now) (F.refuses files.now)
         F.File.left F.File.is_failed)
         (checker_verify verifier) (GroupFiles.State state.now)
@@ -171,7 +171,7 @@ fn validate<F: Files, K: Sink>(
     out: &mut K,
 ) -> Result<Verdict, RunFault>
     requires { K.is_failed out.old ≡ false }
-    ensures carried { CarriesValidate
+    ensures executed { ExecutesValidate
         (opener (F.gives files.now) (F.lacks files.now) (F.stores files.now) (F.refuses files.now)
         F.File.left F.File.is_failed)
         (checker_verify verifier) group.now (K.written out.old) (K.written out.new) result }
@@ -259,7 +259,7 @@ fn replay_info<F: Files, K: Sink>(
     out: &mut K,
 ) -> Result<Verdict, RunFault>
     requires { K.is_failed out.old ≡ false }
-    ensures carried { CarriesReplay
+    ensures executed { ExecutesReplay
         (opener (F.gives files.now) (F.lacks files.now) (F.stores files.now) (F.refuses files.now)
         F.File.left F.File.is_failed)
         (checker_verify verifier) (GroupFiles.Info profile info.now tree.now) replay.now
@@ -293,7 +293,7 @@ fn replay_stored<F: Files, K: Sink>(
     out: &mut K,
 ) -> Result<Verdict, RunFault>
     requires { K.is_failed out.old ≡ false }
-    ensures carried { CarriesReplay
+    ensures executed { ExecutesReplay
         (opener (F.gives files.now) (F.lacks files.now) (F.stores files.now) (F.refuses files.now)
         F.File.left F.File.is_failed)
         (checker_verify verifier) (GroupFiles.State state.now) replay.now
@@ -322,7 +322,7 @@ fn replay<F: Files, K: Sink>(
     out: &mut K,
 ) -> Result<Verdict, RunFault>
     requires { K.is_failed out.old ≡ false }
-    ensures carried { CarriesReplay
+    ensures executed { ExecutesReplay
         (opener (F.gives files.now) (F.lacks files.now) (F.stores files.now) (F.refuses files.now)
         F.File.left F.File.is_failed)
         (checker_verify verifier) group.now replay.now
@@ -351,7 +351,7 @@ fn signatures_info<F: Files, K: Sink>(
     out: &mut K,
 ) -> Result<Verdict, RunFault>
     requires { K.is_failed out.old ≡ false }
-    ensures carried { CarriesSignatures
+    ensures executed { ExecutesSignatures
         (opener (F.gives files.now) (F.lacks files.now) (F.stores files.now) (F.refuses files.now)
         F.File.left F.File.is_failed)
         (checker_verify receipts.now) (GroupFiles.Info profile info.now tree.now) log.now
@@ -382,7 +382,7 @@ fn signatures_stored<F: Files, K: Sink>(
     out: &mut K,
 ) -> Result<Verdict, RunFault>
     requires { K.is_failed out.old ≡ false }
-    ensures carried { CarriesSignatures
+    ensures executed { ExecutesSignatures
         (opener (F.gives files.now) (F.lacks files.now) (F.stores files.now) (F.refuses files.now)
         F.File.left F.File.is_failed)
         (checker_verify receipts.now) (GroupFiles.State state.now) log.now
@@ -408,7 +408,7 @@ fn signatures<F: Files, K: Sink>(
     out: &mut K,
 ) -> Result<Verdict, RunFault>
     requires { K.is_failed out.old ≡ false }
-    ensures carried { CarriesSignatures
+    ensures executed { ExecutesSignatures
         (opener (F.gives files.now) (F.lacks files.now) (F.stores files.now) (F.refuses files.now)
         F.File.left F.File.is_failed)
         (checker_verify receipts.now) group.now log.now
@@ -437,7 +437,7 @@ fn gate_info<F: Files, K: Sink>(
     out: &mut K,
 ) -> Result<Verdict, RunFault>
     requires { K.is_failed out.old ≡ false }
-    ensures carried { CarriesGate
+    ensures executed { ExecutesGate
         (opener (F.gives files.now) (F.lacks files.now) (F.stores files.now) (F.refuses files.now)
         F.File.left F.File.is_failed)
         (checker_verify checker) (GroupFiles.Info profile info.now tree.now)
@@ -473,7 +473,7 @@ fn gate_stored<F: Files, K: Sink>(
     out: &mut K,
 ) -> Result<Verdict, RunFault>
     requires { K.is_failed out.old ≡ false }
-    ensures carried { CarriesGate
+    ensures executed { ExecutesGate
         (opener (F.gives files.now) (F.lacks files.now) (F.stores files.now) (F.refuses files.now)
         F.File.left F.File.is_failed)
         (checker_verify checker) (GroupFiles.State state.now)
@@ -498,7 +498,7 @@ fn gate<F: Files, K: Sink>(
     out: &mut K,
 ) -> Result<Verdict, RunFault>
     requires { K.is_failed out.old ≡ false }
-    ensures carried { CarriesGate
+    ensures executed { ExecutesGate
         (opener (F.gives files.now) (F.lacks files.now) (F.stores files.now) (F.refuses files.now)
         F.File.left F.File.is_failed)
         (checker_verify checker) group.now (K.written out.old) (K.written out.new) result }
@@ -549,7 +549,7 @@ fn report_by<F: Files, K: Sink>(
     out: &mut K,
 ) -> Result<Verdict, RunFault>
     requires { K.is_failed out.old ≡ false }
-    ensures carried { CarriesReport
+    ensures executed { ExecutesReport
         (opener (F.gives files.now) (F.lacks files.now) (F.stores files.now) (F.refuses files.now)
         F.File.left F.File.is_failed)
         (checker_verify verifier) report.now (K.written out.old) (K.written out.new)
@@ -581,11 +581,11 @@ fn group_report<F: Files, K: Sink>(
     out: &mut K,
 ) -> Result<Verdict, RunFault>
     requires { K.is_failed out.old ≡ false }
-    ensures carried { RunsWithCheckerOrEnds
+    ensures executed { RunsWithCheckerOrEnds
         (opener (F.gives files.now) (F.lacks files.now) (F.stores files.now) (F.refuses files.now)
         F.File.left F.File.is_failed)
         checker.now
-        (λ G. CarriesReport
+        (λ G. ExecutesReport
         (opener (F.gives files.now) (F.lacks files.now) (F.stores files.now) (F.refuses files.now)
         F.File.left F.File.is_failed)
         G report.now (K.written out.old) (K.written out.new) (K.is_failed out.new) result)
@@ -620,7 +620,7 @@ pub fn execute_order<F: Files, K: Sink>(
     out: &mut K,
 ) -> Result<Verdict, RunFault>
     requires { K.is_failed out.old ≡ false }
-    ensures carried { ExecutesOrder
+    ensures executed { ExecutesOrder
         (opener (F.gives files.now) (F.lacks files.now) (F.stores files.now) (F.refuses files.now)
         F.File.left F.File.is_failed)
         order.now (K.written out.old) (K.written out.new) (K.is_failed out.new) result }

@@ -74,6 +74,6 @@ pub(crate) fn read_judge<F: Files>(
     match checker {
         CheckerChoice::Trust => Ok(ProgramChecker::All),
         CheckerChoice::Receipts(file) => read_listed(alloc, file, files),
-        CheckerChoice::Nobody => Ok(ProgramChecker::Known(Receipts::new(alloc))),
+        CheckerChoice::NoReceipts => Ok(ProgramChecker::Known(Receipts::new(alloc))),
     }
 }

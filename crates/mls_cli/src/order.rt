@@ -18,7 +18,7 @@ pub enum CheckerChoice {
     /// `--receipts FILE`: it accepts those that the file lists.
     Receipts(FileName),
     /// Neither, in `signatures` and `gate`: it accepts none, as long as it learns none.
-    Nobody,
+    NoReceipts,
 }
 
 /// What a group is followed from.

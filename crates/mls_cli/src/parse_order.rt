@@ -290,7 +290,7 @@ fn cover(alloc: Global, matches: &ArgMatches<'_>) -> Result<CheckerChoice, Alloc
 {
     match value(matches, "receipts") {
         Some(file) => Ok(CheckerChoice::Receipts(FileName::new(alloc, file)?)),
-        None => Ok(CheckerChoice::Nobody),
+        None => Ok(CheckerChoice::NoReceipts),
     }
 }
 
@@ -322,7 +322,7 @@ fn first_checker(alloc: Global, matches: &ArgMatches<'_>) -> Result<CheckerChoic
     match (is_trusted(matches), value(matches, "receipts")) {
         (true, None) => Ok(CheckerChoice::Trust),
         (false, Some(file)) => Ok(CheckerChoice::Receipts(FileName::new(alloc, file)?)),
-        (false, None) => Ok(CheckerChoice::Nobody),
+        (false, None) => Ok(CheckerChoice::NoReceipts),
         (true, Some(_)) => Err(usage(alloc, "usage: give one of --trust and --receipts\n")),
     }
 }

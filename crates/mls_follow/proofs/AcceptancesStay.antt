@@ -279,7 +279,7 @@ acceptance_stays G K s bytes more h = record {
   encoded = h.encoded;
   required = h.required;
   requires = h.requires;
-  kept = kept_stays G K s h.required h.message more h.kept;
+  rules_hold = kept_stays G K s h.required h.message more h.rules_hold;
 }
 
 pub start_stays : StartsStay

@@ -29,7 +29,7 @@ module _ (G : VerifyFn) (s : State) (bytes : List ℕ) where
   never_both : (e : Refusal) → IsAcceptable G s bytes → IsFirstRefusal G s bytes e → ⊥
   never_both e a (inl none) = none.1 a.message a.encoded
   never_both e a (inr f) =
-      none-some e (sym a.kept
+      none-some e (sym a.rules_hold
       ∙ (λ i. first_failing (message_rules G s (Requires-one s.context a.required f.required a.requires f.requires i) (one_message a.message f.message bytes a.encoded f.encoded i)))
       ∙ f.fails)
 

@@ -14,8 +14,8 @@ use Rattle.mls_msgs.specs.declared.proposal.Proposal.{Proposal}
 use Rattle.mls_apply.specs.Senders.{member_index}
 use Rattle.mls_msgs.specs.declared.proposal.Proposal.TheVariants.{Add, Update, Remove, ContextExtensions, PreSharedKey, ReInit, ExternalInit}
 use Rattle.mls_tree.specs.Tree.{Tree, leaf, branch, height, leaf_count, leaf_at, member_count}
-use Rattle.mls_tree.specs.BlankLeaves.{first_blank_leaf, IsFirstBlank, AllLeavesSet}
-use Rattle.mls_tree.specs.TreeOperations.{put_leaf, blank_path, update, remove, extend, add, add_at, added_leaf, grown_for, number_or, blank_tree, is_overfilled_above}
+use Rattle.mls_tree.specs.BlankLeaves.{first_blank_leaf, IsFirstBlank, AllLeavesNonBlank}
+use Rattle.mls_tree.specs.TreeOperations.{put_leaf, blank_path, update, remove, extend, add, add_at, added_leaf, extended_if_full, number_or, blank_tree, is_overfilled_above}
 use Rattle.mls_tree.proofs.Choices.{below, from as past}
 use Rattle.mls_tree.proofs.Added.{leaf_at-add_at_other}
 use Rattle.mls_tree.proofs.FirstBlanks.{first_blank_leaf-leftmost}
@@ -113,8 +113,8 @@ module _ (j : ℕ) where
 
     -- ---- Adds
 
-    beside : (t : Tree) (y : LeafNode) (o : Option ℕ) → MatchOption o (AllLeavesSet t) (λ k. IsFirstBlank t k) → j ≢ number_or (leaf_count t) o
-        → leaf_at 0 (add_at (grown_for o t) (number_or (leaf_count t) o) y) j ≡ leaf_at 0 t j
+    beside : (t : Tree) (y : LeafNode) (o : Option ℕ) → MatchOption o (AllLeavesNonBlank t) (λ k. IsFirstBlank t k) → j ≢ number_or (leaf_count t) o
+        → leaf_at 0 (add_at (extended_if_full o t) (number_or (leaf_count t) o) y) j ≡ leaf_at 0 t j
     beside t y None h away =
         leaf_at-add_at_other (extend t) (leaf_count t) j y (omega (arith, leaf_count-positive (blank_tree (height t)))) away ∙ leaf_at-extend t j
     beside t y (Some k) h away = leaf_at-add_at_other t k j y h.inside away
@@ -131,7 +131,7 @@ module _ (j : ℕ) where
     adds [] t g e set = inr (same_tree t g.tree (ap (λ (v : AppliedTree). v.tree) (same_Some (applied_tree t []) g e)) set)
     adds (y ∷ ys) t g e set =
         let m = came_from (after_leaf (added_leaf t)) (after_adds ys (add t y)) g
-        (unless (is_overfilled_above 0 (grown_for (first_blank_leaf 0 t) t) (added_leaf t)) (option_map (after_leaf (added_leaf t)) (after_adds ys (add t y))) g e) in
+        (unless (is_overfilled_above 0 (extended_if_full (first_blank_leaf 0 t) t) (added_leaf t)) (option_map (after_leaf (added_leaf t)) (after_adds ys (add t y))) g e) in
         elim (adds ys (add t y) m.0 m.1 (same_tree m.0.tree g.tree (ap (λ (v : AppliedTree). v.tree) m.2) set)) [
           | inl c ↦ inl (subst (λ (v : AppliedTree). Contains v.added j) m.2 (contains-tail (added_leaf t) m.0.added j c))
           | inr f ↦ elim (added t y f) [

@@ -25,7 +25,7 @@ use Rattle.mls_follow.specs.Runs.{Call, IsTransition, IsAnswer}
 use Rattle.mls_follow.specs.Validity.{IsValidState}
 use Rattle.mls_signatures.specs.Agreement.{Agrees, AgreeOn}
 use Rattle.mls_signatures.specs.SignaturesToVerify.{sign_content_signatures, labeled_signatures, leaf_signatures, tree_signatures, start_signatures}
-use Rattle.mls_follow.specs.MessageSignatures.{AgreeOnStart, message_signatures, state_signatures}
+use Rattle.mls_follow.specs.MessageSignatures.{AgreeOnStart, message_signatures_in_state, state_signatures}
 use Rattle.mls_follow.specs.CoveredLogs.{all_good, Covers, CoversStart, CoversMessage, CoversLog, IsAnsweredRun, CoveredStartsAreTrusted, CoveredFaultsAreTrusted, CoveredAnswersAreTrusted, CoveredRunsAreTrusted, RecipeIsRight, ReceiptsCover, AnsweredRunsAreOne}
 use Rattle.mls_follow.specs.declared.refusal.Refusal.{Refusal}
 use Rattle.mls_follow.specs.declared.taken.Taken.{Taken}
@@ -109,7 +109,7 @@ module _ (G K : VerifyFn) (s : State) (bytes : List ℕ)
       encoded = h.0.encoded;
       required = h.0.required;
       requires = h.0.requires;
-      kept = sym (same h.0.required h.0.message h.0.encoded) ∙ h.0.kept;
+      rules_hold = sym (same h.0.required h.0.message h.0.encoded) ∙ h.0.rules_hold;
     },
     h.1,
   )
@@ -123,7 +123,7 @@ module _ (R : VerifyFn) (s : State) (bytes : List ℕ) (v : IsValidState R s) (c
       → first_failing (message_rules R s required m) ≡ first_failing (message_rules all_good s required m)
   refusals_alike required m encoded =
       decide_refusals R all_good s required m
-      (covered R (message_signatures s m) (covers (message_signatures s m) (record { message = m; encoded = encoded; same = refl }))) (state_covered R s v)
+      (covered R (message_signatures_in_state s m) (covers (message_signatures_in_state s m) (record { message = m; encoded = encoded; same = refl }))) (state_covered R s v)
 
   to_trusted : (answer : Result Taken Refusal) (new : State) → IsAnswer R s bytes answer new → IsAnswer all_good s bytes answer new
   to_trusted = answers_alike R all_good s bytes refusals_alike

@@ -48,7 +48,7 @@ module _ (G : VerifyFn) (s : State) (required : RequiredCapabilities) (bytes : L
         Ok step.step.taken,
         step.step.state,
         record {
-          takes = (record { message = m; encoded = encoded; required = required; requires = requires; kept = kept }, record { message = m; encoded = encoded; after = step.is });
+          takes = (record { message = m; encoded = encoded; required = required; requires = requires; rules_hold = kept }, record { message = m; encoded = encoded; after = step.is });
           memory = λ e. absurd cc;
         },
       )

@@ -25,7 +25,7 @@ use Rattle.mls_msgs.specs.declared.proposal.ProposalOrRef.TheVariants as entries
 use Rattle.mls_tree.specs.Tree.{Tree, height, leaf_count, member_count, leaf_at}
 use Rattle.mls_tree.specs.RatchetTree.{HasShape}
 use Rattle.mls_tree.specs.BlankLeaves.{first_blank_leaf}
-use Rattle.mls_tree.specs.TreeOperations.{put_leaf, blank_path, update, remove, with_unmerged, is_overfilled_above, add_unmerged, add_at, add, added_leaf, grown_for, number_or, blank_tree, seat}
+use Rattle.mls_tree.specs.TreeOperations.{put_leaf, blank_path, update, remove, with_unmerged, is_overfilled_above, add_unmerged, add_at, add, added_leaf, extended_if_full, number_or, blank_tree, seat}
 use Rattle.mls_tree.proofs.Kept.{height-change_above, IsPerfect-change_above, height-put_leaf, IsPerfect-put_leaf, HasShape-extend, HasShape-truncate}
 use Rattle.mls_tree.proofs.Numbers.{leaves_at-pow, leaves_at-le, leaves_at-low}
 use Rattle.mls_tree.proofs.Trees.{leaf_count-perfect, leaf_count-positive}
@@ -208,11 +208,11 @@ low_enough t s full capacity =
     ]
 
 -- an added member's leaf is one of the tree's
-pub added_inside : (t : Tree) (o : Option ℕ) → first_blank_leaf 0 t ≡ o → number_or (leaf_count t) o < leaf_count (grown_for o t)
+pub added_inside : (t : Tree) (o : Option ℕ) → first_blank_leaf 0 t ≡ o → number_or (leaf_count t) o < leaf_count (extended_if_full o t)
 added_inside t None e = omega (arith, leaf_count-positive (blank_tree (height t)))
 added_inside t (Some j) e = blank_inside t j e
 
-grown_shape : (t : Tree) (o : Option ℕ) → first_blank_leaf 0 t ≡ o → HasShape t → member_count t + 1 ≤ leaf_limit → HasShape (grown_for o t)
+grown_shape : (t : Tree) (o : Option ℕ) → first_blank_leaf 0 t ≡ o → HasShape t → member_count t + 1 ≤ leaf_limit → HasShape (extended_if_full o t)
 grown_shape t None e s capacity = HasShape-extend t s (low_enough t s e capacity)
 grown_shape t (Some j) e s capacity = s
 
@@ -223,13 +223,13 @@ HasShape-add_at u j x s = record {
 }
 
 add_fit : (t : Tree) (x : LeafNode) → IsSome (layout.leaf x) → member_count t + 1 ≤ leaf_limit
-    → is_overfilled_above 0 (grown_for (first_blank_leaf 0 t) t) (added_leaf t) ≡ false → IsFit t → IsFit (add t x)
+    → is_overfilled_above 0 (extended_if_full (first_blank_leaf 0 t) t) (added_leaf t) ≡ false → IsFit t → IsFit (add t x)
 add_fit t x s capacity free h =
     let applied_tree = grown_shape t (first_blank_leaf 0 t) refl h.shape capacity in
-    let low = leaves_at-low (height (grown_for (first_blank_leaf 0 t) t)) applied_tree.low in
-    let number = number_encoded w32 (added_leaf t) (omega (arith, added_inside t (first_blank_leaf 0 t) refl, low, leaf_count-perfect (grown_for (first_blank_leaf 0 t) t) applied_tree.perfect)) in
+    let low = leaves_at-low (height (extended_if_full (first_blank_leaf 0 t) t)) applied_tree.low in
+    let number = number_encoded w32 (added_leaf t) (omega (arith, added_inside t (first_blank_leaf 0 t) refl, low, leaf_count-perfect (extended_if_full (first_blank_leaf 0 t) t) applied_tree.perfect)) in
     record {
-      shape = HasShape-add_at (grown_for (first_blank_leaf 0 t) t) (added_leaf t) x applied_tree;
+      shape = HasShape-add_at (extended_if_full (first_blank_leaf 0 t) t) (added_leaf t) x applied_tree;
       encoded = IsEncoded-add t x s number free h.encoded;
     }
 
@@ -243,10 +243,10 @@ unfolding after_adds
 adds_fit [] t g all capacity h e = subst (λ (w : AppliedTree). IsFit w.tree) (same_Some (record { tree = t; added = [] }) g e) h
 adds_fit (x ∷ xs) t g all capacity h e =
     let less : member_count (add t x) + length xs ≤ leaf_limit = omega (arith, member_count-add t x) in
-    go (is_overfilled_above 0 (grown_for (first_blank_leaf 0 t) t) (added_leaf t)) refl
+    go (is_overfilled_above 0 (extended_if_full (first_blank_leaf 0 t) t) (added_leaf t)) refl
     (λ v fit q. adds_fit xs (add t x) v (All-tail (λ x. IsSome (layout.leaf x)) x xs all) less fit q) e
   where
-    go : (b : Bool) → is_overfilled_above 0 (grown_for (first_blank_leaf 0 t) t) (added_leaf t) ≡ b
+    go : (b : Bool) → is_overfilled_above 0 (extended_if_full (first_blank_leaf 0 t) t) (added_leaf t) ≡ b
         → ((v : AppliedTree) → IsFit (add t x) → after_adds xs (add t x) ≡ Some v → IsFit v.tree)
         → (if b then None else option_map (after_leaf (added_leaf t)) (after_adds xs (add t x))) ≡ Some g → IsFit g.tree
     go true f others e = absurd (none-some g e)

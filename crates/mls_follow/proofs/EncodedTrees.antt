@@ -11,10 +11,10 @@ use Rattle.mls_nodes.specs.Layout as layout
 use Rattle.mls_nodes.specs.declared.leaf.LeafNode.{LeafNode}
 use Rattle.mls_nodes.specs.declared.parent.ParentNode.{ParentNode}
 use Rattle.mls_tree.specs.Tree.{Tree, leaf, branch, height, leaf_count, IsPerfect}
-use Rattle.mls_tree.specs.TreeHash.{tree_hash, leaf_hash_input, parent_hash_input}
+use Rattle.mls_tree.specs.TreeHash.{tree_hash, leaf_tree_hash_input, parent_tree_hash_input}
 use Rattle.mls_tree.specs.BlankLeaves.{first_blank_leaf}
 use Rattle.mls_tree.specs.Paths.{resolution}
-use Rattle.mls_tree.specs.TreeOperations.{put_leaf, change_above, blank_path, has_set_leaf, truncate, blank_tree, extend, update, remove, with_unmerged, is_overfilled, is_overfilled_above, add_unmerged, add, added_leaf, grown_for}
+use Rattle.mls_tree.specs.TreeOperations.{put_leaf, change_above, blank_path, has_non_blank_leaf, truncate, blank_tree, extend, update, remove, with_unmerged, is_overfilled, is_overfilled_above, add_unmerged, add, added_leaf, extended_if_full}
 use Rattle.mls_tree.proofs.Kept.{either}
 use Rattle.mls_hash.specs.ParentHash as parents
 use Rattle.mls_apply.specs.MergePath.{PathStep, path_step_at, path_step, path_parent, path_hash, merged_from}
@@ -44,7 +44,7 @@ blank_leaf_encoded = refl
 -- a tree whose hash exists has nodes with spellings
 pub hashed_encoded : (H : List ℕ → List ℕ) (first : ℕ) (t : Tree) → IsSome (tree_hash H first t) → IsEncoded t
 hashed_encoded H first (leaf x) h =
-    right_encoded (number w32 first) (optional layout.leaf x) (right_encoded (number w8 1) (number w32 first ⊕ optional layout.leaf x) (mapped_some H (leaf_hash_input first x) h))
+    right_encoded (number w32 first) (optional layout.leaf x) (right_encoded (number w8 1) (number w32 first ⊕ optional layout.leaf x) (mapped_some H (leaf_tree_hash_input first x) h))
 hashed_encoded H first (branch l p r) h =
     let parts = parts_some H p (tree_hash H first l) (tree_hash H (first + leaf_count l) r) h in
     (hashed_encoded H first l parts.0, parts.1, hashed_encoded H (first + leaf_count l) r parts.2)
@@ -62,13 +62,13 @@ module _ (H : List ℕ → List ℕ) (short : (m : List ℕ) → length (H m) �
 
   hashed : (first : ℕ) (t : Tree) → first + leaf_count t ≤ 4294967296 → IsEncoded t → IsHashed (tree_hash H first t)
   hashed first (leaf x) few h =
-      hash_made (leaf_hash_input first x)
+      hash_made (leaf_tree_hash_input first x)
       (both_encoded (number w8 1) (number w32 first ⊕ optional layout.leaf x) (number_encoded w8 1 (omega arith))
       (both_encoded (number w32 first) (optional layout.leaf x) (number_encoded w32 first (omega arith)) h))
   hashed first (branch l p r) few h =
       let a = hashed first l (omega arith) h.0 in
       let b = hashed (first + leaf_count l) r (omega arith) h.2 in
-      rw (a.is, b.is) (hash_made (parent_hash_input p a.hash b.hash)
+      rw (a.is, b.is) (hash_made (parent_tree_hash_input p a.hash b.hash)
       (both_encoded (number w8 2) (optional layout.parent p ⊕ vector a.hash ⊕ vector b.hash) (number_encoded w8 2 (omega arith))
       (both_encoded (optional layout.parent p) (vector a.hash ⊕ vector b.hash) h.1
       (both_encoded (vector a.hash) (vector b.hash) (vector_some a.hash a.short) (vector_some b.hash b.short)))))
@@ -113,7 +113,7 @@ IsEncoded-extend t h = (h, blank_parent, IsEncoded-blank_tree (height t))
 
 pub IsEncoded-truncate : (t : Tree) → IsEncoded t → IsEncoded (truncate t)
 IsEncoded-truncate (leaf x) h = h
-IsEncoded-truncate (branch l p r) h = either IsEncoded (has_set_leaf r) (branch l p r) (truncate l) h (IsEncoded-truncate l h.0)
+IsEncoded-truncate (branch l p r) h = either IsEncoded (has_non_blank_leaf r) (branch l p r) (truncate l) h (IsEncoded-truncate l h.0)
 
 pub IsEncoded-update : (t : Tree) (i : ℕ) (x : LeafNode) → IsSome (layout.leaf x) → IsEncoded t → IsEncoded (update t i x)
 IsEncoded-update t i x s h = IsEncoded-clear 0 (put_leaf 0 t i (Some x)) i (IsEncoded-put_leaf 0 t i (Some x) (set_leaf_encoded x s) h)
@@ -122,15 +122,15 @@ pub IsEncoded-remove : (t : Tree) (i : ℕ) → IsEncoded t → IsEncoded (remov
 IsEncoded-remove t i h =
     IsEncoded-truncate (blank_path (put_leaf 0 t i None) i) (IsEncoded-clear 0 (put_leaf 0 t i None) i (IsEncoded-put_leaf 0 t i None blank_leaf_encoded h))
 
-pub IsEncoded-applied_tree : (t : Tree) (o : Option ℕ) → IsEncoded t → IsEncoded (grown_for o t)
+pub IsEncoded-applied_tree : (t : Tree) (o : Option ℕ) → IsEncoded t → IsEncoded (extended_if_full o t)
 IsEncoded-applied_tree t None h = IsEncoded-extend t h
 IsEncoded-applied_tree t (Some j) h = h
 
 pub IsEncoded-add : (t : Tree) (x : LeafNode) → IsSome (layout.leaf x) → IsSome (number w32 (added_leaf t))
-    → is_overfilled_above 0 (grown_for (first_blank_leaf 0 t) t) (added_leaf t) ≡ false → IsEncoded t → IsEncoded (add t x)
+    → is_overfilled_above 0 (extended_if_full (first_blank_leaf 0 t) t) (added_leaf t) ≡ false → IsEncoded t → IsEncoded (add t x)
 IsEncoded-add t x s n capacity h =
-    IsEncoded-put_leaf 0 (add_unmerged (grown_for (first_blank_leaf 0 t) t) (added_leaf t)) (added_leaf t) (Some x) (set_leaf_encoded x s)
-    (IsEncoded-begin_epoch 0 (grown_for (first_blank_leaf 0 t) t) (added_leaf t) n capacity (IsEncoded-applied_tree t (first_blank_leaf 0 t) h))
+    IsEncoded-put_leaf 0 (add_unmerged (extended_if_full (first_blank_leaf 0 t) t) (added_leaf t)) (added_leaf t) (Some x) (set_leaf_encoded x s)
+    (IsEncoded-begin_epoch 0 (extended_if_full (first_blank_leaf 0 t) t) (added_leaf t) n capacity (IsEncoded-applied_tree t (first_blank_leaf 0 t) h))
 
 -- ---- a path
 

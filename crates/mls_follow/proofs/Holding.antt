@@ -47,7 +47,7 @@ module _ (G : VerifyFn) (s : State) (steady : IsSteady s) (bytes : List ℕ) whe
   -- what is accepted leads to one
   accepted_steady : (step : Transition) → IsAcceptable G s bytes → IsNext s bytes step → IsSteady step.state
   accepted_steady step a n =
-      let l : Leads s steady.held (next s a.message) = next_there s steady.held G a.required a.requires a.message (bytes, a.encoded) a.kept in
+      let l : Leads s steady.held (next s a.message) = next_there s steady.held G a.required a.requires a.message (bytes, a.encoded) a.rules_hold in
       let same = same_Some l.step step (sym l.is ∙ ap (next s) (one_message a.message n.message bytes a.encoded n.encoded) ∙ n.after) in
       subst (λ (t : Transition). IsSteady t.state) same (record { held = l.still; required = l.required; requires = l.requires })
 

@@ -8,7 +8,7 @@ use Rattle.mls_nodes.specs.Limits.{leaf_limit}
 use Rattle.mls_nodes.specs.declared.leaf.LeafNode.{LeafNode}
 use Rattle.mls_tree.specs.Tree.{Tree, leaf_at, member_count}
 use Rattle.mls_tree.specs.BlankLeaves.{first_blank_leaf}
-use Rattle.mls_tree.specs.TreeOperations.{grown_for, seat}
+use Rattle.mls_tree.specs.TreeOperations.{extended_if_full, seat}
 use Rattle.mls_tree.proofs.Kept.{leaf_at-extend}
 use Rattle.mls_check.proofs.Elements.{and-left, and-right, contains-nil}
 use Rattle.mls_msgs.specs.declared.framed_content.Sender.TheVariants.{NewMemberCommit}
@@ -86,7 +86,7 @@ join_stood es t g j x list made at =
 
 -- ---- its sender's leaf
 
-for_blank : (t : Tree) (o : Option ℕ) (j : ℕ) → leaf_at 0 (grown_for o t) j ≡ leaf_at 0 t j
+for_blank : (t : Tree) (o : Option ℕ) (j : ℕ) → leaf_at 0 (extended_if_full o t) j ≡ leaf_at 0 t j
 for_blank t None j = leaf_at-extend t j
 for_blank t (Some k) j = refl
 

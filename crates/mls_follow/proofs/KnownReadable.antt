@@ -196,7 +196,7 @@ module _ (G : VerifyFn) (s : State) (all : AreReadable s.known) (required : Requ
 module _ (G : VerifyFn) (s : State) (all : AreReadable s.known) (bytes : List ℕ) where
   accepted-readable : (step : Transition) → IsAcceptable G s bytes → IsNext s bytes step → AreReadable step.state.known
   accepted-readable step a n =
-      step-readable G s all a.required a.message step a.kept (ap (next s) (one_message a.message n.message bytes a.encoded n.encoded) ∙ n.after)
+      step-readable G s all a.required a.message step a.rules_hold (ap (next s) (one_message a.message n.message bytes a.encoded n.encoded) ∙ n.after)
 
   taken-readable : (answer : Result Taken Refusal) (new : State) → IsTransition G s bytes answer new → AreReadable new.known
   taken-readable (Ok taken) new h = accepted-readable (record { taken = taken; state = new }) h.0 h.1

@@ -127,7 +127,7 @@ module _ (G : VerifyFn) (s : State) (all : AreKnownSigned G s) (required : Requi
 module _ (G : VerifyFn) (s : State) (all : AreKnownSigned G s) (bytes : List ℕ) where
   accepted-signed : (step : Transition) → IsAcceptable G s bytes → IsNext s bytes step → AreKnownSigned G step.state
   accepted-signed step a n =
-      step-signed G s all a.required a.message step a.kept
+      step-signed G s all a.required a.message step a.rules_hold
       (ap (next s) (one_message a.message n.message bytes a.encoded n.encoded) ∙ n.after)
 
   taken-signed : (answer : Result Taken Refusal) (new : State) → IsTransition G s bytes answer new → AreKnownSigned G new

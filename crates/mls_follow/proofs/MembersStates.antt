@@ -52,7 +52,7 @@ use Rattle.mls_follow.specs.MembersProfile.{IsOfMember, IsMembersState, is_membe
 use Rattle.mls_follow.specs.MessageRules.{reference_of, proposal_message_rules, member_rules, tree_rules, CommitterTree, committer_tree, resulting, path_rules_of, committer_tree_rules, required_after, rules_with_requirements, proposal_list_rules, commit_rules, content_rules, leaf_rules, is_sender_supported, is_known_external, if_full, sender_rules, frame_rules, message_rules}
 use Rattle.mls_follow.specs.NextState.{Transition, after_proposal, committed, after_tree, commit_tree, with_list, is_over_after, after_content, after_sender, next}
 use Rattle.mls_follow.specs.RefusalNumbers.{number_of}
-use Rattle.mls_follow.specs.Resumption.{Holds, can_hold, is_receivable, with_pending, base_state, is_over, profile_of}
+use Rattle.mls_follow.specs.Resumption.{CanHoldEntries, can_hold, is_receivable, with_pending, base_state, is_over, profile_of_mode}
 use Rattle.mls_follow.specs.Transcript.{confirmed_hash, interim_hash}
 use Rattle.mls_follow.specs.declared.refusal.Refusal.{Refusal}
 use Rattle.mls_follow.proofs.Answering.{one_message}
@@ -370,7 +370,7 @@ in_members Full b e i = absurd (cc)
 
 pub states_stay : MembersStatesStay
 states_stay G s bytes step h a n =
-    step-members G s h a.required a.message step (in_members s.profile (is_members_message a.message) h.profile a.encoded.allowed) a.kept
+    step-members G s h a.required a.message step (in_members s.profile (is_members_message a.message) h.profile a.encoded.allowed) a.rules_hold
     (ap (next s) (one_message a.message n.message bytes a.encoded n.encoded) ∙ n.after)
 
 -- ---- first states
@@ -412,15 +412,15 @@ module _ (G : VerifyFn) (s : State) (h : IsMembersState s) (k : KnownProposal) (
   pending_members : IsMembersState (with_pending s k)
   pending_members = record { profile = h.profile; going = h.going; known = All-push IsOfMember s.known k h.known of_member }
 
-holds_members : (G : VerifyFn) (s : State) (es : List KnownEntry) (new : State) → IsMembersState s → Holds G s es new → IsMembersState new
+holds_members : (G : VerifyFn) (s : State) (es : List KnownEntry) (new : State) → IsMembersState s → CanHoldEntries G s es new → IsMembersState new
 holds_members G s [] new h held = subst IsMembersState (sym held) h
 holds_members G s (e ∷ es) new h held = holds_members G (with_pending s held.0) es new (pending_members G s h held.0 held.2) held.3
 
-holds_profile : (G : VerifyFn) (s : State) (es : List KnownEntry) (new : State) → Holds G s es new → new.profile ≡ s.profile
+holds_profile : (G : VerifyFn) (s : State) (es : List KnownEntry) (new : State) → CanHoldEntries G s es new → new.profile ≡ s.profile
 holds_profile G s [] new held = ap (λ (t : State). t.profile) held
 holds_profile G s (e ∷ es) new held = holds_profile G (with_pending s held.0) es new held.3
 
-mode_open : (m : GroupMode) → profile_of m ≡ Members → is_over m ≡ false
+mode_open : (m : GroupMode) → profile_of_mode m ≡ Members → is_over m ≡ false
 mode_open modes.Members e = refl
 mode_open modes.Full e = refl
 mode_open modes.Ended e = absurd (cc)
@@ -429,5 +429,5 @@ pub members_resume : MembersResume
 members_resume G bytes s h members =
     let held = h.state.held in
     let c = h.content in
-    let profile : profile_of c.mode ≡ Members = sym (holds_profile G (base_state c h.tree) c.known s held) ∙ members in
+    let profile : profile_of_mode c.mode ≡ Members = sym (holds_profile G (base_state c h.tree) c.known s held) ∙ members in
     holds_members G (base_state c h.tree) c.known s (record { profile = profile; going = mode_open c.mode profile; known = All-nil IsOfMember }) held

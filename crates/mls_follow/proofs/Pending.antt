@@ -8,7 +8,7 @@ use Rattle.mls_state.specs.declared.known_entry.KnownEntry.{KnownEntry}
 use Rattle.mls_apply.specs.declared.list_item.KnownProposal.{KnownProposal}
 use Rattle.mls_follow.specs.State.{State}
 use Rattle.mls_follow.specs.StoredState.{stored_entry}
-use Rattle.mls_follow.specs.Resumption.{can_hold, with_pending, Holds, FailsEntry}
+use Rattle.mls_follow.specs.Resumption.{can_hold, with_pending, CanHoldEntries, FailsEntry}
 use Rattle.mls_follow.proofs.StoredStates.{one_entry}
 
 module _ (G : VerifyFn) where
@@ -16,18 +16,18 @@ module _ (G : VerifyFn) where
   one_held : (s : State) (e : KnownEntry) (k l : KnownProposal) → e ≡ stored_entry k → e ≡ stored_entry l → k ≡ l
   one_held s e k l a b = one_entry k l (sym a ∙ b)
 
-  pub one_new : (s : State) (es : List KnownEntry) (a b : State) → Holds G s es a → Holds G s es b → a ≡ b
+  pub one_new : (s : State) (es : List KnownEntry) (a b : State) → CanHoldEntries G s es a → CanHoldEntries G s es b → a ≡ b
   one_new s [] a b p q = p ∙ sym q
   one_new s (e ∷ es) a b p q =
       one_new (with_pending s q.0) es a b
-      (subst (λ (k : KnownProposal). Holds G (with_pending s k) es a) (one_held s e p.0 q.0 p.1 q.1) p.3) q.3
+      (subst (λ (k : KnownProposal). CanHoldEntries G (with_pending s k) es a) (one_held s e p.0 q.0 p.1 q.1) p.3) q.3
 
-  pub not_both : (s : State) (es : List KnownEntry) (new : State) (n : ℕ) → Holds G s es new → FailsEntry G s es n → ⊥
+  pub not_both : (s : State) (es : List KnownEntry) (new : State) (n : ℕ) → CanHoldEntries G s es new → FailsEntry G s es n → ⊥
   not_both s [] new n p q = q
   not_both s (e ∷ es) new zero p q = q p.0 p.1 p.2
   not_both s (e ∷ es) new (suc n) p q =
       not_both (with_pending s q.0) es new n
-      (subst (λ (k : KnownProposal). Holds G (with_pending s k) es new) (one_held s e p.0 q.0 p.1 q.1) p.3) q.3
+      (subst (λ (k : KnownProposal). CanHoldEntries G (with_pending s k) es new) (one_held s e p.0 q.0 p.1 q.1) p.3) q.3
 
   pub one_failing : (s : State) (es : List KnownEntry) (m n : ℕ) → FailsEntry G s es m → FailsEntry G s es n → m ≡ n
   one_failing s [] m n p q = absurd p
@@ -41,7 +41,7 @@ module _ (G : VerifyFn) where
   -- ---- one of the two there is
 
   abbrev HoldsOrFails : State → List KnownEntry → Type 0
-  HoldsOrFails s es = ((new : State) × Holds G s es new) ⊎ ((n : ℕ) × FailsEntry G s es n)
+  HoldsOrFails s es = ((new : State) × CanHoldEntries G s es new) ⊎ ((n : ℕ) × FailsEntry G s es n)
 
   by_rest : (s : State) (e : KnownEntry) (es : List KnownEntry) (k : KnownProposal) → e ≡ stored_entry k → can_hold G s k ≡ true
       → HoldsOrFails (with_pending s k) es → HoldsOrFails s (e ∷ es)
@@ -65,7 +65,7 @@ module _ (G : VerifyFn) where
   -- ---- what holds of all entries
 
   -- what is held stores the entries
-  unfoldable pub held_entries : (s : State) (es : List KnownEntry) (new : State) → Holds G s es new
+  unfoldable pub held_entries : (s : State) (es : List KnownEntry) (new : State) → CanHoldEntries G s es new
       → (ks : List KnownProposal) × (es ≡ map stored_entry ks) × (new ≡ record s { known = s.known ++ ks })
   held_entries s [] new h = ([], refl, h ∙ (λ i. record s { known = sym (append-nil s.known) i }))
   held_entries s (e ∷ es) new h =
@@ -80,8 +80,8 @@ module _ (G : VerifyFn) where
       append_one (y ∷ xs) x ys = ap (λ (zs : List KnownProposal). y ∷ zs) (append_one xs x ys)
 
   -- one more
-  pub held_more : (s : State) (es : List KnownEntry) (new : State) (k : KnownProposal) → Holds G s es new → can_hold G new k ≡ true
-      → Holds G s (es ++ stored_entry k ∷ []) (with_pending new k)
+  pub held_more : (s : State) (es : List KnownEntry) (new : State) (k : KnownProposal) → CanHoldEntries G s es new → can_hold G new k ≡ true
+      → CanHoldEntries G s (es ++ stored_entry k ∷ []) (with_pending new k)
   held_more s [] new k h can =
       (k, refl, ap (λ (t : State). can_hold G t k) (sym h) ∙ can, ap (λ (t : State). with_pending t k) h)
   held_more s (e ∷ es) new k h can = (h.0, h.1, h.2, held_more (with_pending s h.0) es new k h.3 can)

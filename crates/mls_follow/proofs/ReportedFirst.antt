@@ -89,7 +89,7 @@ module _ (G : VerifyFn) (s : State) (required : RequiredCapabilities) (a : Authe
         ∙ behind WrongEpoch (a.content.epoch == s.context.epoch) (rule GroupOver (not s.ended) ∷ sender_rules G s required a a.content.sender)
         ((Decides-eqb a.content.epoch s.context.epoch).1 h.epoch)
         ∙ behind GroupOver (not s.ended) (sender_rules G s required a a.content.sender) (ap not h.going)
-        ∙ of_sender h.content a.content.sender h.followed h.allowed h.signer
+        ∙ of_sender h.content a.content.sender h.supported h.allowed h.signer
 
     unsigned : is_frame_signed G s.context key a ≡ false → first_failing (frame_rules G s required a) ≡ Some BadSignature
     unsigned bad = framed ∙ reported BadSignature (is_frame_signed G s.context key a) (proposal_message_rules G s a a.content.sender p) bad

@@ -51,8 +51,8 @@ use Rattle.mls_follow.specs.Runs.{IsTransition, Call, IsRun}
 use Rattle.mls_follow.specs.Start.{IsStart}
 use Rattle.mls_follow.specs.Validity.{IsValidState}
 use Rattle.mls_follow.specs.StoredState.{stored_entry}
-use Rattle.mls_follow.specs.Resumption.{can_hold, is_receivable, with_pending, Holds, IsStateOf, IsResumed, base_state}
-use Rattle.mls_follow.specs.StoredRuns.{IsResumable, IsFirst, FollowersAreResumable}
+use Rattle.mls_follow.specs.Resumption.{can_hold, is_receivable, with_pending, CanHoldEntries, IsStateOf, IsResumed, base_state}
+use Rattle.mls_follow.specs.StoredRuns.{IsResumable, IsInitialState, FollowersAreResumable}
 use Rattle.mls_follow.specs.declared.refusal.Refusal.{Refusal}
 use Rattle.mls_follow.specs.declared.taken.Taken.{Taken}
 use Rattle.mls_follow.proofs.Answering.{one_message}
@@ -62,9 +62,9 @@ use Rattle.mls_follow.proofs.Validity.{start_valid, step_valid}
 -- ---- what a state has beside its validity
 
 record Rests (G : VerifyFn) (s : State) : Type 0 where
-  followed : IsSupportedContext s.context
+  supported : IsSupportedContext s.context
   hashed : length s.interim ≡ hash_length s.context.cipher_suite
-  held : Holds G (record s { known = [] }) (map stored_entry s.known) s
+  held : CanHoldEntries G (record s { known = [] }) (map stored_entry s.known) s
 
 -- ---- interim transcript hashes
 
@@ -166,14 +166,14 @@ join-renews s a (contents.Commit c) step e = commit-renews s a senders.NewMember
 
 renewed_rests : (G : VerifyFn) (s t : State) → Rests G s → Renews s t → Rests G t
 renewed_rests G s t r h = record {
-  followed = record { version = h.version ∙ r.followed.version; suite = rw h.suite r.followed.suite };
+  supported = record { version = h.version ∙ r.supported.version; suite = rw h.suite r.supported.suite };
   hashed = h.hashed ∙ ap hash_length (sym h.suite);
   held = none_held t h.known;
 }
   where
-    none_held : (t : State) → t.known ≡ [] → Holds G (record t { known = [] }) (map stored_entry t.known) t
+    none_held : (t : State) → t.known ≡ [] → CanHoldEntries G (record t { known = [] }) (map stored_entry t.known) t
     none_held t e =
-        subst (λ (es : List KnownEntry). Holds G (record t { known = [] }) es t) (ap (map stored_entry) (sym e)) (λ i. record t { known = e i })
+        subst (λ (es : List KnownEntry). CanHoldEntries G (record t { known = [] }) es t) (ap (map stored_entry) (sym e)) (λ i. record t { known = e i })
 
 -- ---- a message
 
@@ -181,10 +181,10 @@ module _ (G : VerifyFn) (s : State) (rests : Rests G s) (required : RequiredCapa
   -- one more is pending
   pending_rests : (k : KnownProposal) → can_hold G s k ≡ true → Rests G (with_pending s k)
   pending_rests k can = record {
-    followed = rests.followed;
+    supported = rests.supported;
     hashed = rests.hashed;
     held =
-        subst (λ (es : List KnownEntry). Holds G (record s { known = [] }) es (with_pending s k)) (sym (map_push stored_entry s.known k))
+        subst (λ (es : List KnownEntry). CanHoldEntries G (record s { known = [] }) es (with_pending s k)) (sym (map_push stored_entry s.known k))
         (held_more G (record s { known = [] }) (map stored_entry s.known) s k rests.held can);
   }
 
@@ -260,17 +260,17 @@ module _ (G : VerifyFn) (s : State) (rests : Rests G s) (required : RequiredCapa
 -- ---- runs
 
 resumable : (G : VerifyFn) (s : State) → IsValidState G s → Rests G s → IsResumable G s
-resumable G s v r = record { followed = r.followed; valid = v; hashed = r.hashed; held = r.held }
+resumable G s v r = record { supported = r.supported; valid = v; hashed = r.hashed; held = r.held }
 
 module _ (G : VerifyFn) (s : State) (h : IsResumable G s) (bytes : List ℕ) where
   rests : Rests G s
-  rests = record { followed = h.followed; hashed = h.hashed; held = h.held }
+  rests = record { supported = h.supported; hashed = h.hashed; held = h.held }
 
   accepted_resumable : (step : Transition) → IsAcceptable G s bytes → IsNext s bytes step → IsResumable G step.state
   accepted_resumable step a n =
       let after : next s a.message ≡ Some step = ap (next s) (one_message a.message n.message bytes a.encoded n.encoded) ∙ n.after in
-      resumable G step.state (step_valid G s a.required a.message step h.valid a.requires a.kept after)
-      (step-rests G s rests a.required a.message step a.encoded.allowed a.kept after)
+      resumable G step.state (step_valid G s a.required a.message step h.valid a.requires a.rules_hold after)
+      (step-rests G s rests a.required a.message step a.encoded.allowed a.rules_hold after)
 
   taken_resumable : (answer : Result Taken Refusal) (new : State) → IsTransition G s bytes answer new → IsResumable G new
   taken_resumable (Ok taken) new t = accepted_resumable (record { taken = taken; state = new }) t.0 t.1
@@ -287,7 +287,7 @@ pub start_resumable : (profile : Profile) (G : VerifyFn) (info : GroupInfo) (sup
 start_resumable profile G info supplied s h =
     resumable G s (start_valid profile G info supplied s h)
     (subst (Rests G) (sym h.state) (record {
-      followed = h.has_signer.has_members.valid_tree.readable.has_tree.followed;
+      supported = h.has_signer.has_members.valid_tree.readable.has_tree.supported;
       hashed = length-interim info.context.cipher_suite info.context.confirmed (Some info.confirmation_tag) h.interim h.hashed;
       held = refl;
     }))
@@ -297,10 +297,10 @@ content_resumable : (G : VerifyFn) (c : FollowerState) (t : RatchetTree) (s : St
 content_resumable G c t s h =
     let w = held_entries G (base_state c t) c.known s h.held in
     let member = h.has_interim.has_members in
-    let held : Holds G (base_state c t) (map stored_entry w.0) (record (base_state c t) { known = w.0 }) =
-    subst (λ (u : State). Holds G (base_state c t) (map stored_entry w.0) u) w.2 (subst (λ (es : List KnownEntry). Holds G (base_state c t) es s) w.1 h.held) in
+    let held : CanHoldEntries G (base_state c t) (map stored_entry w.0) (record (base_state c t) { known = w.0 }) =
+    subst (λ (u : State). CanHoldEntries G (base_state c t) (map stored_entry w.0) u) w.2 (subst (λ (es : List KnownEntry). CanHoldEntries G (base_state c t) es s) w.1 h.held) in
     subst (IsResumable G) (sym w.2) (record {
-      followed = member.valid_tree.readable.has_tree.followed;
+      supported = member.valid_tree.readable.has_tree.supported;
       valid = record {
         valid = member.valid_tree.valid;
         required = h.has_interim.required;
@@ -314,7 +314,7 @@ content_resumable G c t s h =
 pub resumed_resumable : (G : VerifyFn) (bytes : List ℕ) (s : State) → IsResumed G bytes s → IsResumable G s
 resumed_resumable G bytes s h = content_resumable G h.content h.tree s h.state
 
-first_resumable : (G : VerifyFn) (s : State) → IsFirst G s → IsResumable G s
+first_resumable : (G : VerifyFn) (s : State) → IsInitialState G s → IsResumable G s
 first_resumable G s (inl h) = start_resumable h.0 G h.1 h.2 s h.3
 first_resumable G s (inr h) = resumed_resumable G h.0 s h.1
 

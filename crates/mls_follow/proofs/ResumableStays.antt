@@ -13,7 +13,7 @@ use Rattle.mls_apply.specs.declared.list_item.KnownProposal.{KnownProposal}
 use Rattle.mls_apply.proofs.RuleLists.{AreKept}
 use Rattle.mls_follow.specs.State.{State}
 use Rattle.mls_follow.specs.StoredState.{stored_entry}
-use Rattle.mls_follow.specs.Resumption.{can_hold, is_receivable, with_pending, Holds}
+use Rattle.mls_follow.specs.Resumption.{can_hold, is_receivable, with_pending, CanHoldEntries}
 use Rattle.mls_follow.specs.StoredRuns.{ResumableStays}
 use Rattle.mls_follow.proofs.AcceptancesStay.{first_stays, both_stay, adds_stay, updates_stay}
 use Rattle.mls_follow.proofs.RisingRuns.{valid_stays}
@@ -44,13 +44,13 @@ module _ (G K : VerifyFn) (more : Extends G K) where
       let e = not (is_some (checked_refusal K s.context s.tree k.sender k.proposal)) in
       both_stay (a && b && c) d (a && b && c) e (λ h. h) (checked_stays s k.sender k.proposal)
 
-  holds_stay : (s : State) (es : List KnownEntry) (new : State) → Holds G s es new → Holds K s es new
+  holds_stay : (s : State) (es : List KnownEntry) (new : State) → CanHoldEntries G s es new → CanHoldEntries K s es new
   holds_stay s [] new h = h
   holds_stay s (e ∷ es) new h = (h.0, h.1, can_stay s h.0 h.2, holds_stay (with_pending s h.0) es new h.3)
 
 pub resumable_stays : ResumableStays
 resumable_stays G K s more h = record {
-  followed = h.followed;
+  supported = h.supported;
   valid = valid_stays G K s more h.valid;
   hashed = h.hashed;
   held = holds_stay G K more (record s { known = [] }) (map stored_entry s.known) s h.held;

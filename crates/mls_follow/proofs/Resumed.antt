@@ -16,7 +16,7 @@ use Rattle.mls_state.specs.StateFile.{HasChecksum}
 use Rattle.mls_state.specs.declared.state.FollowerState.{FollowerState}
 use Rattle.mls_follow.specs.State.{State}
 use Rattle.mls_follow.specs.StoredState.{IsTreeBody, IsIntact}
-use Rattle.mls_follow.specs.Resumption.{IsReadable, FailsInterim, FailsKnown, IsStateOf, IsContentFault, IsResumed, IsUnreadable, HasOtherChecksum, InFile, IsResumeFault, base_state}
+use Rattle.mls_follow.specs.Resumption.{IsReadableFile, FailsInterim, FailsKnown, IsStateOf, IsContentFault, IsResumed, IsUnreadableFile, HasOtherChecksum, InFile, IsResumeFault, base_state}
 use Rattle.mls_follow.specs.ResumptionParts.{resume_fault_of}
 use Rattle.mls_follow.specs.StoredRuns.{ResumptionIsUnique, ResumptionHasNoFault, ResumeFaultIsUnique, is_unreadable}
 use Rattle.mls_follow.specs.declared.resume_fault.ResumeFault.{ResumeFault}
@@ -53,13 +53,13 @@ module _ (G : VerifyFn) (c : FollowerState) (t : RatchetTree) where
 
   -- the context of a later stage is supported
   fault_followed : (g : GroupTreeFault) → g ≢ groups.OutOfMemory → IsGroupTreeFault G c.context Own g → IsSupportedContext c.context
-  fault_followed groups.RequirementsUnreadable own h = h.has_tree.followed
-  fault_followed (groups.Tree f) own h = h.readable.has_tree.followed
-  fault_followed (groups.Member f) own h = h.valid_tree.readable.has_tree.followed
+  fault_followed groups.RequirementsUnreadable own h = h.has_tree.supported
+  fault_followed (groups.Tree f) own h = h.readable.has_tree.supported
+  fault_followed (groups.Member f) own h = h.valid_tree.readable.has_tree.supported
   fault_followed groups.OutOfMemory own h = absurd (own refl)
 
   members_followed : (required : RequiredCapabilities) → HasMembers G c.context Own t required → IsSupportedContext c.context
-  members_followed required h = h.valid_tree.readable.has_tree.followed
+  members_followed required h = h.valid_tree.readable.has_tree.supported
 
   no_members : (required : RequiredCapabilities) (g : GroupTreeFault) → g ≢ groups.OutOfMemory → HasMembers G c.context Own t required → IsGroupTreeFault G c.context Own g → ⊥
   no_members required g own h f = fault-no_members G c.context t required g h f own
@@ -116,7 +116,7 @@ module _ (G : VerifyFn) (bytes : List ℕ) where
   -- what fails: reading, the checksum, or a condition of the content
   abbrev Kind : ResumeFault → Type 0
   Kind f =
-      ((is_unreadable f ≡ true) × IsUnreadable bytes)
+      ((is_unreadable f ≡ true) × IsUnreadableFile bytes)
       ⊎ (((f ≡ ChecksumDiffers) × HasOtherChecksum bytes)
       ⊎ InFile bytes (λ c t. IsContentFault G c t f))
 
@@ -133,7 +133,7 @@ module _ (G : VerifyFn) (bytes : List ℕ) where
   kind OutOfMemory own h = absurd (own refl)
 
   -- an intact file is readable
-  readable : (c : FollowerState) (t : RatchetTree) (h : IsIntact bytes c t) → IsReadable bytes h.file.file t
+  readable : (c : FollowerState) (t : RatchetTree) (h : IsIntact bytes c t) → IsReadableFile bytes h.file.file t
   readable c t h = record {
     encoded = h.file.encoded;
     bounded = h.bounded;

@@ -28,7 +28,7 @@ use Rattle.mls_state.specs.declared.file.StateFile.{StateFile}
 use Rattle.mls_state.specs.declared.state.FollowerState.{FollowerState}
 use Rattle.mls_follow.specs.State.{State}
 use Rattle.mls_follow.specs.StoredState.{IsTreeBody, IsIntact}
-use Rattle.mls_follow.specs.Resumption.{IsReadable, HasInterim, IsStateOf, IsContentFault, IsResumed, IsUnreadable, IsResumeFault, base_state}
+use Rattle.mls_follow.specs.Resumption.{IsReadableFile, HasInterim, IsStateOf, IsContentFault, IsResumed, IsUnreadableFile, IsResumeFault, base_state}
 use Rattle.mls_follow.specs.ResumptionParts.{HasNoTree}
 use Rattle.mls_follow.specs.StoredRuns.{ResumptionOrFault}
 use Rattle.mls_follow.specs.declared.resume_fault.ResumeFault.{ResumeFault}
@@ -128,7 +128,7 @@ module _ (G : VerifyFn) (bytes : List ℕ) where
           inr (λ h. false≢true (sym other ∙ (bytes_eq-Decides file.checksum (sha256 body)).1
           (h.digest ∙ ap sha256 (same_Some h.body body (sym h.encoded ∙ is)))))
 
-  by_checksum : (file : StateFile) (t : RatchetTree) → IsReadable bytes file t → ResumedOrFault
+  by_checksum : (file : StateFile) (t : RatchetTree) → IsReadableFile bytes file t → ResumedOrFault
   by_checksum file t h =
       elim (checksum_or_not file h.encoded) [
         | inl checked ↦ by_content file.state t (record {
@@ -139,7 +139,7 @@ module _ (G : VerifyFn) (bytes : List ℕ) where
         | inr other ↦ inr (ChecksumDiffers, (λ e. cc), (file, t, h, other))
       ]
 
-  unreadable : IsUnreadable bytes → ResumedOrFault
+  unreadable : IsUnreadableFile bytes → ResumedOrFault
   unreadable none = inr (Unreadable nodes.LastBlank, (λ e. cc), none)
 
   by_body : (file : StateFile) → state_file file ≡ Some bytes → length bytes ≤ input_limit → ResumedOrFault

@@ -30,7 +30,7 @@ use Rattle.mls_apply.specs.declared.list_item.KnownProposal.{KnownProposal}
 use Rattle.mls_follow.specs.GroupModel.{group_state}
 use Rattle.mls_follow.specs.State.{State}
 use Rattle.mls_follow.specs.StoredState.{IsTreeBody, IsIntact, stored_entry}
-use Rattle.mls_follow.specs.Resumption.{can_hold, is_receivable, is_over, profile_of, with_pending, Holds, FailsEntry, HasInterim, IsStateOf, IsContentFault, IsUnreadable, HasOtherChecksum, IsResumed, IsResumeFault, base_state}
+use Rattle.mls_follow.specs.Resumption.{can_hold, is_receivable, is_over, profile_of_mode, with_pending, CanHoldEntries, FailsEntry, HasInterim, IsStateOf, IsContentFault, IsUnreadableFile, HasOtherChecksum, IsResumed, IsResumeFault, base_state}
 use Rattle.mls_follow.specs.ResumptionParts.{HasNoTree, ReadsTreeBody, resume_fault_of, unreadable, IsKnownFault, state_without_pending}
 use Rattle.mls_follow.specs.declared.group.Group.{Group}
 use Rattle.mls_follow.specs.declared.resume_fault.ResumeFault.{ResumeFault}
@@ -53,7 +53,7 @@ too_long_held G s e long k is can =
 
 -- what is left of the entries decides for all
 pub record Continues (G : VerifyFn) (s : State) (es : List KnownEntry) (t : State) (rest : List KnownEntry) (n : ℕ) : Type 0 where
-  pub held : (new : State) → Holds G t rest new → Holds G s es new
+  pub held : (new : State) → CanHoldEntries G t rest new → CanHoldEntries G s es new
   pub fails : (m : ℕ) → FailsEntry G t rest m → FailsEntry G s es (n + m)
   pub count : n + length rest ≡ length es
 
@@ -74,8 +74,8 @@ module _ (G : VerifyFn) (s : State) (es : List KnownEntry) (t : State) (rest : L
   pub continues_more : (u : State) (e : KnownEntry) (tail : List KnownEntry) → rest ≡ e ∷ tail
       → ((k : KnownProposal) × (e ≡ stored_entry k) × (can_hold G t k ≡ true) × (u ≡ with_pending t k)) → Continues G s es u tail (n + 1)
   continues_more u e tail first k = record {
-    held = λ new later. h.held new (subst (λ (xs : List KnownEntry). Holds G t xs new) (sym first)
-        (k.0, k.1, k.2, subst (λ (v : State). Holds G v tail new) k.3 later));
+    held = λ new later. h.held new (subst (λ (xs : List KnownEntry). CanHoldEntries G t xs new) (sym first)
+        (k.0, k.1, k.2, subst (λ (v : State). CanHoldEntries G v tail new) k.3 later));
     fails = λ m later. subst (λ (j : ℕ). FailsEntry G s es j) (let e : n + suc m ≡ n + 1 + m = omega arith in e)
         (h.fails (suc m) (subst (λ (xs : List KnownEntry). FailsEntry G t xs (suc m)) (sym first)
         (k.0, k.1, k.2, subst (λ (v : State). FailsEntry G v tail m) k.3 later)));
@@ -88,8 +88,8 @@ module _ (G : VerifyFn) (s : State) (es : List KnownEntry) (t : State) (rest : L
       subst (λ (j : ℕ). FailsEntry G s es j) (let e : n + 0 ≡ n = omega arith in e)
       (h.fails 0 (subst (λ (xs : List KnownEntry). FailsEntry G t xs 0) (sym first) none))
 
-  pub holds_all : rest ≡ [] → Holds G s es t
-  holds_all none = h.held t (subst (λ (xs : List KnownEntry). Holds G t xs t) (sym none) refl)
+  pub holds_all : rest ≡ [] → CanHoldEntries G s es t
+  holds_all none = h.held t (subst (λ (xs : List KnownEntry). CanHoldEntries G t xs t) (sym none) refl)
 
 -- ---- trees
 
@@ -123,16 +123,16 @@ damaged bytes f g t e other d le body = (
 )
 
 -- a file whose tree can't be read
-pub treeless : (bytes : List ℕ) (f : StateFile) → state_file f ≡ Some bytes → HasNoTree f.state.tree → IsUnreadable bytes
+pub treeless : (bytes : List ℕ) (f : StateFile) → state_file f ≡ Some bytes → HasNoTree f.state.tree → IsUnreadableFile bytes
 treeless bytes f e none other t h =
     none t (subst (λ (g : StateFile). IsTreeBody g.state.tree t) (one_value state_file state_file_at state_file_exact other f bytes h.encoded e) h.tree)
 
 -- bytes that are no file
-pub fileless : (bytes : List ℕ) → ((f : StateFile) → state_file f ≡ Some bytes → length bytes ≤ input_limit → ⊥) → IsUnreadable bytes
+pub fileless : (bytes : List ℕ) → ((f : StateFile) → state_file f ≡ Some bytes → length bytes ≤ input_limit → ⊥) → IsUnreadableFile bytes
 fileless bytes none f t h = none f h.encoded h.bounded
 
 -- a fault of a body is one of the bytes
-pub unreadable_fault : (G : VerifyFn) (bytes : List ℕ) (fault : NodeFault) → (fault ≢ nodes.OutOfMemory → IsUnreadable bytes) → IsResumeFault G bytes (unreadable fault)
+pub unreadable_fault : (G : VerifyFn) (bytes : List ℕ) (fault : NodeFault) → (fault ≢ nodes.OutOfMemory → IsUnreadableFile bytes) → IsResumeFault G bytes (unreadable fault)
 unreadable_fault G bytes (nodes.Wire f) h = h (λ e. cc)
 unreadable_fault G bytes (nodes.WrongNodeKind node_index) h = h (λ e. cc)
 unreadable_fault G bytes nodes.LastBlank h = h (λ e. cc)
@@ -187,16 +187,16 @@ no_tree_read body nodes.EmptyTree h own = h
 no_tree_read body nodes.TooManyLeaves h own = h
 no_tree_read body nodes.OutOfMemory h own = absurd (own refl)
 
-pub treeless_content : (bytes : List ℕ) (c : FollowerState) → IsFileOf bytes c → HasNoTree c.tree → IsUnreadable bytes
+pub treeless_content : (bytes : List ℕ) (c : FollowerState) → IsFileOf bytes c → HasNoTree c.tree → IsUnreadableFile bytes
 treeless_content bytes c h none = treeless bytes h.file h.encoded (λ t body. none t (subst (λ (d : FollowerState). IsTreeBody d.tree t) h.state body))
 
 module _ (G : VerifyFn) (c : FollowerState) (t : RatchetTree) (u : trees.Tree) (interim : List ℕ) (same : u ≡ t.tree) (equal : interim ≡ c.interim) (based : HasInterim G c t) where
   same_base : state_without_pending c.mode c.context u interim ≡ base_state c t
-  same_base = λ i. record { profile = profile_of c.mode; context = c.context; tree = same i; interim = equal i; known = []; ended = is_over c.mode }
+  same_base = λ i. record { profile = profile_of_mode c.mode; context = c.context; tree = same i; interim = equal i; known = []; ended = is_over c.mode }
 
-  pub state_of_content : (r : Result Group ResumeFault) → IfOk r (λ g. Holds G (state_without_pending c.mode c.context u interim) c.known (group_state g))
+  pub state_of_content : (r : Result Group ResumeFault) → IfOk r (λ g. CanHoldEntries G (state_without_pending c.mode c.context u interim) c.known (group_state g))
       → IfOk r (λ g. IsStateOf G c t (group_state g))
-  state_of_content (Ok g) h = record { has_interim = based; held = subst (λ (s : State). Holds G s c.known (group_state g)) same_base h }
+  state_of_content (Ok g) h = record { has_interim = based; held = subst (λ (s : State). CanHoldEntries G s c.known (group_state g)) same_base h }
   state_of_content (Err f) h = h
 
   pub fault_of_content : (r : Result Group ResumeFault) → IfErr r (IsKnownFault G (state_without_pending c.mode c.context u interim) c.known)

@@ -23,7 +23,7 @@ use Rattle.mls_signatures.specs.Agreement.{AgreeOn}
 use Rattle.mls_signatures.specs.SignaturesToVerify.{tree_signatures, proposal_signatures, pending_signatures, is_supported_context, all_resumption_signatures, resumption_signatures}
 use Rattle.mls_signatures.proofs.Agreement.{front, back, from_deduplicated}
 use Rattle.mls_follow.specs.State.{State}
-use Rattle.mls_follow.specs.Resumption.{can_hold, is_receivable, with_pending, Holds, base_state}
+use Rattle.mls_follow.specs.Resumption.{can_hold, is_receivable, with_pending, CanHoldEntries, base_state}
 use Rattle.mls_follow.specs.StoredRuns.{SignaturesDetermineResumption}
 use Rattle.mls_follow.proofs.MessageAgreement.{adds_alike, updates_alike}
 use Rattle.mls_follow.proofs.Pending.{held_entries}
@@ -52,8 +52,8 @@ module _ (G K : VerifyFn) where
       λ i. is_receivable s k && length k.reference == hash_length s.context.cipher_suite && not (is_some (find_known s.known k.reference))
       && not (is_some (refusal i))
 
-  holds_moves : (s : State) (es : List KnownEntry) (new : State) (h : Holds G s es new)
-      → AgreeOn G K (pending_signatures s.context (held_entries G s es new h).0) → Holds K s es new
+  holds_moves : (s : State) (es : List KnownEntry) (new : State) (h : CanHoldEntries G s es new)
+      → AgreeOn G K (pending_signatures s.context (held_entries G s es new h).0) → CanHoldEntries K s es new
   unfolding held_entries
   holds_moves s [] new h agree = h
   holds_moves s (e ∷ es) new h agree =
@@ -92,7 +92,7 @@ decide_resumptions G K bytes s agree h =
     let moved : AgreeOn G K (resumption_signatures context h.tree.tree held.0) =
     subst (λ (u : State). AgreeOn G K (resumption_signatures u.context u.tree u.known)) held.2 agree in
     let all : AgreeOn G K (leaves ++ pending) =
-    all_asked G K (is_supported_context context) (leaves ++ pending) (supported context interim.has_members.valid_tree.readable.has_tree.followed)
+    all_asked G K (is_supported_context context) (leaves ++ pending) (supported context interim.has_members.valid_tree.readable.has_tree.supported)
     (from_deduplicated G K (all_resumption_signatures context h.tree.tree held.0) moved) in
     record {
       content = h.content;

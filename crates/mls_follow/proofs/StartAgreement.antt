@@ -38,7 +38,7 @@ module _ (G K : VerifyFn) (info : GroupInfo) (supplied : Option RatchetTree) (ag
     asked : AgreeOn G K (info_signatures info (leaf_at 0 t.tree info.signer) ++ tree_signatures info.context.cipher_suite info.context.group_id 0 t.tree)
     asked =
         all_asked G K (is_supported info) (info_signatures info (leaf_at 0 t.tree info.signer) ++ tree_signatures info.context.cipher_suite info.context.group_id 0 t.tree)
-        (followed info valid.readable.has_tree.followed)
+        (followed info valid.readable.has_tree.supported)
         (from_deduplicated G K (all_start_signatures info t.tree) (agree t valid.readable.has_tree.uses))
 
     leaves_say : (i : ℕ) (x : LeafNode) → leaf_at 0 t.tree i ≡ Some x
@@ -86,10 +86,10 @@ module _ (G K : VerifyFn) (info : GroupInfo) (supplied : Option RatchetTree) (ag
     tree = h.tree;
     required = h.required;
     valid_tree = h.valid_tree;
-    own = h.own;
+    not_out_of_memory = h.not_out_of_memory;
     first =
         faults_alike G K info.context.cipher_suite info.context.group_id h.required h.tree.tree (leaves_say h.tree h.required h.valid_tree)
-        fault h.own h.first;
+        fault h.not_out_of_memory h.first;
   }
   fault_moves starts.SignerNotMember h = record {
     tree = h.tree;

@@ -12,8 +12,8 @@ use Rattle.mls_msgs.specs.declared.commit.UpdatePath.{UpdatePath}
 use Rattle.mls_msgs.specs.declared.proposal.Proposal.{Proposal}
 use Rattle.mls_msgs.specs.declared.proposal.Proposal.TheVariants.{Add, Update, Remove, ContextExtensions, PreSharedKey, ReInit, ExternalInit}
 use Rattle.mls_tree.specs.Tree.{Tree, height, leaf_at, leaf_count, member_count}
-use Rattle.mls_tree.specs.BlankLeaves.{first_blank_leaf, IsFirstBlank, AllLeavesSet}
-use Rattle.mls_tree.specs.TreeOperations.{put_leaf, blank_path, remove, extend, add, add_at, added_leaf, grown_for, number_or, blank_tree, is_overfilled_above}
+use Rattle.mls_tree.specs.BlankLeaves.{first_blank_leaf, IsFirstBlank, AllLeavesNonBlank}
+use Rattle.mls_tree.specs.TreeOperations.{put_leaf, blank_path, remove, extend, add, add_at, added_leaf, extended_if_full, number_or, blank_tree, is_overfilled_above}
 use Rattle.mls_tree.proofs.Added.{leaf_at-add_at_other}
 use Rattle.mls_tree.proofs.FirstBlanks.{first_blank_leaf-leftmost}
 use Rattle.mls_tree.proofs.Trees.{leaf_count-positive}
@@ -68,8 +68,8 @@ removes_stay i (x ∷ xs) t u none e set =
 -- ---- Adds
 
 module _ (i : ℕ) (t : Tree) (x : LeafNode) (set : IsSome (leaf_at 0 t i)) where
-  beside : (o : Option ℕ) → MatchOption o (AllLeavesSet t) (λ j. IsFirstBlank t j)
-      → IsSome (leaf_at 0 (add_at (grown_for o t) (number_or (leaf_count t) o) x) i)
+  beside : (o : Option ℕ) → MatchOption o (AllLeavesNonBlank t) (λ j. IsFirstBlank t j)
+      → IsSome (leaf_at 0 (add_at (extended_if_full o t) (number_or (leaf_count t) o) x) i)
   beside None h =
       let within = leaf_inside t i set in
       ap is_some (leaf_at-add_at_other (extend t) (leaf_count t) i x (omega (arith, leaf_count-positive (blank_tree (height t)))) (λ e. omega (arith, within, e)) ∙ leaf_at-extend t i) ∙ set
@@ -83,7 +83,7 @@ pub adds_stay : (i : ℕ) (xs : List LeafNode) (t : Tree) (g : AppliedTree) → 
 unfolding after_adds
 adds_stay i [] t g e set = subst (λ (v : AppliedTree). IsSome (leaf_at 0 v.tree i)) (same_Some (record { tree = t; added = [] }) g e) set
 adds_stay i (x ∷ xs) t g e set =
-    let m = mapped (added_leaf t) (after_adds xs (add t x)) g (unless (is_overfilled_above 0 (grown_for (first_blank_leaf 0 t) t) (added_leaf t)) (option_map (after_leaf (added_leaf t)) (after_adds xs (add t x))) g e) in
+    let m = mapped (added_leaf t) (after_adds xs (add t x)) g (unless (is_overfilled_above 0 (extended_if_full (first_blank_leaf 0 t) t) (added_leaf t)) (option_map (after_leaf (added_leaf t)) (after_adds xs (add t x))) g e) in
     subst (λ (v : Tree). IsSome (leaf_at 0 v i)) m.2 (adds_stay i xs (add t x) m.0 m.1 (add-stays i t x set))
 
 -- ---- the whole list

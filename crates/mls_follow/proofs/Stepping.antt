@@ -223,7 +223,7 @@ pub taken : (G : VerifyFn) (s : State) (bytes : List ℕ) (answer : Result Taken
 taken G s bytes (Ok t) new h =
     let a : IsAcceptable G s bytes = h.0 in
     let n : IsNext s bytes (record { taken = t; state = new }) = h.1 in
-    stays_or_moves G s a.required a.requires a.message (record { taken = t; state = new }) a.kept
+    stays_or_moves G s a.required a.requires a.message (record { taken = t; state = new }) a.rules_hold
     (ap (next s) (one_message a.message n.message bytes a.encoded n.encoded) ∙ n.after)
 taken G s bytes (Err e) new h = inl (record { context = ap (λ (t : State). t.context) h.0; tree = ap (λ (t : State). t.tree) h.0 })
 

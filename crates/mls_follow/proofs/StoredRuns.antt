@@ -22,7 +22,7 @@ use Rattle.mls_apply.specs.declared.list_item.KnownProposal.{KnownProposal}
 use Rattle.mls_apply.proofs.Encodings.{put_back, right_encoded}
 use Rattle.mls_follow.specs.State.{State}
 use Rattle.mls_follow.specs.StoredState.{IsIntact, Stores, stored_entry, stored_mode}
-use Rattle.mls_follow.specs.Resumption.{Holds, IsStateOf, IsResumed, base_state, is_over, profile_of}
+use Rattle.mls_follow.specs.Resumption.{CanHoldEntries, IsStateOf, IsResumed, base_state, is_over, profile_of_mode}
 use Rattle.mls_follow.specs.StoredRuns.{IsResumable, ResumableStatesResume, FollowersResume, ResumptionsAreValid, ResumedRunsAreValid, ResumedRunsAreAnswered}
 use Rattle.mls_follow.proofs.Deciding.{an_answer}
 use Rattle.mls_follow.proofs.Holding.{IsSteady, run_steady}
@@ -34,11 +34,11 @@ use Rattle.mls_follow.proofs.Validity.{run_valid}
 -- ---- a stored state is resumed
 
 -- the mode of a file is that of the profile, and of a group that is over or goes on
-mode_same : (m : GroupMode) (profile : Profile) (ended : Bool) → stored_mode profile ended ≡ Some m → (profile ≡ profile_of m) × (ended ≡ is_over m)
-mode_same m profiles.Members false h = let e = same_Some modes.Members m h in (ap profile_of e, ap is_over e)
+mode_same : (m : GroupMode) (profile : Profile) (ended : Bool) → stored_mode profile ended ≡ Some m → (profile ≡ profile_of_mode m) × (ended ≡ is_over m)
+mode_same m profiles.Members false h = let e = same_Some modes.Members m h in (ap profile_of_mode e, ap is_over e)
 mode_same m profiles.Members true h = absurd (none-some m h)
-mode_same m profiles.Full false h = let e = same_Some modes.Full m h in (ap profile_of e, ap is_over e)
-mode_same m profiles.Full true h = let e = same_Some modes.Ended m h in (ap profile_of e, ap is_over e)
+mode_same m profiles.Full false h = let e = same_Some modes.Full m h in (ap profile_of_mode e, ap is_over e)
+mode_same m profiles.Full true h = let e = same_Some modes.Ended m h in (ap profile_of_mode e, ap is_over e)
 
 module _ (G : VerifyFn) (s : State) (c : FollowerState) (t : RatchetTree) (h : IsResumable G s) (stores : Stores c t s) where
   -- the state without its pending proposals
@@ -58,7 +58,7 @@ module _ (G : VerifyFn) (s : State) (c : FollowerState) (t : RatchetTree) (h : I
   members =
       rw (stores.context) (record {
         valid_tree = record {
-          readable = record { has_tree = record { followed = h.followed; uses = refl }; requires = h.valid.requires };
+          readable = record { has_tree = record { supported = h.supported; uses = refl }; requires = h.valid.requires };
           valid = rw (stores.tree) h.valid.valid;
         };
         members = rw (stores.tree) h.valid.members;
@@ -72,8 +72,8 @@ module _ (G : VerifyFn) (s : State) (c : FollowerState) (t : RatchetTree) (h : I
       hashed = rw (stores.interim, stores.context) h.hashed;
     };
     held =
-        subst (λ (b : State). Holds G b c.known s) base_same
-        (subst (λ (es : List KnownEntry). Holds G (record s { known = [] }) es s) (sym stores.known) h.held);
+        subst (λ (b : State). CanHoldEntries G b c.known s) base_same
+        (subst (λ (es : List KnownEntry). CanHoldEntries G (record s { known = [] }) es s) (sym stores.known) h.held);
   }
 
 pub resumable_resumes : ResumableStatesResume

@@ -8,7 +8,7 @@ use Rattle.mls_wire.specs.Parsing.{vector_at}
 use Rattle.mls_wire.specs.VectorsExact.{vector_exact}
 use Rattle.mls_nodes.proofs.Trimming.{ratchet_tree_unambiguous, tree_again_trimmed}
 use Rattle.mls_nodes.specs.NodeModel.{NodeValue}
-use Rattle.mls_nodes.specs.RatchetTreeEncoding.{ratchet_tree, before, trimmed, filled, full_size}
+use Rattle.mls_nodes.specs.RatchetTreeEncoding.{ratchet_tree, prepend_trimmed, trimmed, filled, full_size}
 use Rattle.mls_tree.proofs.SameListings.{RatchetTree-listing}
 use Rattle.mls_tree.proofs.Trees.{length-listing}
 use Rattle.mls_tree.specs.RatchetTree.{RatchetTree}
@@ -48,7 +48,7 @@ one_body a b t p q =
 -- ---- a tree that is decoded from its own entries
 
 before_short : (x : Option NodeValue) (ys : List (Option NodeValue)) (n : ℕ)
-    → (k : ℕ) × (x ∷ ys ++ replicate n None ≡ before x ys ++ replicate k None)
+    → (k : ℕ) × (x ∷ ys ++ replicate n None ≡ prepend_trimmed x ys ++ replicate k None)
 before_short (Some v) ys n = (n, refl)
 before_short None [] n = (suc n, refl)
 before_short None (y ∷ ys) n = (n, refl)

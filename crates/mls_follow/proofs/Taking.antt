@@ -35,7 +35,7 @@ module _ (G : VerifyFn) (s : State) (required : RequiredCapabilities) (requires 
         → IfErr r (FailsWithRule (frame_refusal G s required a)) → OnErr r (new ≡ s)
         → (bytes : List ℕ) → EncodesMessage s.profile (messages.Public p) bytes → IsTransition G s bytes r new
     frame_taken (Ok taken) new kept next refused stays bytes encoded = (
-      record { message = messages.Public p; encoded = encoded; required = required; requires = requires; kept = word ∙ kept },
+      record { message = messages.Public p; encoded = encoded; required = required; requires = requires; rules_hold = word ∙ kept },
       record { message = messages.Public p; encoded = encoded; after = ap (λ (x : AuthenticatedParts). after_sender s x x.content.sender) (sym same) ∙ next },
     )
     frame_taken (Err e) new kept next refused stays bytes encoded =

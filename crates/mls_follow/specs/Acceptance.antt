@@ -23,7 +23,7 @@ pub record IsAcceptable (G : VerifyFn) (s : State) (bytes : List ℕ) : Type 0 w
   pub encoded : EncodesMessage s.profile message bytes
   pub required : RequiredCapabilities
   pub requires : Requires s.context required
-  pub kept : first_failing (message_rules G s required message) ≡ None
+  pub rules_hold : first_failing (message_rules G s required message) ≡ None
 
 -- `IsNext s bytes step`: the step is the one after the message of these bytes.
 pub record IsNext (s : State) (bytes : List ℕ) (step : Transition) : Type 0 where

@@ -55,10 +55,10 @@ committer_rules H path (Some q) = path_rules_of H q.applied_tree q.leaf path
 abbrev pub change_rules : (List ℕ → List ℕ) → Sender → Option UpdatePath → Option AppliedTree → List (Rule Refusal)
 change_rules H committer path o = committer_rules H path (option_and_then (committer_tree committer) o)
 
--- `state_in profile info t interim` is the state of a GroupInfo, a tree and an interim transcript hash, with no pending
--- proposals.
-abbrev pub state_in : Profile → GroupInfo → Tree → List ℕ → State
-state_in profile info t interim = record {
+-- `initial_state_of_tree profile info t interim` is the state of a GroupInfo, a tree and an interim transcript hash,
+-- with no pending proposals.
+abbrev pub initial_state_of_tree : Profile → GroupInfo → Tree → List ℕ → State
+initial_state_of_tree profile info t interim = record {
   profile = profile;
   context = info.context;
   tree = t;

@@ -19,9 +19,10 @@ use Rattle.mls_follow.specs.MessageRules.{message_rules}
 use Rattle.mls_follow.specs.Start.{UsesTree, IsStart, IsStartFault}
 use Rattle.mls_follow.specs.declared.start_fault.StartFault.{StartFault}
 
--- `message_signatures s m` is the signatures of a message in the state `s`, without duplicates. Empty if the group is over.
-abbrev pub message_signatures : State → Message → List SignatureToVerify
-message_signatures s m =
+-- `message_signatures_in_state s m` is the signatures of a message in the state `s`, without duplicates. Empty if the
+-- group is over.
+abbrev pub message_signatures_in_state : State → Message → List SignatureToVerify
+message_signatures_in_state s m =
     if s.ended then [] else lists.message_signatures s.profile s.context s.known s.tree m
 
 -- `state_signatures s` is the signatures of all leaves of the tree of `s`, from left to right (RFC 9420, 7.2).
@@ -32,7 +33,7 @@ state_signatures s = lists.tree_signatures s.context.cipher_suite s.context.grou
 pub record AreSignaturesOf (s : State) (bytes : List ℕ) (needed : List SignatureToVerify) : Type 0 where
   pub message : Message
   pub encoded : EncodesMessage s.profile message bytes
-  pub same : needed ≡ message_signatures s message
+  pub same : needed ≡ message_signatures_in_state s message
 
 -- `AgreeOnStart G K info supplied`: `G` and `K` agree on the signatures of a start, for each tree that it may use.
 abbrev pub AgreeOnStart : VerifyFn → VerifyFn → GroupInfo → Option RatchetTree → Type 0
@@ -45,7 +46,7 @@ AgreeOnStart G K info supplied =
 abbrev pub SignaturesDetermineRefusal : Type 0
 SignaturesDetermineRefusal =
     (G K : VerifyFn) (s : State) (required : RequiredCapabilities) (m : Message)
-    → AgreeOn G K (message_signatures s m)
+    → AgreeOn G K (message_signatures_in_state s m)
     → AgreeOn G K (state_signatures s)
     → first_failing (message_rules G s required m) ≡ first_failing (message_rules K s required m)
 

@@ -29,7 +29,7 @@ pub record IsProposalUnder (s : State) (a : AuthenticatedParts) (key : List ℕ)
   pub group : a.content.group_id ≡ s.context.group_id
   pub epoch : a.content.epoch ≡ s.context.epoch
   pub going : s.ended ≡ false
-  pub followed : is_sender_supported s.profile a.content.sender ≡ true
+  pub supported : is_sender_supported s.profile a.content.sender ≡ true
   pub allowed : may_propose a.content.sender p ≡ true
   pub signer : signing_key s.context s.tree a.content.sender a.content.content ≡ Some key
   pub content : a.content.content ≡ contents.Proposal p

@@ -29,7 +29,7 @@ use Rattle.mls_follow.specs.declared.resume_fault.ResumeFault.{ResumeFault}
 use Rattle.mls_follow.specs.declared.resume_fault.ResumeFault.TheVariants.{Unreadable, ChecksumDiffers, UnsupportedVersion, UnsupportedSuite, RequirementsUnreadable, Tree, Member, InterimLength, KnownInvalid, OutOfMemory}
 
 -- Condition 1: the bytes encode a file, of no more bytes than an input may have, and its tree can be read.
-pub record IsReadable (bytes : List ℕ) (file : StateFile) (t : RatchetTree) : Type 0 where
+pub record IsReadableFile (bytes : List ℕ) (file : StateFile) (t : RatchetTree) : Type 0 where
   pub encoded : state_file file ≡ Some bytes
   pub bounded : length bytes ≤ input_limit
   pub tree : IsTreeBody file.state.tree t
@@ -70,12 +70,12 @@ can_hold G s k =
 abbrev pub with_pending : State → KnownProposal → State
 with_pending s k = record s { known = s.known ++ k ∷ [] }
 
--- Condition 9, for the entries of a file: `Holds G s es new`: each of them in turn can be pending, from the state `s`
--- on, and `new` is the state with all of them.
-abbrev pub Holds : VerifyFn → State → List KnownEntry → State → Type 0
-Holds G s [] new = new ≡ s
-Holds G s (e ∷ es) new =
-    (k : KnownProposal) × (e ≡ stored_entry k) × (can_hold G s k ≡ true) × Holds G (with_pending s k) es new
+-- Condition 9, for the entries of a file: `CanHoldEntries G s es new`: each of them in turn can be pending, from the
+-- state `s` on, and `new` is the state with all of them.
+abbrev pub CanHoldEntries : VerifyFn → State → List KnownEntry → State → Type 0
+CanHoldEntries G s [] new = new ≡ s
+CanHoldEntries G s (e ∷ es) new =
+    (k : KnownProposal) × (e ≡ stored_entry k) × (can_hold G s k ≡ true) × CanHoldEntries G (with_pending s k) es new
 
 -- `FailsEntry G s es n`: those before the n-th can be pending, but the n-th can't. The first one is 0.
 abbrev pub FailsEntry : VerifyFn → State → List KnownEntry → ℕ → Type 0
@@ -84,11 +84,11 @@ FailsEntry G s (e ∷ es) zero = (k : KnownProposal) → e ≡ stored_entry k �
 FailsEntry G s (e ∷ es) (suc n) =
     (k : KnownProposal) × (e ≡ stored_entry k) × (can_hold G s k ≡ true) × FailsEntry G (with_pending s k) es n
 
--- `profile_of mode` is the profile in which a group of a file is followed.
-abbrev pub profile_of : GroupMode → Profile
-profile_of Members = profiles.Members
-profile_of Full = profiles.Full
-profile_of Ended = profiles.Full
+-- `profile_of_mode mode` is the profile in which a group of a file is followed.
+abbrev pub profile_of_mode : GroupMode → Profile
+profile_of_mode Members = profiles.Members
+profile_of_mode Full = profiles.Full
+profile_of_mode Ended = profiles.Full
 
 -- `is_over mode`: the group of a file is over.
 abbrev pub is_over : GroupMode → Bool
@@ -99,7 +99,7 @@ is_over Ended = true
 -- `base_state c t` is the state of a file without its pending proposals.
 abbrev pub base_state : FollowerState → RatchetTree → State
 base_state c t = record {
-  profile = profile_of c.mode;
+  profile = profile_of_mode c.mode;
   context = c.context;
   tree = t.tree;
   interim = c.interim;
@@ -110,7 +110,7 @@ base_state c t = record {
 -- `IsStateOf G c t s`: conditions 3 to 9 hold, and `s` is the state.
 pub record IsStateOf (G : VerifyFn) (c : FollowerState) (t : RatchetTree) (s : State) : Type 0 where
   pub has_interim : HasInterim G c t
-  pub held : Holds G (base_state c t) c.known s
+  pub held : CanHoldEntries G (base_state c t) c.known s
 
 -- `IsResumed G bytes s`: a follower resumes from the bytes in the state `s`. All nine conditions hold.
 pub record IsResumed (G : VerifyFn) (bytes : List ℕ) (s : State) : Type 0 where
@@ -150,17 +150,17 @@ IsContentFault G c t InterimLength = FailsInterim G c t
 IsContentFault G c t (KnownInvalid n) = FailsKnown G c t n
 IsContentFault G c t OutOfMemory = Unit {0}
 
--- `IsUnreadable bytes`: condition 1 fails.
-abbrev pub IsUnreadable : List ℕ → Type 0
-IsUnreadable bytes = (file : StateFile) (t : RatchetTree) → IsReadable bytes file t → ⊥
+-- `IsUnreadableFile bytes`: condition 1 fails.
+abbrev pub IsUnreadableFile : List ℕ → Type 0
+IsUnreadableFile bytes = (file : StateFile) (t : RatchetTree) → IsReadableFile bytes file t → ⊥
 
 -- `HasOtherChecksum bytes`: condition 2 fails.
 abbrev pub HasOtherChecksum : List ℕ → Type 0
-HasOtherChecksum bytes = (file : StateFile) × (t : RatchetTree) × IsReadable bytes file t × (HasChecksum file → ⊥)
+HasOtherChecksum bytes = (file : StateFile) × (t : RatchetTree) × IsReadableFile bytes file t × (HasChecksum file → ⊥)
 
 -- `IsResumeFault G bytes fault`: the fault is that of the first condition that fails. `OutOfMemory` says nothing.
 abbrev pub IsResumeFault : VerifyFn → List ℕ → ResumeFault → Type 0
-IsResumeFault G bytes (Unreadable fault) = IsUnreadable bytes
+IsResumeFault G bytes (Unreadable fault) = IsUnreadableFile bytes
 IsResumeFault G bytes ChecksumDiffers = HasOtherChecksum bytes
 IsResumeFault G bytes UnsupportedVersion = InFile bytes (λ c t. IsContentFault G c t UnsupportedVersion)
 IsResumeFault G bytes UnsupportedSuite = InFile bytes (λ c t. IsContentFault G c t UnsupportedSuite)

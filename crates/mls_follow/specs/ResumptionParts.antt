@@ -13,7 +13,7 @@ use Rattle.mls_state.specs.declared.known_entry.KnownEntry.{KnownEntry}
 use Rattle.mls_state.specs.declared.state.GroupMode.{GroupMode}
 use Rattle.mls_follow.specs.State.{State}
 use Rattle.mls_follow.specs.StoredState.{IsTreeBody}
-use Rattle.mls_follow.specs.Resumption.{FailsEntry, is_over, profile_of}
+use Rattle.mls_follow.specs.Resumption.{FailsEntry, is_over, profile_of_mode}
 use Rattle.mls_follow.specs.declared.resume_fault.ResumeFault.{ResumeFault}
 use Rattle.mls_follow.specs.declared.resume_fault.ResumeFault.TheVariants.{Unreadable, ChecksumDiffers, UnsupportedVersion, UnsupportedSuite, RequirementsUnreadable, Tree, Member, InterimLength, KnownInvalid, OutOfMemory}
 
@@ -61,7 +61,7 @@ IsKnownFault G s es OutOfMemory = Unit {0}
 -- `state_without_pending mode context t interim` is the state with no pending proposals.
 abbrev pub state_without_pending : GroupMode → GroupContext → trees.Tree → List ℕ → State
 state_without_pending mode context t interim = record {
-  profile = profile_of mode;
+  profile = profile_of_mode mode;
   context = context;
   tree = t;
   interim = interim;

@@ -89,7 +89,7 @@ pub record IsStart
 
 -- `FailsTree info supplied`: condition 3 fails, there is no tree.
 pub record FailsTree (info : GroupInfo) (supplied : Option RatchetTree) : Type 0 where
-  pub followed : IsSupportedContext info.context
+  pub supported : IsSupportedContext info.context
   pub none : UsesNoTree supplied info.extensions
 
 -- `FailsSigner G info supplied`: condition 7 fails, the signer's leaf is blank.

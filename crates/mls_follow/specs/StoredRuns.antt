@@ -13,7 +13,7 @@ use Rattle.mls_follow.specs.Start.{IsStart}
 use Rattle.mls_follow.specs.Runs.{Call, IsRun, HasAnswer}
 use Rattle.mls_follow.specs.Validity.{IsValidState}
 use Rattle.mls_follow.specs.StoredState.{EncodesState, HasNoFile, stored_entry}
-use Rattle.mls_follow.specs.Resumption.{Holds, IsResumed, IsResumeFault}
+use Rattle.mls_follow.specs.Resumption.{CanHoldEntries, IsResumed, IsResumeFault}
 use Rattle.mls_follow.specs.declared.resume_fault.ResumeFault.{ResumeFault}
 use Rattle.mls_follow.specs.declared.resume_fault.ResumeFault.TheVariants.{Unreadable, ChecksumDiffers, UnsupportedVersion, UnsupportedSuite, RequirementsUnreadable, Tree, Member, InterimLength, KnownInvalid, OutOfMemory}
 
@@ -21,14 +21,14 @@ use Rattle.mls_follow.specs.declared.resume_fault.ResumeFault.TheVariants.{Unrea
 -- nodes are valid, the interim transcript hash has the length of the suite's hashes, and each pending proposal can be
 -- pending after those before it.
 pub record IsResumable (G : VerifyFn) (s : State) : Type 0 where
-  pub followed : IsSupportedContext s.context
+  pub supported : IsSupportedContext s.context
   pub valid : IsValidState G s
   pub hashed : length s.interim ≡ hash_length s.context.cipher_suite
-  pub held : Holds G (record s { known = [] }) (map stored_entry s.known) s
+  pub held : CanHoldEntries G (record s { known = [] }) (map stored_entry s.known) s
 
--- `IsFirst G s`: a follower starts from a GroupInfo in the state, or resumes from a file in it.
-abbrev pub IsFirst : VerifyFn → State → Type 0
-IsFirst G s =
+-- `IsInitialState G s`: a follower starts from a GroupInfo in the state, or resumes from a file in it.
+abbrev pub IsInitialState : VerifyFn → State → Type 0
+IsInitialState G s =
     ((profile : Profile) × (info : GroupInfo) × (supplied : Option RatchetTree) × IsStart profile G info supplied s)
     ⊎ ((bytes : List ℕ) × IsResumed G bytes s)
 
@@ -99,13 +99,13 @@ ResumableStatesResume =
 -- After any run from a start or a resumption the state satisfies the conditions.
 abbrev pub FollowersAreResumable : Type 0
 FollowersAreResumable =
-    (G : VerifyFn) (first last : State) (calls : List Call) → IsFirst G first → IsRun G first calls last
+    (G : VerifyFn) (first last : State) (calls : List Call) → IsInitialState G first → IsRun G first calls last
     → IsResumable G last
 
 -- So from the file of a follower's state a follower resumes in this state.
 abbrev pub FollowersResume : Type 0
 FollowersResume =
-    (G : VerifyFn) (first last : State) (calls : List Call) (bytes : List ℕ) → IsFirst G first
+    (G : VerifyFn) (first last : State) (calls : List Call) (bytes : List ℕ) → IsInitialState G first
     → IsRun G first calls last → EncodesState last bytes → IsResumed G bytes last
 
 -- If a checker comes to accept more signatures, the state satisfies the conditions by it too.

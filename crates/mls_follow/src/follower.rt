@@ -6,7 +6,7 @@ ghost use Rattle.mls_tree.specs.PublicTreeModel.{plain};
 ghost use Rattle.mls_nodes.specs.Requirements.{extension_of, Requires};
 ghost use Rattle.mls_msgs.specs.declared.profile.Profile.TheVariants.{Members};
 ghost use Rattle.mls_apply.specs.Staged.{IsSettled};
-ghost use Rattle.mls_follow.specs.CommitTree.{state_in};
+ghost use Rattle.mls_follow.specs.CommitTree.{initial_state_of_tree};
 ghost use Rattle.mls_follow.specs.State.{HasEncoding, EncodesMessage};
 ghost use Rattle.mls_follow.specs.GroupModel.{group_state};
 ghost use Rattle.mls_follow.specs.FollowerInvariant.{HasUniqueKeysAndValidLeaves, HasUniqueKeysAndValidLeaves-prop};
@@ -55,7 +55,7 @@ fn initial_group(
     requires suite_of_context { checked.suite ≡ info.context.cipher_suite }
     requires required { Requires info.context checked.required }
     requires settled { IsSettled tree }
-    ensures { group_state result ≡ state_in profile info tree.tree checked.interim }
+    ensures { group_state result ≡ initial_state_of_tree profile info tree.tree checked.interim }
 {
     Group {
         profile,

@@ -21,7 +21,7 @@ pub(crate) enum UnsupportedContext {
 
 /// Returns the cipher suite of a GroupContext whose version and suite are supported.
 pub(crate) fn suite_of(context: &GroupContext) -> Result<Suite, UnsupportedContext>
-    ensures followed { OnOk result (IsSupportedContext context.now) }
+    ensures supported { OnOk result (IsSupportedContext context.now) }
     ensures suite { IfOk result (λ suite. suite ≡ context.now.cipher_suite) }
     ensures version { (result ≡ Err UnsupportedContext.Version) ↔ (context.now.version ≢ 1) }
     ensures unsupported { (result ≡ Err UnsupportedContext.Suite) ↔ FailsSuite context.now }
@@ -56,7 +56,7 @@ pub(crate) fn group_requirements<C: SignatureCheck>(
     tree: &mut PublicTree,
     checker: &C,
 ) -> Result<RequiredCapabilities, GroupTreeFault>
-    requires followed { IsSupportedContext context.now }
+    requires supported { IsSupportedContext context.now }
     requires suite_of_context { suite ≡ context.now.cipher_suite }
     ensures tree { plain tree.new ≡ plain tree.old }
     ensures members { IfOk result (HasMembers (C.meaning checker.now) context.now

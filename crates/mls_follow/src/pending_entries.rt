@@ -9,7 +9,7 @@ ghost use Rattle.mls_apply.specs.declared.list_item.KnownProposal.{KnownProposal
 ghost use Rattle.mls_follow.specs.GroupModel.{group_state};
 ghost use Rattle.mls_follow.specs.StoredState.{stored_entry};
 ghost use Rattle.mls_follow.specs.MessageRules.{is_sender_supported, is_known_external};
-ghost use Rattle.mls_follow.specs.Resumption.{can_hold, is_receivable, with_pending, Holds};
+ghost use Rattle.mls_follow.specs.Resumption.{can_hold, is_receivable, with_pending, CanHoldEntries};
 ghost use Rattle.mls_follow.specs.ResumptionParts.{IsKnownFault};
 
 use crate::group::Group;
@@ -171,7 +171,7 @@ pub(crate) fn hold_entries<C: SignatureCheck>(
     checker: &C,
     entries: &[KnownEntry],
 ) -> Result<(), ResumeFault>
-    ensures held { OnOk result (Holds (C.meaning checker.now) (group_state group.old) entries.now (group_state group.new)) }
+    ensures held { OnOk result (CanHoldEntries (C.meaning checker.now) (group_state group.old) entries.now (group_state group.new)) }
     ensures refused { IfErr result (IsKnownFault (C.meaning checker.now) (group_state group.old) entries.now) }
 {
     let mut rest = entries;

@@ -10,10 +10,10 @@ use thiserror::Error;
 #[derive(Clone, Copy, Debug, PartialEq, Eq, Error)]
 pub enum Refusal {
     /// The bytes are the encoding of no message, or more than 268,435,456 (RFC 9420, 6).
-    #[error("the bytes spell no message")]
+    #[error("the bytes encode no message")]
     Malformed,
     /// The message is not a PublicMessage: its wire format is not 1 (RFC 9420, 6).
-    #[error("the message is not in the open")]
+    #[error("the message is not a PublicMessage")]
     NotPublic,
     /// The message's group id is not that of the GroupContext (RFC 9420, 6.1).
     #[error("the message is of another group")]
@@ -34,7 +34,7 @@ pub enum Refusal {
     #[error("the message's signature is not good")]
     BadSignature,
     /// A proposal that is pending already, by its reference (RFC 9420, 5.2; own rule).
-    #[error("the proposal is known")]
+    #[error("the proposal is pending already")]
     KnownProposal,
     /// The KeyPackage of an Add is not valid (RFC 9420, 10.1 and 12.1.1): it is of another version or cipher suite than
     /// the group, the source of its leaf node is not key_package, its init key is the leaf's encryption key, or one of
@@ -46,7 +46,7 @@ pub enum Refusal {
     #[error("an updated leaf is not valid")]
     UpdateInvalid,
     /// The leaf of a Remove is blank (RFC 9420, 12.1.3).
-    #[error("a removed leaf is not set")]
+    #[error("a removed leaf is blank")]
     RemoveInvalid,
     /// A commit in epoch 18,446,744,073,709,551,615, the largest that a GroupContext can hold (RFC 9420, 8.1; own
     /// rule).
@@ -62,7 +62,7 @@ pub enum Refusal {
     #[error("the committer is removed")]
     RemovesCommitter,
     /// Two Updates or Removes of a proposal list apply to one leaf (RFC 9420, 12.2).
-    #[error("two proposals concern one leaf")]
+    #[error("two Update or Remove proposals apply to one leaf")]
     SameLeafTwice,
     /// A commit has no path, and its list is empty or has an Update, a Remove or a GroupContextExtensions (RFC 9420,
     /// 12.4). Or an external commit has no path (12.4.3.2).
@@ -95,10 +95,10 @@ pub enum Refusal {
     #[error("{0}")]
     Member(MemberFault),
     /// A proposal list has two GroupContextExtensions proposals (RFC 9420, 12.2).
-    #[error("two proposals bring extensions to the context")]
+    #[error("the proposal list has two GroupContextExtensions proposals")]
     TwoContextExtensions,
     /// The required capabilities of a GroupContextExtensions proposal cannot be read (RFC 9420, 11.1 and 12.1.7).
-    #[error("the extensions brought to the context can't be read")]
+    #[error("the required capabilities of a GroupContextExtensions proposal can't be read")]
     ContextExtensionsInvalid,
     /// The group is over: a commit with a ReInit was accepted (RFC 9420, 11.2 and 12.1.5).
     #[error("the group is over")]
@@ -113,7 +113,7 @@ pub enum Refusal {
     SenderContent,
     /// The nonce of a PreSharedKey has not the length of the suite's hash; or its usage is reinit or branch, and the epoch is
     /// not 0 or the sender no member (RFC 9420, 12.1.4).
-    #[error("an injected key is not valid")]
+    #[error("a PreSharedKey proposal is not valid")]
     PskInvalid,
     /// The version of a ReInit is less than the group's (RFC 9420, 12.1.5).
     #[error("a reinitialization is to an earlier version")]
@@ -122,7 +122,7 @@ pub enum Refusal {
     #[error("an external init is outside an external commit")]
     ExternalInitMisplaced,
     /// Two PreSharedKeys of a proposal list have equal PreSharedKeyIDs, nonce and all (RFC 9420, 12.2).
-    #[error("one key is injected twice")]
+    #[error("two PreSharedKey proposals have one PreSharedKeyID")]
     PskTwice,
     /// A proposal list has a ReInit and another proposal (RFC 9420, 12.2).
     #[error("a reinitialization is not alone")]

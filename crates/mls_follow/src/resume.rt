@@ -13,7 +13,7 @@ ghost use Rattle.mls_state.specs.StateFile.{HasChecksum};
 ghost use Rattle.mls_state.specs.declared.file.StateFile.{StateFile};
 ghost use Rattle.mls_follow.specs.GroupModel.{group_state};
 ghost use Rattle.mls_follow.specs.StoredState.{IsIntact};
-ghost use Rattle.mls_follow.specs.Resumption.{HasInterim, Holds, IsStateOf, IsContentFault, IsResumed, IsResumeFault, is_over, profile_of};
+ghost use Rattle.mls_follow.specs.Resumption.{HasInterim, CanHoldEntries, IsStateOf, IsContentFault, IsResumed, IsResumeFault, is_over, profile_of_mode};
 ghost use Rattle.mls_follow.specs.ResumptionParts.{ReadsTreeBody, IsKnownFault, state_without_pending};
 
 use crate::group::Group;
@@ -85,7 +85,7 @@ fn read_state(alloc: Global, bytes: &[u8]) -> Result<(FollowerState, PublicTree)
 
 /// Returns the cipher suite of a context whose version and suite are supported.
 fn resumed_suite(context: &GroupContext) -> Result<Suite, ResumeFault>
-    ensures followed { OnOk result (IsSupportedContext context.now) }
+    ensures supported { OnOk result (IsSupportedContext context.now) }
     ensures suite { IfOk result (λ suite. suite ≡ context.now.cipher_suite) }
     ensures refused { IfErr result (λ e. (G : VerifyFn) (c : FollowerState) (t : RatchetTree)
         → c.context ≡ context.now → IsContentFault G c t e) }
@@ -106,7 +106,7 @@ fn resumed_tree<C: SignatureCheck>(
     mut tree: PublicTree,
     checker: &C,
 ) -> Result<(StagedTree, RequiredCapabilities), ResumeFault>
-    requires followed { IsSupportedContext context.now }
+    requires supported { IsSupportedContext context.now }
     requires suite_of_context { suite ≡ context.now.cipher_suite }
     ensures tree { IfOk result (λ found. found.0.tree ≡ tree.tree) }
     ensures settled { IfOk result (λ found. IsSettled found.0) }
@@ -185,8 +185,8 @@ fn check_content<C: SignatureCheck>(
 }
 
 /// Returns the profile in which the group of a file is followed.
-fn profile_of(mode: GroupMode) -> Profile
-    ensures { result ≡ profile_of mode }
+fn profile_of_mode(mode: GroupMode) -> Profile
+    ensures { result ≡ profile_of_mode mode }
 {
     match mode {
         GroupMode::Members => Profile::Members,
@@ -216,7 +216,7 @@ fn group_of<C: SignatureCheck>(
     requires suite { found.suite ≡ content.context.cipher_suite }
     requires settled { IsSettled found.tree }
     requires required { Requires content.context found.required }
-    ensures held { IfOk result (λ group. Holds (C.meaning checker.now)
+    ensures held { IfOk result (λ group. CanHoldEntries (C.meaning checker.now)
         (state_without_pending content.mode content.context found.tree.tree found.interim) content.known (group_state group)) }
     ensures refused { IfErr result (IsKnownFault (C.meaning checker.now)
         (state_without_pending content.mode content.context found.tree.tree found.interim) content.known) }
@@ -228,7 +228,7 @@ fn group_of<C: SignatureCheck>(
         ..
     } = content;
     let mut group = Group {
-        profile: profile_of(mode),
+        profile: profile_of_mode(mode),
         context,
         tree: found.tree,
         interim: found.interim,

@@ -16,10 +16,10 @@ pub enum ResumeFault {
     #[error("the checksum differs")]
     ChecksumDiffers,
     /// The group's version is not 1 (RFC 9420, 6).
-    #[error("the version is not followed")]
+    #[error("the version is not supported")]
     UnsupportedVersion,
     /// The group's cipher suite is not one from 1 to 7 (RFC 9420, 17.1).
-    #[error("the cipher suite is not followed")]
+    #[error("the cipher suite is not supported")]
     UnsupportedSuite,
     /// The group's required capabilities cannot be read (RFC 9420, 11.1).
     #[error("the required capabilities can't be read")]
@@ -35,7 +35,7 @@ pub enum ResumeFault {
     InterimLength,
     /// The pending proposal with this number, from 0 on, is not one that a follower in this state could hold (RFC 9420,
     /// 12.1 and 12.4).
-    #[error("the known proposal {0} is not valid")]
+    #[error("the pending proposal {0} is not valid")]
     KnownInvalid(usize),
     /// An allocation failed. It says nothing of the file.
     #[error("out of memory")]

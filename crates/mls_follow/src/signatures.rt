@@ -6,7 +6,7 @@ ghost use Rattle.mls_follow.specs.Acceptance.{EncodesNoMessage};
 ghost use Rattle.mls_follow.specs.GroupModel.{group_state};
 ghost use Rattle.mls_follow.specs.FollowerModel.{state_of, checker_of};
 ghost use Rattle.mls_follow.specs.MessageHeader.{HasNoHeader, IsUnreadMessage};
-ghost use Rattle.mls_follow.specs.MessageSignatures.{AreSignaturesOf, message_signatures};
+ghost use Rattle.mls_follow.specs.MessageSignatures.{AreSignaturesOf, message_signatures_in_state};
 
 use crate::follower::Follower;
 use crate::framed_content_rules::read_message;
@@ -22,7 +22,7 @@ use thiserror::Error;
 #[derive(Clone, Copy, Debug, PartialEq, Eq, Error)]
 pub enum SignatureListFault {
     /// The bytes encode no message (RFC 9420, 6).
-    #[error("the bytes spell no message")]
+    #[error("the bytes encode no message")]
     Malformed,
     /// An allocation failed. It says nothing of the message.
     #[error("out of memory")]
@@ -37,7 +37,7 @@ impl Group {
         message: &Message,
     ) -> Result<Vec<SignatureToVerify>, OutOfMemory>
         ensures signatures { IfOk result (λ v.
-            v.items ≡ message_signatures (group_state self.old) message.now) }
+            v.items ≡ message_signatures_in_state (group_state self.old) message.now) }
         ensures state { group_state self.new ≡ group_state self.old }
     {
         if self.ended {

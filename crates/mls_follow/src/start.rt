@@ -8,7 +8,7 @@ ghost use Rattle.mls_nodes.specs.Requirements.{extension_of, Requires};
 ghost use Rattle.mls_check.specs.GroupTree.{IsSupportedContext, HasMembers, FailsSuite};
 ghost use Rattle.mls_msgs.specs.declared.profile.Profile.{Profile};
 ghost use Rattle.mls_apply.specs.Staged.{IsSettled};
-ghost use Rattle.mls_follow.specs.CommitTree.{state_in};
+ghost use Rattle.mls_follow.specs.CommitTree.{initial_state_of_tree};
 ghost use Rattle.mls_follow.specs.Start.{UsesTree, UsesNoTree, IsStart, IsStartFault, StartsWith, FailsWith, IsSignedIn, FailsSigned, info_interim, is_info_signed};
 
 use crate::group_tree::{UnsupportedContext, group_requirements, suite_of};
@@ -49,7 +49,7 @@ pub(crate) struct StartParts {
 
 /// Returns the cipher suite of a GroupInfo whose version and suite are supported.
 pub(crate) fn supported_suite(info: &GroupInfo) -> Result<Suite, StartFault>
-    ensures followed { OnOk result (IsSupportedContext info.now.context) }
+    ensures supported { OnOk result (IsSupportedContext info.now.context) }
     ensures suite { IfOk result (λ suite. suite ≡ info.now.context.cipher_suite) }
     ensures refused { IfErr result (λ e. (G : VerifyFn) (supplied : Option RatchetTree)
         → IsStartFault G info.now supplied e) }
@@ -142,7 +142,7 @@ fn validated_requirements<C: SignatureCheck>(
     tree: &mut PublicTree,
     checker: &C,
 ) -> Result<RequiredCapabilities, StartFault>
-    requires followed { IsSupportedContext info.now.context }
+    requires supported { IsSupportedContext info.now.context }
     requires suite_of_context { suite ≡ info.now.context.cipher_suite }
     ensures tree { plain tree.new ≡ plain tree.old }
     ensures members { IfOk result (HasMembers (C.meaning checker.now) info.now.context
@@ -182,7 +182,7 @@ fn check_info_and_tree<C: SignatureCheck>(
     tree: &mut PublicTree,
     checker: &C,
 ) -> Result<StartParts, StartFault>
-    requires followed { IsSupportedContext info.now.context }
+    requires supported { IsSupportedContext info.now.context }
     requires suite_of_context { suite ≡ info.now.context.cipher_suite }
     ensures tree { plain tree.new ≡ plain tree.old }
     ensures suite { IfOk result (λ checked. checked.suite ≡ info.now.context.cipher_suite) }
@@ -213,7 +213,7 @@ fn check_tree<C: SignatureCheck>(
     mut tree: PublicTree,
     checker: &C,
 ) -> Result<(StagedTree, StartParts), (StartFault, PublicTree)>
-    requires followed { IsSupportedContext info.now.context }
+    requires supported { IsSupportedContext info.now.context }
     requires suite_of_context { suite ≡ info.now.context.cipher_suite }
     ensures tree { IfOk result (λ found. found.0.tree ≡ tree.tree) }
     ensures settled { IfOk result (λ found. IsSettled found.0) }
@@ -243,13 +243,13 @@ fn check_embedded_tree<C: SignatureCheck>(
     info: &GroupInfo,
     checker: &C,
 ) -> Result<(StagedTree, StartParts), StartFault>
-    requires followed { IsSupportedContext info.now.context }
+    requires supported { IsSupportedContext info.now.context }
     requires suite_of_context { suite ≡ info.now.context.cipher_suite }
     ensures settled { IfOk result (λ found. IsSettled found.0) }
     ensures suite { IfOk result (λ found. found.1.suite ≡ info.now.context.cipher_suite) }
     ensures required { IfOk result (λ found. Requires info.now.context found.1.required) }
     ensures started { IfOk result (λ found. (profile : Profile) → IsStart profile (C.meaning checker.now)
-        info.now None (state_in profile info.now found.0.tree found.1.interim)) }
+        info.now None (initial_state_of_tree profile info.now found.0.tree found.1.interim)) }
     ensures refused { IfErr result (IsStartFault (C.meaning checker.now) info.now None) }
     ensures no_extension { extension_of 2 info.now.extensions ≡ None
         → result ≡ Err StartFault.NoTree }
@@ -273,13 +273,13 @@ pub(crate) fn check_start<C: SignatureCheck>(
     tree: Option<PublicTree>,
     checker: &C,
 ) -> Result<(StagedTree, StartParts), (StartFault, Option<PublicTree>)>
-    requires followed { IsSupportedContext info.now.context }
+    requires supported { IsSupportedContext info.now.context }
     requires suite_of_context { suite ≡ info.now.context.cipher_suite }
     ensures settled { IfOk result (λ found. IsSettled found.0) }
     ensures suite { IfOk result (λ found. found.1.suite ≡ info.now.context.cipher_suite) }
     ensures required { IfOk result (λ found. Requires info.now.context found.1.required) }
     ensures started { IfOk result (λ found. (profile : Profile) → IsStart profile (C.meaning checker.now)
-        info.now (option_map plain tree) (state_in profile info.now found.0.tree found.1.interim)) }
+        info.now (option_map plain tree) (initial_state_of_tree profile info.now found.0.tree found.1.interim)) }
     ensures refused { IfErr result (λ r. IsStartFault (C.meaning checker.now) info.now
         (option_map plain tree) r.0) }
     ensures returned_arguments { IfErr result (λ r. option_map plain r.1 ≡ option_map plain tree) }

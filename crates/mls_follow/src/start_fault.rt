@@ -8,10 +8,10 @@ use thiserror::Error;
 #[derive(Clone, Copy, Debug, PartialEq, Eq, Error)]
 pub enum StartFault {
     /// The group's version is not 1 (RFC 9420, 6).
-    #[error("the version is not followed")]
+    #[error("the version is not supported")]
     UnsupportedVersion,
     /// The group's cipher suite is not one from 1 to 7 (RFC 9420, 17.1).
-    #[error("the cipher suite is not followed")]
+    #[error("the cipher suite is not supported")]
     UnsupportedSuite,
     /// No tree was passed, and the GroupInfo has no extension of type 2, or the first one cannot be read (RFC 9420,
     /// 12.4.3.3).
@@ -30,7 +30,7 @@ pub enum StartFault {
     #[error("the signer is no member")]
     SignerNotMember,
     /// The signature of the GroupInfo is not good (RFC 9420, 12.4.3).
-    #[error("the group info's signature is not good")]
+    #[error("the signature of the GroupInfo is not good")]
     InfoSignature,
     /// An allocation failed. It says nothing of the GroupInfo.
     #[error("out of memory")]

@@ -11,9 +11,9 @@ use Rattle.mls_follow.specs.declared.taken.Taken.{Taken}
 use Rattle.mls_report.specs.Finding.{finding_line}
 use Rattle.mls_report.specs.SignaturesReport.{HasSignatures}
 use Rattle.mls_report.specs.declared.finding.Finding.{Finding}
-use Rattle.mls_gate.specs.Answers.{Outcome, Goes, Ends, Begins, Queries, Processes, StoresState, Responds, Answers, message_query, ready_line, processed_line, stored_line, no_file_line, broken_line}
+use Rattle.mls_gate.specs.Answers.{Outcome, Goes, Ends, Begins, Queries, Processes, StoresState, Responds, Answers, message_query, ready_line, message_answer_line, stored_line, no_file_line, broken_line}
 use Rattle.mls_gate.specs.FirstStates.{IsFirstState, Declines}
-use Rattle.mls_gate.specs.GateSteps.{IsReadable, IsReady, Replies, AnswersIn, IsOutcome}
+use Rattle.mls_gate.specs.GateSteps.{AreReadableInputs, IsReady, Replies, AnswersIn, IsOutcome}
 use Rattle.mls_gate.specs.Phases.{Inputs, Phase, Opening, Following}
 use Rattle.mls_gate.specs.Requests.{request_of, having_learnt}
 use Rattle.mls_gate.specs.declared.request.Request.{Request}
@@ -25,7 +25,7 @@ use Rattle.mls_gate.proofs.FirstStates.{declines-refuses}
 pub begun : (G : VerifyFn) (i : Inputs) (s : State) → IsFirstState G i s → Replies (Begins i G) (ready_line s) false (Some (Following G s))
 begun G i s first = record { outcome = Goes (ready_line s) (Following G s); meets = inl (s, first, refl); is = (refl, refl, refl) }
 
-pub not-begun : (G : VerifyFn) (i : Inputs) (finding : Finding) (after : Option Phase) → IsReadable i → Declines G i finding
+pub not-begun : (G : VerifyFn) (i : Inputs) (finding : Finding) (after : Option Phase) → AreReadableInputs i → Declines G i finding
     → Replies (Begins i G) (finding_line finding) true after
 not-begun G i finding after r d = record {
   outcome = Ends (finding_line finding);
@@ -44,9 +44,9 @@ queried G K s t message needed text has e same stays = record {
 }
 
 pub judged : (G K : VerifyFn) (s t : State) (message : List ℕ) (answer : Result Taken Refusal) (text : List ℕ) → IsAnswer G s message answer t
-    → text ≡ processed_line answer t → K ≡ G → Replies (Processes G s message) text false (Some (Following K t))
+    → text ≡ message_answer_line answer t → K ≡ G → Replies (Processes G s message) text false (Some (Following K t))
 judged G K s t message answer text is_answer e same = record {
-  outcome = Goes (processed_line answer t) (Following G t);
+  outcome = Goes (message_answer_line answer t) (Following G t);
   meets = (answer, t, is_answer, refl);
   is = (e, refl, λ i. Some (Following (same i) t));
 }
@@ -114,7 +114,7 @@ ready-responds (Following G s) new (Some Begin) rest text r a = no_end text brok
 ready-responds (Following G s) new (Some Query) rest text r a =
     subst (λ (p : Phase). IsReady (Some p)) (one_phase text (message_query G a.0) new (Following G s) a.2) tt
 ready-responds (Following G s) new (Some Process) rest text r a =
-    subst (λ (p : Phase). IsReady (Some p)) (one_phase text (processed_line a.0 a.1) new (Following G a.1) a.3) tt
+    subst (λ (p : Phase). IsReady (Some p)) (one_phase text (message_answer_line a.0 a.1) new (Following G a.1) a.3) tt
 ready-responds (Following G s) new (Some Store) rest text r (inl a) =
     subst (λ (p : Phase). IsReady (Some p)) (one_phase text (stored_line a.0) new (Following G s) a.2) tt
 ready-responds (Following G s) new (Some Store) rest text r (inr a) =

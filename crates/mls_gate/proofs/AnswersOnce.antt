@@ -8,7 +8,7 @@ use Rattle.mls_follow.proofs.StoredStates.{one_file}
 use Rattle.mls_report.specs.Finding.{finding_line}
 use Rattle.mls_report.specs.declared.finding.Finding.{Finding}
 use Rattle.mls_report.proofs.SignaturesOnce.{one_needed}
-use Rattle.mls_gate.specs.Answers.{Outcome, Goes, Ends, Begins, StoresState, Answers, Responds, processed_line, message_query, ready_line, stored_line}
+use Rattle.mls_gate.specs.Answers.{Outcome, Goes, Ends, Begins, StoresState, Answers, Responds, message_answer_line, message_query, ready_line, stored_line}
 use Rattle.mls_gate.specs.Phases.{Inputs, Phase, Opening, Following}
 use Rattle.mls_gate.specs.Requests.{request_of}
 use Rattle.mls_gate.specs.declared.request.Request.{Request}
@@ -43,7 +43,7 @@ one_response (Following G s) (Some Query) rest o u a b =
     a.2 ∙ ap (λ (w : Option (List SignatureToVerify)). Goes (message_query G w) (Following G s)) (one_needed s rest a.0 b.0 a.1 b.1) ∙ sym b.2
 one_response (Following G s) (Some Process) rest o u a b =
     let same = only_answer G s rest a.0 b.0 a.1 b.1 a.2 b.2 in
-    a.3 ∙ (λ k. Goes (processed_line (same.0 k) (same.1 k)) (Following G (same.1 k))) ∙ sym b.3
+    a.3 ∙ (λ k. Goes (message_answer_line (same.0 k) (same.1 k)) (Following G (same.1 k))) ∙ sym b.3
 one_response (Following G s) (Some Store) rest o u a b = one_store G s o u a b
 one_response (Following G s) None rest o u a b = a ∙ sym b
 

@@ -31,7 +31,7 @@ use Rattle.mls_report.proofs.FindingsOnce.{one_info, one_start_finding, one_star
 use Rattle.mls_report.proofs.InputsOnce.{yes_no, alike_starts}
 use Rattle.mls_report.proofs.StatesOnce.{one_state_finding}
 use Rattle.mls_gate.specs.FirstStates.{IsFirstState, CanStart, StartSignatures, IsFindingOf, Declines, Refuses}
-use Rattle.mls_gate.specs.GateSteps.{IsReadable}
+use Rattle.mls_gate.specs.GateSteps.{AreReadableInputs}
 use Rattle.mls_gate.specs.Phases.{GroupFiles, Inputs, OfGroup, OfState}
 
 -- ---- a GroupInfo and a tree
@@ -42,7 +42,7 @@ not_supplied (Some bytes) None a b = absurd b
 not_supplied (Some bytes) (Some t) a b = a b.nodes b.is_tree
 
 -- of files that can be read only that a start is refused
-refused-only : (G : VerifyFn) (files : GroupFiles) (finding : Finding) → IsReadable (OfGroup files) → Declines G (OfGroup files) finding
+refused-only : (G : VerifyFn) (files : GroupFiles) (finding : Finding) → AreReadableInputs (OfGroup files) → Declines G (OfGroup files) finding
     → (fault : StartFault) × (finding ≡ StartRefused fault)
 refused-only G files (StartRefused fault) r d = (fault, refl)
 refused-only G files (InfoUnreadable fault) r d = absurd (d.found (messages.GroupInfo r.info) r.is_read.is_info)
@@ -128,7 +128,7 @@ one_refusal G (OfState bytes) f g a b =
     ]
 
 -- inputs that can be read are refused
-pub declines-refuses : (G : VerifyFn) (i : Inputs) (f : Finding) → IsReadable i → Declines G i f → Refuses G i f
+pub declines-refuses : (G : VerifyFn) (i : Inputs) (f : Finding) → AreReadableInputs i → Declines G i f → Refuses G i f
 declines-refuses G (OfGroup files) f r d =
     let only = refused-only G files f r d in
     (only.0, only.1, subst (IsStartFinding files.profile G files.info files.tree) only.1 d.found)
@@ -136,7 +136,7 @@ declines-refuses G (OfState bytes) f r d =
     let w = is_refused G bytes f d in
     (w.fault, w.finding_is, readable-fault bytes r.0 r.1 G w.fault w.found.1, w.found)
 
-pub first_or_refused : (G : VerifyFn) (i : Inputs) → IsReadable i → ((s : State) × IsFirstState G i s) ⊎ ((f : Finding) × Refuses G i f)
+pub first_or_refused : (G : VerifyFn) (i : Inputs) → AreReadableInputs i → ((s : State) × IsFirstState G i s) ⊎ ((f : Finding) × Refuses G i f)
 first_or_refused G (OfGroup files) r =
     elim (begun files.profile G files.info files.tree) [
       | inl s ↦ inl (s.0, s.1)
@@ -150,7 +150,7 @@ first_or_refused G (OfState bytes) r =
 
 -- ---- with each signature good
 
-pub readable : (i : Inputs) (signatures : List SignatureToVerify) → CanStart i signatures → IsReadable i
+pub readable : (i : Inputs) (signatures : List SignatureToVerify) → CanStart i signatures → AreReadableInputs i
 readable (OfGroup files) signatures c = record { info = c.info; supplied = c.supplied; is_read = c.is_read }
 readable (OfState bytes) signatures c = (c.state, c.resumed)
 

@@ -2,7 +2,7 @@
 use Rattle.std.proofs.Common.{◌≡◌, ◌≢◌, ◌∙◌, ℕ, zero, suc, List, [], ◌∷◌, ◌++◌, drop, Option, Some, None, Result, Ok, Err, refl, sym, ap, subst, inl, inr, arith, append_assoc}
 use Rattle.std.specs.Prelude.{option_map}
 use Rattle.mls_check.specs.Signatures.{VerifyFn}
-use Rattle.mls_follow.specs.MessageSignatures.{message_signatures}
+use Rattle.mls_follow.specs.MessageSignatures.{message_signatures_in_state}
 use Rattle.mls_follow.specs.Runs.{IsAnswer, HasAnswer}
 use Rattle.mls_follow.specs.State.{State}
 use Rattle.mls_follow.specs.declared.refusal.Refusal.{Refusal}
@@ -22,12 +22,12 @@ use Rattle.mls_report.specs.declared.verdict.Verdict.TheVariants.{No}
 use Rattle.mls_report.proofs.LogsExist.{Begins, Breaks, comes}
 use Rattle.mls_report.proofs.ReplaysExist.{read_input, read_optional_tree}
 use Rattle.mls_gate.specs.Answers as specs
-use Rattle.mls_gate.specs.Answers.{Outcome, Goes, Ends, Answers, Responds, query_text, message_query, processed_line, ready_line, stored_line, no_file_line, broken_line}
+use Rattle.mls_gate.specs.Answers.{Outcome, Goes, Ends, Answers, Responds, query_text, message_query, message_answer_line, ready_line, stored_line, no_file_line, broken_line}
 use Rattle.mls_gate.specs.FirstStates.{ReadsGroup, ReadsState}
 use Rattle.mls_gate.specs.GateReport.{Turn, phase_after, answers, record_limit, IsEnding, GatesOf}
 use Rattle.mls_gate.specs.GateReports.{GateExists, StateGateExists}
 use Rattle.mls_gate.specs.GateRuns.{HasStarted}
-use Rattle.mls_gate.specs.GateSteps.{IsReadable}
+use Rattle.mls_gate.specs.GateSteps.{AreReadableInputs}
 use Rattle.mls_gate.specs.Phases.{GroupFiles, Inputs, OfGroup, OfState, Phase, Opening, Following, end_verdict}
 use Rattle.mls_gate.specs.Requests.{request_of, having_learnt}
 use Rattle.mls_gate.specs.declared.request.Request.{Request}
@@ -46,16 +46,16 @@ some_needed : (G : VerifyFn) (s : State) (bytes : List ℕ) (answer : Result Tak
     → (needed : Option (List SignatureToVerify)) × HasSignatures s bytes needed
 some_needed G s bytes (Ok taken) new h =
     let message = h.takes.0 in
-    (Some (message_signatures s message.message), record { message = message.message; encoded = message.encoded; same = refl })
+    (Some (message_signatures_in_state s message.message), record { message = message.message; encoded = message.encoded; same = refl })
 some_needed G s bytes (Err e) new h =
     elim (h.takes.1 (own e h.memory)) [
       | inl none ↦ (None, none.1)
-      | inr message ↦ (Some (message_signatures s message.message), record { message = message.message; encoded = message.encoded; same = refl })
+      | inr message ↦ (Some (message_signatures_in_state s message.message), record { message = message.message; encoded = message.encoded; same = refl })
     ]
 
 -- ---- a record
 
-module _ (i : Inputs) (G : VerifyFn) (can_read : IsReadable i) where
+module _ (i : Inputs) (G : VerifyFn) (can_read : AreReadableInputs i) where
   abbrev Here : Phase → Type 0
   Here = Reached i G
 
@@ -67,7 +67,7 @@ module _ (i : Inputs) (G : VerifyFn) (can_read : IsReadable i) where
       let steady = run_steady L h.first run.calls s (first_steady h.known i h.first h.started) run.run in
       subst (λ (M : VerifyFn). HasAnswer M s bytes) h.run.meaning (an_answer L s steady.required bytes steady.held steady.requires)
 
-  some_begin : (j : Inputs) (K : VerifyFn) → IsReadable j → (o : Outcome) × specs.Begins j K o
+  some_begin : (j : Inputs) (K : VerifyFn) → AreReadableInputs j → (o : Outcome) × specs.Begins j K o
   some_begin j K r =
       elim (first_or_refused K j r) [
         | inl s ↦ (Goes (ready_line s.0) (Following K s.0), inl (s.0, s.1, refl))
@@ -83,7 +83,7 @@ module _ (i : Inputs) (G : VerifyFn) (can_read : IsReadable i) where
 
   some_response : (p : Phase) (request : Option Request) (rest : List ℕ) → Here p → (o : Outcome) × Responds p request rest o
   some_response (Opening j K) (Some Learn) rest r = (Goes [] (Opening j (having_learnt K rest)), refl)
-  some_response (Opening j K) (Some Begin) rest r = some_begin j K (subst IsReadable (sym r.0) can_read)
+  some_response (Opening j K) (Some Begin) rest r = some_begin j K (subst AreReadableInputs (sym r.0) can_read)
   some_response (Opening j K) (Some Query) rest r = (Ends broken_line, refl)
   some_response (Opening j K) (Some Process) rest r = (Ends broken_line, refl)
   some_response (Opening j K) (Some Store) rest r = (Ends broken_line, refl)
@@ -96,7 +96,7 @@ module _ (i : Inputs) (G : VerifyFn) (can_read : IsReadable i) where
       (Goes (message_query K needed.0) (Following K s), (needed.0, needed.1, refl))
   some_response (Following K s) (Some Process) rest r =
       let answer = some_answer K s rest r in
-      (Goes (processed_line answer.0 answer.1) (Following K answer.1), (answer.0, answer.1, answer.2, refl))
+      (Goes (message_answer_line answer.0 answer.1) (Following K answer.1), (answer.0, answer.1, answer.2, refl))
   some_response (Following K s) (Some Store) rest r = some_store K s
   some_response (Following K s) None rest r = (Ends broken_line, refl)
 

@@ -12,7 +12,7 @@ use Rattle.mls_report.specs.declared.verdict.Verdict.{Verdict}
 use Rattle.mls_report.proofs.InputsOnce.{written_is, one_input, one_tree_input}
 use Rattle.mls_gate.specs.Answers.{query_text}
 use Rattle.mls_gate.specs.FirstStates.{CanStart, Declines, ReadsGroup, ReadsState}
-use Rattle.mls_gate.specs.GateReport.{phase_after, answers, still_to_come, Serves, IsEnding, ReportsRecords, DeclinesGate, OpensGate, GatesOf}
+use Rattle.mls_gate.specs.GateReport.{phase_after, answers, records_to_come, Serves, IsEnding, ReportsRecords, DeclinesGate, OpensGate, GatesOf}
 use Rattle.mls_gate.specs.GateReports.{GateIsUnique, StateGateIsUnique}
 use Rattle.mls_gate.specs.Phases.{Inputs, OfGroup, OfState, Opening}
 use Rattle.mls_gate.proofs.FirstStates.{one_list, alike_findings, starts_or_declines}
@@ -32,7 +32,7 @@ same_records G records r q w x y z v o n m e a b =
       rest = a.rest;
       text = a.text;
       serves = subst (λ (x : Inputs). Serves (Opening x G) (Some records) r a.turns a.rest) e a.serves;
-      ending = subst (λ (x : Inputs). IsEnding (phase_after (Opening x G) a.turns) (still_to_come a.turns) a.rest r a.text v) e a.ending;
+      ending = subst (λ (x : Inputs). IsEnding (phase_after (Opening x G) a.turns) (records_to_come a.turns) a.rest r a.text v) e a.ending;
       wrote = a.wrote;
     } in
     one_answering (Opening m G) records r q w x y z v o moved b

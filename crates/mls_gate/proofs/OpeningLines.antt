@@ -12,7 +12,7 @@ use Rattle.mls_report.proofs.StartLines.{prefix-more, prefix-behind, leaves_belo
 use Rattle.mls_report.specs.SignaturesSteps.{signatures_of_leaf, LinesWithoutMemory, StopsInLines}
 use Rattle.mls_report.specs.declared.verdict.RunFault.{RunFault}
 use Rattle.mls_report.specs.declared.verdict.RunFault.TheVariants.{Read, Write, Memory}
-use Rattle.mls_gate.specs.Answers.{is_known, verify_line, verify_lines, count_line, query_text, unknown_count}
+use Rattle.mls_gate.specs.Answers.{is_known, verify_line, verify_lines, query_count_line, query_text, unknown_count}
 use Rattle.mls_gate.specs.GateSteps.{StopsInStartLines}
 
 -- ---- the lines of a list, and their number
@@ -58,13 +58,13 @@ count-leaves G s n a low high p = p ∙ ap (unknown_count G) (leaves-all s n low
 module _ (G : VerifyFn) (signatures : List SignatureToVerify) where
   pub in-lines : (a b : Option (List ℕ)) (fault : RunFault) → StopsInLines (verify_lines G) signatures a b fault → StopsInStartLines G signatures a b fault
   in-lines a b Read p = absurd p
-  in-lines a b Write p = prefix-more a b (verify_lines G signatures) (count_line (unknown_count G signatures)) p
+  in-lines a b Write p = prefix-more a b (verify_lines G signatures) (query_count_line (unknown_count G signatures)) p
   in-lines a b Memory p = p
 
   -- the lines of the signatures were written, but not the last one
   pub before-count : (a b : Option (List ℕ)) → Appends a b (verify_lines G signatures) → LinesWithoutMemory (verify_lines G) signatures a b
   before-count a b w = record { front = signatures; rest = []; split = sym (append-nil signatures); wrote = w }
 
-  pub in-count : (a b c : Option (List ℕ)) → Appends a b (verify_lines G signatures) → AppendsPrefix b c (count_line (unknown_count G signatures))
+  pub in-count : (a b c : Option (List ℕ)) → Appends a b (verify_lines G signatures) → AppendsPrefix b c (query_count_line (unknown_count G signatures))
       → AppendsPrefix a c (query_text G signatures)
-  in-count a b c w p = prefix-behind a b c (verify_lines G signatures) (count_line (unknown_count G signatures)) w p
+  in-count a b c w p = prefix-behind a b c (verify_lines G signatures) (query_count_line (unknown_count G signatures)) w p

@@ -17,7 +17,7 @@ use Rattle.mls_follow.proofs.ResumableStays.{resumable_stays}
 use Rattle.mls_follow.proofs.RisingRuns.{as_run, rising_extends}
 use Rattle.mls_follow.proofs.StoredRuns.{resumable_resumes}
 use Rattle.mls_report.specs.Finding.{finding_line}
-use Rattle.mls_gate.specs.Answers.{Goes, Answers, Responds, broken_line, processed_line, message_query, ready_line, stored_line, no_file_line}
+use Rattle.mls_gate.specs.Answers.{Goes, Answers, Responds, broken_line, message_answer_line, message_query, ready_line, stored_line, no_file_line}
 use Rattle.mls_gate.specs.FirstStates.{IsFirstState}
 use Rattle.mls_gate.specs.GateReport.{Turn, AreAnswered, phase_after}
 use Rattle.mls_gate.specs.GateRuns.{HasStarted, GatesRise, GatesAreValid, GateAnswersAreTrusted, GateStatesResume}
@@ -135,7 +135,7 @@ module _ (i : Inputs) (G : VerifyFn) where
   by_request (Following K s) new (Some Query) rest text r a =
       subst Reached (one_phase text (message_query K a.0) new (Following K s) a.2) r
   by_request (Following K s) new (Some Process) rest text r a =
-      subst Reached (one_phase text (processed_line a.0 a.1) new (Following K a.1) a.3) (takes K s a.1 rest a.0 r a.2)
+      subst Reached (one_phase text (message_answer_line a.0 a.1) new (Following K a.1) a.3) (takes K s a.1 rest a.0 r a.2)
   by_request (Following K s) new (Some Store) rest text r (inl a) =
       subst Reached (one_phase text (stored_line a.0) new (Following K s) a.2) r
   by_request (Following K s) new (Some Store) rest text r (inr a) =

@@ -11,9 +11,10 @@ use Rattle.mls_report.specs.declared.verdict.RunFault.TheVariants.{Read, Write, 
 use Rattle.mls_report.specs.declared.verdict.Verdict.{Verdict}
 use Rattle.mls_report.specs.declared.verdict.Verdict.TheVariants.{No}
 use Rattle.mls_report.proofs.Replaying.{Consumes-nil, Appends-nil}
+use Rattle.mls_report.specs.ReplaySteps.{ReadsUndecided}
 use Rattle.mls_gate.specs.Answers.{Outcome, Goes, Ends, Answers, broken_line}
-use Rattle.mls_gate.specs.GateReport.{Turn, AreAnswered, phase_after, answers, still_to_come, record_limit, Serves, IsEnding, ReportsRecords, RecordsPart}
-use Rattle.mls_gate.specs.GateSteps.{IsReady, verdict_at, IsOutcome, Replies, AnswersIn, AnswersRecord, StopsAt, ReadsUndecided}
+use Rattle.mls_gate.specs.GateReport.{Turn, AreAnswered, phase_after, answers, records_to_come, record_limit, Serves, IsEnding, ReportsRecords, RecordsPart}
+use Rattle.mls_gate.specs.GateSteps.{IsReady, verdict_at, IsOutcome, Replies, AnswersIn, AnswersRecord, StopsAtRecord}
 use Rattle.mls_gate.specs.Phases.{Phase}
 use Rattle.mls_gate.proofs.Answering.{goes-on, ends-there, ready-goes}
 
@@ -103,7 +104,7 @@ module _ (p : Phase) (r0 r1 r2 w0 w1 : Option (List ℕ)) (now : Option Phase) (
       let g = goes-on here body printed.text last after e (subst (λ (o : Option Phase). Replies (AnswersIn o body) printed.text last after) f.is printed.replies) in
       subst IsReady (sym g.is) (ready-goes here g.new body printed.text (subst IsReady f.is ready) g.answers)
 
-  ending : (text : List ℕ) → Answers here body (Ends text) → IsEnding here (still_to_come f.turns) read r2 text No
+  ending : (text : List ℕ) → Answers here body (Ends text) → IsEnding here (records_to_come f.turns) read r2 text No
   ending text answers =
       let less = fewer in
       inr (inr (record { body = body; allowed = omega arith; is_record = is_record; answers = answers; verdict_is = refl }))
@@ -146,7 +147,7 @@ module _ (p : Phase) (r0 r1 r2 w0 w1 : Option (List ℕ)) (now : Option Phase) (
     wrote = Appends-trans w0 w1 w2 _ _ f.wrote part.3;
   })
 
-  pub part-record : (e : RunFault) → StopsAt now body after w1 w2 e → RecordsPart p r0 r2 w0 w2 e
+  pub part-record : (e : RunFault) → StopsAtRecord now body after w1 w2 e → RecordsPart p r0 r2 w0 w2 e
   part-record Read stops = absurd stops
   part-record Write stops =
       let r = subst (λ (o : Option Phase). Replies (AnswersIn o body) stops.text stops.last after) f.is stops.replies in
@@ -162,7 +163,7 @@ module _ (p : Phase) (r0 r1 r2 w0 w1 : Option (List ℕ)) (now : Option Phase) (
 -- ---- where it stops
 
 -- so many may still come
-still : (ts : List Turn) (most n : ℕ) → most + n ≡ record_limit → n ≡ length ts → most ≡ still_to_come ts
+still : (ts : List Turn) (most n : ℕ) → most + n ≡ record_limit → n ≡ length ts → most ≡ records_to_come ts
 still ts most n e count = omega arith
 
 module _ (p : Phase) (r0 r1 r2 w0 w1 : Option (List ℕ)) (now : Option Phase) (n most : ℕ) (f : SoFar p r0 r1 w0 w1 now n) (all : most + n ≡ record_limit) where
@@ -194,7 +195,7 @@ module _ (p : Phase) (r0 r1 r2 w0 w1 : Option (List ℕ)) (now : Option Phase) (
   }
 
   module _ (read : List ℕ) (consumed : Consumes r1 r2 read) (broken : IsBrokenAt most read r2) (w2 : Option (List ℕ)) where
-    is-broken : IsEnding (phase_after p f.turns) (still_to_come f.turns) read r2 broken_line No
+    is-broken : IsEnding (phase_after p f.turns) (records_to_come f.turns) read r2 broken_line No
     is-broken = inr (inl (record {
       broken = subst (λ k. IsBrokenAt k read r2) (still f.turns most n all f.count) broken;
       text_is = refl;
@@ -207,7 +208,7 @@ module _ (p : Phase) (r0 r1 r2 w0 w1 : Option (List ℕ)) (now : Option Phase) (
       rest = read;
       text = broken_line;
       serves = serves-read p r0 r1 r2 f.turns read f.serves consumed;
-      ending = subst (IsEnding (phase_after p f.turns) (still_to_come f.turns) read r2 broken_line) (sym is) is-broken;
+      ending = subst (IsEnding (phase_after p f.turns) (records_to_come f.turns) read r2 broken_line) (sym is) is-broken;
       wrote = Appends-trans w0 w1 w2 _ _ f.wrote wrote;
     }
 

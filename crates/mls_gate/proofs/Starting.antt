@@ -29,7 +29,7 @@ module _ (files : GroupFiles) (info : GroupInfo) (supplied : Option RatchetTree)
 
   declines : (G : VerifyFn) (finding : Finding) → FailsStart G info supplied finding → Declines G (OfGroup files) finding
   declines G finding f =
-      subst (Declines G (OfGroup files)) (sym f.finding_is) (record { found = (info, supplied, is_read, f.own, f.fails); verdict = refl })
+      subst (Declines G (OfGroup files)) (sym f.finding_is) (record { found = (info, supplied, is_read, f.not_out_of_memory, f.fails); verdict = refl })
 
   pub says-declines : (G : VerifyFn) (failure : StartFailure) → Says (FailsStart G info supplied) failure → Says (Declines G (OfGroup files)) failure
   says-declines G (Found finding) f = declines G finding f

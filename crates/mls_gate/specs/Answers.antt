@@ -49,13 +49,13 @@ abbrev pub unknown_count : VerifyFn → List SignatureToVerify → ℕ
 unknown_count G [] = 0
 unknown_count G (w ∷ needed) = unknown_one G w + unknown_count G needed
 
--- `count_line n` is the line with this number.
-abbrev pub count_line : ℕ → List ℕ
-count_line n = codes "queried " ++ (decimal n ++ codes "\n")
+-- `query_count_line n` is the line with this number.
+abbrev pub query_count_line : ℕ → List ℕ
+query_count_line n = codes "queried " ++ (decimal n ++ codes "\n")
 
 -- `query_text G needed` is the lines of the signatures that `G` does not accept, and a last one with their number.
 abbrev pub query_text : VerifyFn → List SignatureToVerify → List ℕ
-query_text G needed = verify_lines G needed ++ count_line (unknown_count G needed)
+query_text G needed = verify_lines G needed ++ query_count_line (unknown_count G needed)
 
 -- `message_query G needed` is the answer to a query. Bytes that are no message have no signature.
 abbrev pub message_query : VerifyFn → Option (List SignatureToVerify) → List ℕ
@@ -111,17 +111,17 @@ refusal_name refusals.JoinList = codes "JoinList"
 refusal_name refusals.ResyncInvalid = codes "ResyncInvalid"
 refusal_name refusals.OutOfMemory = codes "OutOfMemory"
 
--- `processed_line answer s` is the line of a processed message: the reference of a proposal (RFC 9420, 5.2); of a
+-- `message_answer_line answer s` is the line of a processed message: the reference of a proposal (RFC 9420, 5.2); of a
 -- commit the epoch that it begins, the tree hash and the confirmed transcript hash of that epoch (8.1), and whether the
 -- group is over; or the number and the name of the refusal, and for 25 those of the fault of the leaf node.
-abbrev pub processed_line : Result Taken Refusal → State → List ℕ
-processed_line (Ok (Proposal reference)) s = codes "accepted proposal " ++ (hex_text reference ++ codes "\n")
-processed_line (Ok (Commit epoch)) s =
+abbrev pub message_answer_line : Result Taken Refusal → State → List ℕ
+message_answer_line (Ok (Proposal reference)) s = codes "accepted proposal " ++ (hex_text reference ++ codes "\n")
+message_answer_line (Ok (Commit epoch)) s =
     codes "accepted commit " ++ (decimal epoch
     ++ (codes " " ++ (hex_text s.context.tree_hash
     ++ (codes " " ++ (hex_text s.context.confirmed
     ++ (ended_text s.ended ++ codes "\n"))))))
-processed_line (Err e) s = codes "refused " ++ (decimal (number_of e) ++ (codes " " ++ (refusal_name e ++ codes "\n")))
+message_answer_line (Err e) s = codes "refused " ++ (decimal (number_of e) ++ (codes " " ++ (refusal_name e ++ codes "\n")))
 
 -- `stored_line bytes` is the line of a state that has this file.
 abbrev pub stored_line : List ℕ → List ℕ
@@ -160,7 +160,7 @@ Queries G s message outcome =
 abbrev pub Processes : VerifyFn → State → List ℕ → Outcome → Type 0
 Processes G s message outcome =
     (answer : Result Taken Refusal) × (new : State) × IsAnswer G s message answer new
-    × (outcome ≡ Goes (processed_line answer new) (Following G new))
+    × (outcome ≡ Goes (message_answer_line answer new) (Following G new))
 
 -- `StoresState G s outcome`: the file of the state is written, or that it has none. Nothing changes.
 abbrev pub StoresState : VerifyFn → State → Outcome → Type 0

@@ -48,9 +48,9 @@ abbrev pub answers : List Turn → List ℕ
 answers [] = []
 answers (turn ∷ turns) = turn.text ++ answers turns
 
--- `still_to_come turns` is how many records may still come.
-abbrev pub still_to_come : List Turn → ℕ
-still_to_come turns = record_limit - length turns
+-- `records_to_come turns` is how many records may still come.
+abbrev pub records_to_come : List Turn → ℕ
+records_to_come turns = record_limit - length turns
 
 -- `Serves phase records0 records1 turns rest`: the records that were read are answered, from the phase on. After them
 -- the bytes `rest` were read.
@@ -103,16 +103,16 @@ pub record ReportsRecords (phase : Phase) (records0 records1 written0 written1 :
   pub rest : List ℕ
   pub text : List ℕ
   pub serves : Serves phase records0 records1 turns rest
-  pub ending : IsEnding (phase_after phase turns) (still_to_come turns) rest records1 text verdict
+  pub ending : IsEnding (phase_after phase turns) (records_to_come turns) rest records1 text verdict
   pub wrote : Appends written0 written1 (answers turns ++ text)
 
--- `StopsReading phase records0 records1 written0 written1`: the input failed. Each whole record that was read was
+-- `GateStopsReading phase records0 records1 written0 written1`: the input failed. Each whole record that was read was
 -- answered, and the bytes after these determine nothing more.
-pub record StopsReading (phase : Phase) (records0 records1 written0 written1 : Option (List ℕ)) : Type 0 where
+pub record GateStopsReading (phase : Phase) (records0 records1 written0 written1 : Option (List ℕ)) : Type 0 where
   pub turns : List Turn
   pub rest : List ℕ
   pub serves : Serves phase records0 records1 turns rest
-  pub undecided : IsIncomplete (still_to_come turns) rest
+  pub undecided : IsIncomplete (records_to_come turns) rest
   pub wrote : Appends written0 written1 (answers turns)
 
 -- `StopsInAnswer phase records0 records1 written0 written1`: the output failed in the answer to the last record that was
@@ -126,37 +126,37 @@ pub record StopsInAnswer (phase : Phase) (records0 records1 written0 written1 : 
   pub text_is : last.text ≡ part ++ more
   pub wrote : Appends written0 written1 (answers turns ++ part)
 
--- `StopsInEnding phase records0 records1 written0 written1`: the output failed in the last text.
-pub record StopsInEnding (phase : Phase) (records0 records1 written0 written1 : Option (List ℕ)) : Type 0 where
+-- `GateStopsInEnding phase records0 records1 written0 written1`: the output failed in the last text.
+pub record GateStopsInEnding (phase : Phase) (records0 records1 written0 written1 : Option (List ℕ)) : Type 0 where
   pub turns : List Turn
   pub rest : List ℕ
   pub text : List ℕ
   pub verdict : Verdict
   pub serves : Serves phase records0 records1 turns rest
-  pub ending : IsEnding (phase_after phase turns) (still_to_come turns) rest records1 text verdict
+  pub ending : IsEnding (phase_after phase turns) (records_to_come turns) rest records1 text verdict
   pub part : List ℕ
   pub more : List ℕ
   pub text_is : text ≡ part ++ more
   pub wrote : Appends written0 written1 (answers turns ++ part)
 
--- `StopsWithoutMemory phase records0 records1 written0 written1`: memory ran out. Each record that was read was
+-- `GateStopsWithoutMemory phase records0 records1 written0 written1`: memory ran out. Each record that was read was
 -- answered, except the one at which it ran out.
-pub record StopsWithoutMemory (phase : Phase) (records0 records1 written0 written1 : Option (List ℕ)) : Type 0 where
+pub record GateStopsWithoutMemory (phase : Phase) (records0 records1 written0 written1 : Option (List ℕ)) : Type 0 where
   pub turns : List Turn
   pub rest : List ℕ
   pub serves : Serves phase records0 records1 turns rest
-  pub left_over : IsLeftOver (still_to_come turns) rest records1
+  pub left_over : IsLeftOver (records_to_come turns) rest records1
   pub wrote : Appends written0 written1 (answers turns)
 
 -- `RecordsPart phase records0 records1 written0 written1 fault`: what was written if not each record was answered, by
 -- the fault that is returned.
 abbrev pub RecordsPart : Phase → Option (List ℕ) → Option (List ℕ) → Option (List ℕ) → Option (List ℕ) → RunFault
     → Type 0
-RecordsPart phase records0 records1 written0 written1 Read = StopsReading phase records0 records1 written0 written1
+RecordsPart phase records0 records1 written0 written1 Read = GateStopsReading phase records0 records1 written0 written1
 RecordsPart phase records0 records1 written0 written1 Write =
-    StopsInAnswer phase records0 records1 written0 written1 ⊎ StopsInEnding phase records0 records1 written0 written1
+    StopsInAnswer phase records0 records1 written0 written1 ⊎ GateStopsInEnding phase records0 records1 written0 written1
 RecordsPart phase records0 records1 written0 written1 Memory =
-    StopsWithoutMemory phase records0 records1 written0 written1
+    GateStopsWithoutMemory phase records0 records1 written0 written1
 
 -- ---- the whole report. `Reads i`: the inputs were read to their ends, and `i` is their bytes
 

@@ -14,9 +14,9 @@ use Rattle.mls_gate.specs.FirstStates.{IsFirstState}
 use Rattle.mls_gate.specs.GateReport.{Turn, AreAnswered, phase_after}
 use Rattle.mls_gate.specs.Phases.{Inputs, Opening, Following}
 
--- `IsRun G first K last`: a rising run leads from one state to another, and its verification function is `G` before it
--- and `K` after it.
-pub record IsRun (G : VerifyFn) (first : State) (K : VerifyFn) (last : State) : Type 0 where
+-- `IsGateRun G first K last`: a rising run leads from one state to another, and its verification function is `G` before
+-- it and `K` after it.
+pub record IsGateRun (G : VerifyFn) (first : State) (K : VerifyFn) (last : State) : Type 0 where
   pub events : List Event
   pub rises : IsRisingRun G first events last
   pub meaning : last_meaning G events ≡ K
@@ -28,7 +28,7 @@ pub record HasStarted (i : Inputs) (G K : VerifyFn) (s : State) : Type 0 where
   pub extends : Extends G known
   pub first : State
   pub started : IsFirstState known i first
-  pub run : IsRun known first K s
+  pub run : IsGateRun known first K s
 
 -- A gate that follows has started a follower, and its records are a rising run of it.
 abbrev pub GatesRise : Type 0

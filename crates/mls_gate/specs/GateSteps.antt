@@ -1,9 +1,8 @@
 -- The contracts of the steps of the gate. `meaning` is the verification function of a checker. Internal: no public
 -- contract uses this.
 use Rattle.std.specs.Prelude.{◌≡◌, ◌≢◌, ℕ, List, [], drop, Bool, true, false, Option, Some, None, option_map}
-use Rattle.std.specs.Io.KnownBytes.{Appends, Consumes}
+use Rattle.std.specs.Io.KnownBytes.{Appends}
 use Rattle.mls_wire.specs.Devices.{AppendsPrefix}
-use Rattle.mls_wire.specs.Logs.{IsIncomplete}
 use Rattle.mls_tree.specs.RatchetTree.{RatchetTree}
 use Rattle.mls_check.specs.Signatures.{VerifyFn}
 use Rattle.mls_msgs.specs.declared.group_info.GroupInfo.{GroupInfo}
@@ -56,20 +55,20 @@ phase_of meaning (phases.Following follower) = Some (Following (meaning (checker
 phase_of meaning phases.Over = None
 
 -- A GroupInfo, and a tree if there is a file of it, can be read.
-pub record AreReadable (files : GroupFiles) : Type 0 where
+pub record AreReadableFiles (files : GroupFiles) : Type 0 where
   pub info : GroupInfo
   pub supplied : Option RatchetTree
   pub is_read : IsReadAs files.profile files.info files.tree info supplied
 
 -- The inputs can be read. The file of a state leads to a follower, each signature being good.
-abbrev pub IsReadable : Inputs → Type 0
-IsReadable (OfGroup files) = AreReadable files
-IsReadable (OfState bytes) = (s : State) × IsResumed all_good bytes s
+abbrev pub AreReadableInputs : Inputs → Type 0
+AreReadableInputs (OfGroup files) = AreReadableFiles files
+AreReadableInputs (OfState bytes) = (s : State) × IsResumed all_good bytes s
 
 -- The gate can answer a record: it has not ended, and the inputs of a start can be read.
 abbrev pub IsReady : Option Phase → Type 0
 IsReady None = ⊥
-IsReady (Some (Opening i G)) = IsReadable i
+IsReady (Some (Opening i G)) = AreReadableInputs i
 IsReady (Some (Following G s)) = Unit {0}
 
 -- The verdict if the input ends between two records.
@@ -115,16 +114,10 @@ pub record StopsInText (phase : Option Phase) (body : List ℕ) (after : Option 
   pub wrote : AppendsPrefix written0 written1 text
 
 -- A record was not answered, with this fault.
-abbrev pub StopsAt : Option Phase → List ℕ → Option Phase → Option (List ℕ) → Option (List ℕ) → RunFault → Type 0
-StopsAt phase body after written0 written1 Read = ⊥
-StopsAt phase body after written0 written1 Write = StopsInText phase body after written0 written1
-StopsAt phase body after written0 written1 Memory = Appends written0 written1 []
-
--- The bytes read don't decide yet what comes next.
-pub record ReadsUndecided (records0 records1 : Option (List ℕ)) (most : ℕ) : Type 0 where
-  pub rest : List ℕ
-  pub read : Consumes records0 records1 rest
-  pub undecided : IsIncomplete most rest
+abbrev pub StopsAtRecord : Option Phase → List ℕ → Option Phase → Option (List ℕ) → Option (List ℕ) → RunFault → Type 0
+StopsAtRecord phase body after written0 written1 Read = ⊥
+StopsAtRecord phase body after written0 written1 Write = StopsInText phase body after written0 written1
+StopsAtRecord phase body after written0 written1 Memory = Appends written0 written1 []
 
 -- ---- the start
 
@@ -132,7 +125,7 @@ pub record ReadsUndecided (records0 records1 : Option (List ℕ)) (most : ℕ) :
 pub record FailsStart (G : VerifyFn) (info : GroupInfo) (supplied : Option RatchetTree) (finding : Finding)
     : Type 0 where
   pub fault : StartFault
-  pub own : fault ≢ starts.OutOfMemory
+  pub not_out_of_memory : fault ≢ starts.OutOfMemory
   pub fails : IsStartFault G info supplied fault
   pub finding_is : finding ≡ StartRefused fault
 

@@ -5,11 +5,12 @@ ghost use Rattle.mls_wire.specs.Logs.{ReadsRecord, ReaderAfter};
 ghost use Rattle.mls_msgs.specs.declared.profile.Profile.TheVariants.{Members};
 ghost use Rattle.mls_follow.specs.FollowerModel.{state_of};
 ghost use Rattle.mls_follow.specs.MessageSignatures.{state_signatures};
+ghost use Rattle.mls_report.specs.ReplaySteps.{ReadsUndecided};
 ghost use Rattle.mls_report.specs.StartInputs.{has_failed};
 ghost use Rattle.mls_gate.specs.Answers.{broken_line};
 ghost use Rattle.mls_gate.specs.FirstStates.{CanStart};
 ghost use Rattle.mls_gate.specs.GateReport.{GatesOf, GatesPartOf, Gates, GatesPart, ReportsRecords, RecordsPart};
-ghost use Rattle.mls_gate.specs.GateSteps.{files_of, inputs_of, phase_of, IsReadable, IsReady, ReadsUndecided, AnswersRecord, StopsAt, Are};
+ghost use Rattle.mls_gate.specs.GateSteps.{files_of, inputs_of, phase_of, AreReadableInputs, IsReady, AnswersRecord, StopsAtRecord, Are};
 ghost use Rattle.mls_gate.specs.Phases.{OfGroup, Phase, Opening};
 ghost use Rattle.std.specs.Io.KnownBytes.{Appends};
 ghost use Rattle.mls_wire.specs.Devices.{AppendsPrefix};
@@ -31,7 +32,7 @@ use std::alloc::Global;
 fn next_record<R: Source>(reader: &mut Records, records: &mut R) -> Result<LogStep, RunFault>
     requires going { reader.old.is_over ≡ false }
     requires records { R.is_failed records.old ≡ false }
-    ensures meets { IfOk result (λ step.
+    ensures record_read { IfOk result (λ step.
         ReadsRecord (R.left records.old) (R.left records.new) reader.old.most reader.new.body (Ok step)) }
     ensures goes_on { IfOk result (λ step. ReaderAfter reader.old reader.new (Ok step)) }
     ensures undecided { OnErr result
@@ -57,7 +58,7 @@ fn answer_record<C: LearningCheck, K: Sink>(
     requires out { K.is_failed out.old ≡ false }
     ensures printed { IfOk result (λ is_last. AnswersRecord (phase_of C.meaning phase.old) body.now
         (phase_of C.meaning phase.new) (K.written out.old) (K.written out.new) is_last) }
-    ensures part { IfErr result (StopsAt (phase_of C.meaning phase.old) body.now
+    ensures effect_on_error { IfErr result (StopsAtRecord (phase_of C.meaning phase.old) body.now
         (phase_of C.meaning phase.new) (K.written out.old) (K.written out.new)) }
     ensures write { (result ≡ Err RunFault.Write) ↔ (K.is_failed out.new ≡ true) }
     ensures fault { IfErr result (λ e. e ≢ RunFault.Read) }
@@ -72,7 +73,7 @@ fn report_broken<K: Sink>(out: &mut K) -> Result<Verdict, RunFault>
     requires { K.is_failed out.old ≡ false }
     ensures printed { IfOk result (λ verdict. (verdict ≡ Verdict.No)
         × Appends (K.written out.old) (K.written out.new) broken_line) }
-    ensures part { OnErr result
+    ensures effect_on_error { OnErr result
         (AppendsPrefix (K.written out.old) (K.written out.new) broken_line) }
     ensures write { (result ≡ Err RunFault.Write) ↔ (K.is_failed out.new ≡ true) }
     ensures fault { IfErr result (λ e. e ≡ RunFault.Write) }
@@ -94,7 +95,7 @@ fn serve_records<R: Source, C: LearningCheck, K: Sink>(
     ensures printed { (p : Phase) → phase_of C.meaning phase.old ≡ Some p → IfOk result
         (ReportsRecords p (R.left records.old) (R.left records.new)
         (K.written out.old) (K.written out.new)) }
-    ensures part { (p : Phase) → phase_of C.meaning phase.old ≡ Some p → IfErr result
+    ensures effect_on_error { (p : Phase) → phase_of C.meaning phase.old ≡ Some p → IfErr result
         (RecordsPart p (R.left records.old) (R.left records.new)
         (K.written out.old) (K.written out.new)) }
     ensures read { (result ≡ Err RunFault.Read) ↔ (R.is_failed records.new ≡ true) }
@@ -124,12 +125,12 @@ pub(crate) fn serve<R: Source, C: LearningCheck, K: Sink>(
     checker: C,
     out: &mut K,
 ) -> Result<Verdict, RunFault>
-    requires inputs { IsReadable (inputs_of inputs) }
+    requires inputs { AreReadableInputs (inputs_of inputs) }
     requires records { R.is_failed records.old ≡ false }
     requires out { K.is_failed out.old ≡ false }
     ensures printed { IfOk result (ReportsRecords (Opening (inputs_of inputs) (C.meaning checker))
         (R.left records.old) (R.left records.new) (K.written out.old) (K.written out.new)) }
-    ensures part { IfErr result (RecordsPart (Opening (inputs_of inputs) (C.meaning checker))
+    ensures effect_on_error { IfErr result (RecordsPart (Opening (inputs_of inputs) (C.meaning checker))
         (R.left records.old) (R.left records.new) (K.written out.old) (K.written out.new)) }
     ensures read { (result ≡ Err RunFault.Read) ↔ (R.is_failed records.new ≡ true) }
     ensures write { (result ≡ Err RunFault.Write) ↔ (K.is_failed out.new ≡ true) }
@@ -155,7 +156,7 @@ fn gate_after<R: Source, C: LearningCheck, K: Sink>(
     requires out { K.is_failed out.old ≡ false }
     ensures printed { IfOk result (GatesOf (Are (OfGroup (files_of inputs))) (C.meaning checker)
         (R.left records.old) (R.left records.new) (K.written out.old) (K.written out.new)) }
-    ensures part { IfErr result (GatesPartOf (Are (OfGroup (files_of inputs))) (C.meaning checker)
+    ensures effect_on_error { IfErr result (GatesPartOf (Are (OfGroup (files_of inputs))) (C.meaning checker)
         (R.left records.old) (R.left records.new) (K.written out.old) (K.written out.new)) }
     ensures read { (result ≡ Err RunFault.Read) ↔ (R.is_failed records.new ≡ true) }
     ensures write { (result ≡ Err RunFault.Write) ↔ (K.is_failed out.new ≡ true) }
@@ -176,7 +177,7 @@ fn gate_from<R: Source, C: LearningCheck, K: Sink>(
     requires out { K.is_failed out.old ≡ false }
     ensures printed { IfOk result (GatesOf (Are (OfGroup (files_of inputs))) (C.meaning checker)
         (R.left records.old) (R.left records.new) (K.written out.old) (K.written out.new)) }
-    ensures part { IfErr result (GatesPartOf (Are (OfGroup (files_of inputs))) (C.meaning checker)
+    ensures effect_on_error { IfErr result (GatesPartOf (Are (OfGroup (files_of inputs))) (C.meaning checker)
         (R.left records.old) (R.left records.new) (K.written out.old) (K.written out.new)) }
     ensures read { (result ≡ Err RunFault.Read) ↔ (R.is_failed records.new ≡ true) }
     ensures write { (result ≡ Err RunFault.Write) ↔ (K.is_failed out.new ≡ true) }
@@ -235,7 +236,7 @@ pub fn run_gate_in<I: Source, T: Source, R: Source, C: LearningCheck, K: Sink>(
         (Gates profile (C.meaning checker) (I.left info.old) (I.left info.new)
         (option_map T.left tree.old) (option_map T.left tree.new)
         (R.left records.old) (R.left records.new) (K.written out.old) (K.written out.new)) }
-    ensures part { IfErr result
+    ensures effect_on_error { IfErr result
         (GatesPart profile (C.meaning checker) (I.left info.old) (I.left info.new)
         (option_map T.left tree.old) (option_map T.left tree.new)
         (R.left records.old) (R.left records.new) (K.written out.old) (K.written out.new)) }
@@ -270,7 +271,7 @@ pub fn run_gate<I: Source, T: Source, R: Source, C: LearningCheck, K: Sink>(
         (Gates Members (C.meaning checker) (I.left info.old) (I.left info.new)
         (option_map T.left tree.old) (option_map T.left tree.new)
         (R.left records.old) (R.left records.new) (K.written out.old) (K.written out.new)) }
-    ensures part { IfErr result
+    ensures effect_on_error { IfErr result
         (GatesPart Members (C.meaning checker) (I.left info.old) (I.left info.new)
         (option_map T.left tree.old) (option_map T.left tree.new)
         (R.left records.old) (R.left records.new) (K.written out.old) (K.written out.new)) }

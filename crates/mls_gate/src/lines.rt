@@ -78,8 +78,8 @@ pub(crate) fn verify_lines<C: SignatureCheck>(
 }
 
 /// Returns the line with the number of signatures that the checker does not accept.
-pub(crate) fn count_line(alloc: Global, count: usize) -> Result<String, AllocError>
-    ensures { IfOk result (λ text. string_bytes text ≡ answers.count_line count) }
+pub(crate) fn query_count_line(alloc: Global, count: usize) -> Result<String, AllocError>
+    ensures { IfOk result (λ text. string_bytes text ≡ answers.query_count_line count) }
 {
     format!(in alloc; "queried {count}\n")
 }
@@ -94,7 +94,7 @@ pub(crate) fn query_text<C: SignatureCheck>(
         (λ text. string_bytes text ≡ answers.query_text (C.meaning checker.now) signatures.now) }
 {
     let lines = verify_lines(alloc, signatures, checker)?;
-    let last = count_line(alloc, lines.count)?;
+    let last = query_count_line(alloc, lines.count)?;
     let mut text = lines.text;
     text.push_str(last.as_str())?;
     Ok(text)
@@ -223,13 +223,13 @@ pub(crate) fn stored_line(alloc: Global, file: Vec<u8>) -> Result<String, AllocE
 }
 
 /// Returns the line of a processed message.
-pub(crate) fn processed_line<C: SignatureCheck>(
+pub(crate) fn message_answer_line<C: SignatureCheck>(
     alloc: Global,
     answer: &Result<Taken, Refusal>,
     follower: &Follower<C>,
 ) -> Result<String, AllocError>
     ensures { IfOk result
-        (λ text. string_bytes text ≡ answers.processed_line answer.now (state_of follower.now)) }
+        (λ text. string_bytes text ≡ answers.message_answer_line answer.now (state_of follower.now)) }
 {
     match answer {
         Ok(Taken::Proposal(reference)) => proposal_line(alloc, reference),

@@ -8,7 +8,7 @@ ghost use Rattle.mls_report.specs.SignaturesSteps.{signatures_of_leaf, StopsInLi
 ghost use Rattle.mls_gate.specs.Answers as answers;
 ghost use Rattle.mls_gate.specs.GateSteps.{StopsInStartLines};
 
-use crate::lines::{count_line, verify_lines};
+use crate::lines::{query_count_line, verify_lines};
 use mls_check::{SignatureCheck, Trusting};
 use mls_follow::Follower;
 use mls_report::trusting_start::TrustingStart;
@@ -29,7 +29,7 @@ fn write_lines<C: SignatureCheck, K: Sink>(
         (answers.verify_lines (C.meaning checker.now) signatures.now)) }
     ensures count { IfOk result
         (λ count. count ≡ answers.unknown_count (C.meaning checker.now) signatures.now) }
-    ensures part { IfErr result (StopsInLines (answers.verify_lines (C.meaning checker.now)) signatures.now
+    ensures effect_on_error { IfErr result (StopsInLines (answers.verify_lines (C.meaning checker.now)) signatures.now
         (K.written out.old) (K.written out.new)) }
     ensures write { (result ≡ Err RunFault.Write) ↔ (K.is_failed out.new ≡ true) }
 {
@@ -54,7 +54,7 @@ fn write_leaf_lines<C: SignatureCheck, K: Sink>(
     ensures count { IfOk result (λ count. count ≡ answers.unknown_count (C.meaning checker.now)
         (signatures_of_leaf (state_of follower.now) index)) }
     ensures most { IfOk result (λ count. count ≤ 1) }
-    ensures part { IfErr result (StopsInLines (answers.verify_lines (C.meaning checker.now))
+    ensures effect_on_error { IfErr result (StopsInLines (answers.verify_lines (C.meaning checker.now))
         (signatures_of_leaf (state_of follower.now) index)
         (K.written out.old) (K.written out.new)) }
     ensures write { (result ≡ Err RunFault.Write) ↔ (K.is_failed out.new ≡ true) }
@@ -81,7 +81,7 @@ fn write_tree_lines<C: SignatureCheck, K: Sink>(
     ensures count { IfOk result (λ count. count ≡ answers.unknown_count (C.meaning checker.now)
         (state_signatures (state_of follower.now))) }
     ensures most { IfOk result (λ count. count < 2 ^ 32) }
-    ensures part { IfErr result (StopsInLines (answers.verify_lines (C.meaning checker.now))
+    ensures effect_on_error { IfErr result (StopsInLines (answers.verify_lines (C.meaning checker.now))
         (state_signatures (state_of follower.now)) (K.written out.old) (K.written out.new)) }
     ensures write { (result ≡ Err RunFault.Write) ↔ (K.is_failed out.new ≡ true) }
 {
@@ -106,7 +106,7 @@ fn write_start_lines<C: SignatureCheck, K: Sink>(
         (info_signatures.items ++ state_signatures (state_of follower.now)))) }
     ensures count { IfOk result (λ count. count ≡ answers.unknown_count (C.meaning checker.now)
         (info_signatures.items ++ state_signatures (state_of follower.now))) }
-    ensures part { IfErr result (StopsInLines (answers.verify_lines (C.meaning checker.now))
+    ensures effect_on_error { IfErr result (StopsInLines (answers.verify_lines (C.meaning checker.now))
         (info_signatures.items ++ state_signatures (state_of follower.now))
         (K.written out.old) (K.written out.new)) }
     ensures write { (result ≡ Err RunFault.Write) ↔ (K.is_failed out.new ≡ true) }
@@ -130,7 +130,7 @@ pub(crate) fn write_start_query<C: SignatureCheck, K: Sink>(
     ensures all { OnOk result (Appends (K.written out.old) (K.written out.new)
         (answers.query_text (C.meaning checker.now)
         (start.info_signatures.items ++ state_signatures (state_of start.follower)))) }
-    ensures part { IfErr result (StopsInStartLines (C.meaning checker.now)
+    ensures effect_on_error { IfErr result (StopsInStartLines (C.meaning checker.now)
         (start.info_signatures.items ++ state_signatures (state_of start.follower))
         (K.written out.old) (K.written out.new)) }
     ensures write { (result ≡ Err RunFault.Write) ↔ (K.is_failed out.new ≡ true) }
@@ -139,6 +139,6 @@ pub(crate) fn write_start_query<C: SignatureCheck, K: Sink>(
     let written = write_start_lines(alloc, start.info_signatures, &follower, checker, out);
     drop(follower);
     let count = written?;
-    let line = count_line(alloc, count)?;
+    let line = query_count_line(alloc, count)?;
     write_text(out, line.as_str())
 }

@@ -5,12 +5,12 @@ ghost use Rattle.mls_follow.specs.FollowerModel.{checker_of, state_of};
 ghost use Rattle.mls_report.specs.Finding.{finding_line};
 ghost use Rattle.mls_gate.specs.Answers as answers;
 ghost use Rattle.mls_gate.specs.Answers.{broken_line, Begins, Processes, Queries, StoresState};
-ghost use Rattle.mls_gate.specs.GateSteps.{inputs_of, phase_of, IsReadable, verdict_at, IsReady, RespondsIn, AnswersIn, Replies};
+ghost use Rattle.mls_gate.specs.GateSteps.{inputs_of, phase_of, AreReadableInputs, verdict_at, IsReady, RespondsIn, AnswersIn, Replies};
 ghost use Rattle.mls_gate.specs.Phases.{Following};
 
 use crate::gate_inputs::{GateInputs, first_follower};
 use crate::learning::{learn_in_follower, learn_receipts};
-use crate::lines::{processed_line, query_text, ready_line, stored_line};
+use crate::lines::{message_answer_line, query_text, ready_line, stored_line};
 use crate::request::{Request, request_of};
 use mls_check::{LearningCheck, OutOfMemory, SignatureCheck};
 use mls_follow::{Follower, Refusal, SignatureListFault};
@@ -132,7 +132,7 @@ fn process_message<C: SignatureCheck>(
         return Err(RunFault::Memory);
     }
     Ok(Answer {
-        text: processed_line(alloc, &answer, follower)?,
+        text: message_answer_line(alloc, &answer, follower)?,
         is_last: false,
     })
 }
@@ -205,7 +205,7 @@ impl<C: LearningCheck> GatePhase<C> {
         inputs: GateInputs,
         checker: C,
     ) -> Result<Answer, RunFault>
-        requires { IsReadable (inputs_of inputs) }
+        requires { AreReadableInputs (inputs_of inputs) }
         ensures answered { IfOk result (λ a. Replies
             (Begins (inputs_of inputs) (C.meaning checker))
             (string_bytes a.text) a.is_last (phase_of C.meaning self.new)) }

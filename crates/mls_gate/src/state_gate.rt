@@ -34,7 +34,7 @@ fn gate_after_state<R: Source, C: LearningCheck, K: Sink>(
     requires out { K.is_failed out.old ≡ false }
     ensures printed { IfOk result (GatesOf (Are (OfState bytes.items)) (C.meaning checker)
         (R.left records.old) (R.left records.new) (K.written out.old) (K.written out.new)) }
-    ensures part { IfErr result (GatesPartOf (Are (OfState bytes.items)) (C.meaning checker)
+    ensures effect_on_error { IfErr result (GatesPartOf (Are (OfState bytes.items)) (C.meaning checker)
         (R.left records.old) (R.left records.new) (K.written out.old) (K.written out.new)) }
     ensures read { (result ≡ Err RunFault.Read) ↔ (R.is_failed records.new ≡ true) }
     ensures write { (result ≡ Err RunFault.Write) ↔ (K.is_failed out.new ≡ true) }
@@ -55,7 +55,7 @@ fn gate_from_state<R: Source, C: LearningCheck, K: Sink>(
     requires out { K.is_failed out.old ≡ false }
     ensures printed { IfOk result (GatesOf (Are (OfState bytes.items)) (C.meaning checker)
         (R.left records.old) (R.left records.new) (K.written out.old) (K.written out.new)) }
-    ensures part { IfErr result (GatesPartOf (Are (OfState bytes.items)) (C.meaning checker)
+    ensures effect_on_error { IfErr result (GatesPartOf (Are (OfState bytes.items)) (C.meaning checker)
         (R.left records.old) (R.left records.new) (K.written out.old) (K.written out.new)) }
     ensures read { (result ≡ Err RunFault.Read) ↔ (R.is_failed records.new ≡ true) }
     ensures write { (result ≡ Err RunFault.Write) ↔ (K.is_failed out.new ≡ true) }
@@ -90,7 +90,7 @@ pub fn run_gate_state<S: Source, R: Source, C: LearningCheck, K: Sink>(
     ensures printed { IfOk result
         (GatesState (C.meaning checker) (S.left state.old) (S.left state.new)
         (R.left records.old) (R.left records.new) (K.written out.old) (K.written out.new)) }
-    ensures part { IfErr result
+    ensures effect_on_error { IfErr result
         (GatesStatePart (C.meaning checker) (S.left state.old) (S.left state.new)
         (R.left records.old) (R.left records.new) (K.written out.old) (K.written out.new)) }
     ensures read { (result ≡ Err RunFault.Read)

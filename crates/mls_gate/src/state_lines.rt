@@ -7,7 +7,7 @@ ghost use Rattle.mls_report.specs.SignaturesSteps.{StopsInLines};
 ghost use Rattle.mls_gate.specs.Answers as answers;
 ghost use Rattle.mls_gate.specs.GateSteps.{StopsInStartLines, signatures_of};
 
-use crate::lines::{count_line, put_verify_line};
+use crate::lines::{put_verify_line, query_count_line};
 use mls_check::{SignatureCheck, Trusting};
 use mls_follow::Follower;
 use mls_report::{RunFault, write_text};
@@ -28,7 +28,7 @@ fn write_line<C: SignatureCheck, K: Sink>(
     ensures count { IfOk result (λ count. count
         ≡ answers.unknown_count (C.meaning checker.now) (signature.now ∷ [])) }
     ensures most { IfOk result (λ count. count ≤ 1) }
-    ensures part { IfErr result (StopsInLines (answers.verify_lines (C.meaning checker.now))
+    ensures effect_on_error { IfErr result (StopsInLines (answers.verify_lines (C.meaning checker.now))
         (signature.now ∷ []) (K.written out.old) (K.written out.new)) }
     ensures write { (result ≡ Err RunFault.Write) ↔ (K.is_failed out.new ≡ true) }
 {
@@ -51,7 +51,7 @@ fn write_each_line<C: SignatureCheck, K: Sink>(
         (answers.verify_lines (C.meaning checker.now) signatures.now)) }
     ensures count { IfOk result
         (λ count. count ≡ answers.unknown_count (C.meaning checker.now) signatures.now) }
-    ensures part { IfErr result (StopsInLines (answers.verify_lines (C.meaning checker.now))
+    ensures effect_on_error { IfErr result (StopsInLines (answers.verify_lines (C.meaning checker.now))
         signatures.now (K.written out.old) (K.written out.new)) }
     ensures write { (result ≡ Err RunFault.Write) ↔ (K.is_failed out.new ≡ true) }
 {
@@ -90,7 +90,7 @@ pub(crate) fn write_state_query<C: SignatureCheck, K: Sink>(
     requires { K.is_failed out.old ≡ false }
     ensures all { OnOk result (Appends (K.written out.old) (K.written out.new)
         (answers.query_text (C.meaning checker.now) (signatures_of (state_of follower)))) }
-    ensures part { IfErr result (StopsInStartLines (C.meaning checker.now)
+    ensures effect_on_error { IfErr result (StopsInStartLines (C.meaning checker.now)
         (signatures_of (state_of follower)) (K.written out.old) (K.written out.new)) }
     ensures write { (result ≡ Err RunFault.Write) ↔ (K.is_failed out.new ≡ true) }
 {
@@ -98,6 +98,6 @@ pub(crate) fn write_state_query<C: SignatureCheck, K: Sink>(
     let written = write_each_line(alloc, signatures.as_slice(), checker, out);
     drop(signatures);
     let count = written?;
-    let line = count_line(alloc, count)?;
+    let line = query_count_line(alloc, count)?;
     write_text(out, line.as_str())
 }

@@ -5,7 +5,7 @@ use Rattle.std.specs.List.Sorted.{IsPermutation}
 use Rattle.mls_nodes.specs.declared.leaf.LeafNode.{LeafNode}
 use Rattle.mls_nodes.specs.declared.parent.ParentNode.{ParentNode}
 use Rattle.mls_tree.specs.Tree.{Tree, leaf, leaf_count, Subtree, subtree_at}
-use Rattle.mls_tree.specs.TreeHash.{leaf_hash_input, parent_hash_input, hash_of_parent, tree_hash}
+use Rattle.mls_tree.specs.TreeHash.{leaf_tree_hash_input, parent_tree_hash_input, hash_of_parent, tree_hash}
 use Rattle.mls_hash.specs.declared.fault.HashFault.{HashFault}
 use Rattle.mls_hash.specs.declared.fault.HashFault.TheVariants as faults
 use Rattle.mls_hash.specs.HashInputs.{HashesText, HashesSubtree}
@@ -22,10 +22,10 @@ there o s e = subst (λ (x : Option Subtree). IsSome x) (sym e) refl
 
 -- a leaf is hashed
 pub leaf_answer : (H : List ℕ → List ℕ) (L : List ℕ) (t : Tree) (p number : ℕ) (x y : Option LeafNode) (r : Result (List ℕ) HashFault)
-    → subtree_at 0 t p ≡ Some (record { first = number; tree = leaf x }) → y ≡ stripped_leaf L number x → HashesText (option_map H (leaf_hash_input number y)) r
+    → subtree_at 0 t p ≡ Some (record { first = number; tree = leaf x }) → y ≡ stripped_leaf L number x → HashesText (option_map H (leaf_tree_hash_input number y)) r
     → HashesSubtree (subtree_at 0 t p) (original_tree_hash_at H L t p) r
 leaf_answer H L t p number x y (Ok h) e f a =
-    ap (option_and_then (λ (s : Subtree). original_tree_hash H L s.first s.tree)) e ∙ ap (λ (z : Option LeafNode). option_map H (leaf_hash_input number z)) (sym f) ∙ a
+    ap (option_and_then (λ (s : Subtree). original_tree_hash H L s.first s.tree)) e ∙ ap (λ (z : Option LeafNode). option_map H (leaf_tree_hash_input number z)) (sym f) ∙ a
 leaf_answer H L t p number x y (Err faults.UnsupportedSuite) e f a = a
 leaf_answer H L t p number x y (Err faults.NoSuchNode) e f a = absurd a
 leaf_answer H L t p number x y (Err faults.TooLong) e f a = a
@@ -46,7 +46,7 @@ module _ (t : Tree) (p q u m : ℕ) (n : Option ParentNode) (c : HasChildren t p
   -- a parent is hashed, after its children
   pub parent_answer : (H : List ℕ → List ℕ) (L left right : List ℕ) (r : Result (List ℕ) HashFault)
       → original_tree_hash_at H L t q ≡ Some left → original_tree_hash_at H L t u ≡ Some right
-      → HashesText (option_map H (parent_hash_input (option_map (stripped_parent L) n) left right)) r
+      → HashesText (option_map H (parent_tree_hash_input (option_map (stripped_parent L) n) left right)) r
       → HashesSubtree (subtree_at 0 t p) (original_tree_hash_at H L t p) r
   parent_answer H L left right (Ok h) a b s = whole_hash H L ∙ (λ i. hash_of_parent H (option_map (stripped_parent L) n) (a i) (b i)) ∙ s
   parent_answer H L left right (Err faults.UnsupportedSuite) a b s = s

@@ -5,14 +5,14 @@ use Rattle.mls_wire.specs.Encoding.{length_form, vector}
 use Rattle.mls_wire.specs.EncodingConcat.{join, no_left}
 use Rattle.mls_hash.specs.declared.hasher.Hasher.{Hasher}
 use Rattle.mls_hash.specs.SuiteHash.{ref_hash_input}
-use Rattle.mls_hash.specs.HasherModel.{Holds, HoldsMore, IsFed}
+use Rattle.mls_hash.specs.HasherModel.{HoldsMessage, HoldsMore, IsFed}
 
 -- a vector, fed as its length and its body
 pub vector_held : (body : List ℕ) (old mid new : Hasher) → HoldsMore (length_form (length body)) old mid → IsFed body mid new → HoldsMore (vector body) old new
 unfolding vector
 vector_held body old mid new first then_body H m h =
     let f = first H m h in
-    (f.0 ++ body, join (length_form (length body)) (Some body) f.0 body f.1 refl, subst (λ (x : List ℕ). Holds H new x) (append_assoc m f.0 body) (then_body H (m ++ f.0) f.2))
+    (f.0 ++ body, join (length_form (length body)) (Some body) f.0 body f.1 refl, subst (λ (x : List ℕ). HoldsMessage H new x) (append_assoc m f.0 body) (then_body H (m ++ f.0) f.2))
 
 -- a body that is too long
 pub no_vector : (body : List ℕ) → length_form (length body) ≡ None → vector body ≡ None
@@ -21,8 +21,8 @@ no_vector body e = no_left (length_form (length body)) (Some body) e
 
 -- the hash of two vectors that were fed
 pub both_held : (H : List ℕ → List ℕ) (label value : List ℕ) (old mid new : Hasher) (result : List ℕ)
-    → Holds H old [] → HoldsMore (vector label) old mid → HoldsMore (vector value) mid new
-    → ((m : List ℕ) → Holds H new m → result ≡ H m)
+    → HoldsMessage H old [] → HoldsMore (vector label) old mid → HoldsMore (vector value) mid new
+    → ((m : List ℕ) → HoldsMessage H new m → result ≡ H m)
     → option_map H (ref_hash_input label value) ≡ Some result
 both_held H label value old mid new result none first second end =
     let f = first H [] none in

@@ -10,7 +10,7 @@ use Rattle.mls_nodes.specs.declared.node.Node.{Node}
 use Rattle.mls_nodes.specs.NodeModel.{entry_value}
 use Rattle.mls_tree.specs.Tree.{Tree, leaf, branch, leaf_count, listing, Subtree, subtree_at, root_node_index}
 use Rattle.mls_tree.specs.RatchetTree.{RatchetTree}
-use Rattle.mls_tree.specs.TreeHash.{leaf_hash_input, parent_hash_input, tree_hash}
+use Rattle.mls_tree.specs.TreeHash.{leaf_tree_hash_input, parent_tree_hash_input, tree_hash}
 use Rattle.mls_tree.proofs.Arrays.{slice_get-set_same, slice_get-set_other}
 use Rattle.mls_tree.proofs.Coordinates.{root-seen}
 use Rattle.mls_tree.proofs.Descent.{inside_bound}
@@ -20,24 +20,24 @@ use Rattle.mls_hash.specs.HashInputs.{HashesText, HashesSubtree}
 use Rattle.mls_tree.specs.NodeView.{HasChildren}
 use Rattle.mls_tree.specs.HashLists.{EqualHashes}
 use Rattle.mls_hash.specs.WithoutLeaves.{stripped_parent, tree_hash_at}
-use Rattle.mls_hash.specs.SubtreeHashes.{AreAllHashes, IsSubtreeHashAt, AreSubtreeHashes, AreHashesKept, AreHashesUnder, HasCapacity}
+use Rattle.mls_hash.specs.SubtreeHashes.{AreAllHashes, IsSubtreeHashAt, AreSubtreeHashes, AreHashesKept, AreHashesUnder, HasEntryForEachSubtree}
 use Rattle.mls_hash.proofs.Answers.{leaf_answer, parent_answer, whole_tree}
 
 module _ (H : List ℕ → List ℕ) (t : Tree) where
   -- what a leaf's hash answers
   pub leaf_hashed : (p number : ℕ) (x : Option LeafNode) (r : Result (List ℕ) HashFault) → subtree_at 0 t p ≡ Some (record { first = number; tree = leaf x })
-      → HashesText (option_map H (leaf_hash_input number x)) r → HashesSubtree (subtree_at 0 t p) (tree_hash_at H t p) r
+      → HashesText (option_map H (leaf_tree_hash_input number x)) r → HashesSubtree (subtree_at 0 t p) (tree_hash_at H t p) r
   leaf_hashed p number x r e a = subst (λ (o : Option (List ℕ)). HashesSubtree (subtree_at 0 t p) o r) (whole_tree H t p) (leaf_answer H [] t p number x x r e refl a)
 
   -- what a parent's hash answers, after its children
   pub parent_hashed : (p q u m : ℕ) (n : Option ParentNode) (c : HasChildren t p q u m n) (L left right : List ℕ) (r : Result (List ℕ) HashFault) → L ≡ []
       → tree_hash_at H t q ≡ Some left → tree_hash_at H t u ≡ Some right
-      → HashesText (option_map H (parent_hash_input (option_map (stripped_parent L) n) left right)) r
+      → HashesText (option_map H (parent_tree_hash_input (option_map (stripped_parent L) n) left right)) r
       → HashesSubtree (subtree_at 0 t p) (tree_hash_at H t p) r
   parent_hashed p q u m n c L left right r none a b h =
       subst (λ (o : Option (List ℕ)). HashesSubtree (subtree_at 0 t p) o r) (whole_tree H t p)
       (parent_answer t p q u m n c H [] left right r (whole_tree H t q ∙ a) (whole_tree H t u ∙ b)
-      (subst (λ (M : List ℕ). HashesText (option_map H (parent_hash_input (option_map (stripped_parent M) n) left right)) r) none h))
+      (subst (λ (M : List ℕ). HashesText (option_map H (parent_tree_hash_input (option_map (stripped_parent M) n) left right)) r) none h))
 
   -- ---- one hash is put
 
@@ -98,7 +98,7 @@ module _ (H : List ℕ → List ℕ) (t : Tree) where
       h (record { first = 0; tree = t }) (ap (subtree_at 0 t) at ∙ subtree_at-root 0 t) p s.0 s.1)
 
 -- a hash is put into a list that has room for all of them
-pub put_room : (suite : ℕ) (t : Tree) (old new : EqualHashes) (p : ℕ) (hash : List ℕ) → HasCapacity suite t old → new ≡ record old { hashes = slice_set old.hashes p hash } → HasCapacity suite t new
+pub put_room : (suite : ℕ) (t : Tree) (old new : EqualHashes) (p : ℕ) (hash : List ℕ) → HasEntryForEachSubtree suite t old → new ≡ record old { hashes = slice_set old.hashes p hash } → HasEntryForEachSubtree suite t new
 put_room suite t old new p hash capacity is = record {
   count = omega (arith, ap (λ l. length l.hashes) is, length-set old.hashes p hash, capacity.count);
   width = ap (λ l. l.width) is ∙ capacity.width;

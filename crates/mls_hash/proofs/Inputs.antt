@@ -23,7 +23,7 @@ use Rattle.mls_nodes.specs.declared.leaf.LeafNode.{LeafNode}
 use Rattle.mls_nodes.specs.declared.parent.ParentNode.{ParentNode}
 use Rattle.mls_nodes.specs.Layout as layout
 use Rattle.mls_nodes.proofs.Lengths.{HasLength, prefix_1, prefix_2, prefix_4, vector_has}
-use Rattle.mls_tree.specs.TreeHash.{leaf_hash_input, parent_hash_input}
+use Rattle.mls_tree.specs.TreeHash.{leaf_tree_hash_input, parent_tree_hash_input}
 use Rattle.mls_hash.specs.declared.fault.HashFault.{HashFault}
 use Rattle.mls_hash.specs.HashInputs.{WritesText, IsNoWireFault, HashesWritten, HashesText}
 use Rattle.mls_hash.specs.WithoutLeaves.{is_among, without, stripped_parent}
@@ -78,7 +78,7 @@ vector_there s le =
 pub number_there : (n : ℕ) → n < 2 ^ 32 → IsThere (number w32 n)
 number_there n lt = (_, number_made w32 n lt)
 
-pub leaf_input_there : (i : ℕ) (x : Option LeafNode) (n : ℕ) → i < 2 ^ 32 → MatchOption x (n ≡ 0) (λ y. HasLength (layout.leaf y) n) → IsThere (leaf_hash_input i x)
+pub leaf_input_there : (i : ℕ) (x : Option LeafNode) (n : ℕ) → i < 2 ^ 32 → MatchOption x (n ≡ 0) (λ y. HasLength (layout.leaf y) n) → IsThere (leaf_tree_hash_input i x)
 unfolding optional
 leaf_input_there i None n lt h = both _ _ (_, number_made w8 1 (omega arith)) (both _ _ (number_there i lt) (_, refl))
 leaf_input_there i (Some x) n lt h =
@@ -124,7 +124,7 @@ stripped_there L p n h =
 
 pub parent_input_there : (L : List ℕ) (p : Option ParentNode) (n : ℕ) (left right : List ℕ)
     → MatchOption p (n ≡ 0) (λ q. HasLength (layout.parent q) n) → length left ≤ 64 → length right ≤ 64
-    → IsThere (parent_hash_input (option_map (stripped_parent L) p) left right)
+    → IsThere (parent_tree_hash_input (option_map (stripped_parent L) p) left right)
 unfolding optional
 parent_input_there L None n left right h a b =
     both _ _ (_, number_made w8 2 (omega arith)) (both (Some (0 ∷ [])) _ (_, refl) (both _ _ (vector_there left (omega arith)) (vector_there right (omega arith))))

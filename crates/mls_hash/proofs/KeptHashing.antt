@@ -8,7 +8,7 @@ use Rattle.mls_nodes.specs.declared.parent.ParentNode.{ParentNode}
 use Rattle.mls_tree.specs.declared.hash_kind.HashKind.{HashKind}
 use Rattle.mls_tree.specs.declared.hash_kind.HashKind.TheVariants.{Sha256, Sha384, Sha512}
 use Rattle.mls_tree.specs.Tree.{Tree, leaf_count, node_at, entry_of, parent_entry, Subtree, subtree_at}
-use Rattle.mls_tree.specs.TreeHash.{parent_hash_input}
+use Rattle.mls_tree.specs.TreeHash.{parent_tree_hash_input}
 use Rattle.mls_tree.specs.NodeView.{HasChildren, parent_of}
 use Rattle.mls_tree.specs.HashCache.{hash_by, hash_in, hash_at, IsRightHash}
 use Rattle.mls_tree.proofs.Arrays.{slice_get-set_other}
@@ -62,11 +62,11 @@ parent_of-entry (Some p) = refl
 -- a parent's hash, where its halves were hashed one after the other and the tree stayed
 module _ (H : List ℕ → List ℕ) (t u v : Tree) (p q w m : ℕ) (n node : Option ParentNode) (c : HasChildren t p q w m n) (first : u ≡ t) (second : v ≡ t) where
   pub kept_parent : (L left right hash : List ℕ) → tree_hash_at H t q ≡ Some left → tree_hash_at H u w ≡ Some right → node ≡ parent_of (node_at v p) → L ≡ []
-      → HashesText (option_map H (parent_hash_input (option_map (stripped_parent L) node) left right)) (Ok hash) → tree_hash_at H t p ≡ Some hash
+      → HashesText (option_map H (parent_tree_hash_input (option_map (stripped_parent L) node) left right)) (Ok hash) → tree_hash_at H t p ≡ Some hash
   kept_parent L left right hash a b at none text =
       let there : node ≡ n = at ∙ ap (λ (x : Tree). parent_of (node_at x p)) second ∙ ap (λ o. parent_of (entry_of o)) c.whole ∙ parent_of-entry n in
       parent_hashed H t p q w m n c L left right (Ok hash) none a (ap (λ (x : Tree). tree_hash_at H x w) (sym first) ∙ b)
-      (subst (λ (k : Option ParentNode). HashesText (option_map H (parent_hash_input (option_map (stripped_parent L) k) left right)) (Ok hash)) there text)
+      (subst (λ (k : Option ParentNode). HashesText (option_map H (parent_tree_hash_input (option_map (stripped_parent L) k) left right)) (Ok hash)) there text)
 
 -- there is a subtree at each place
 pub node_index_there : (t : Tree) (p : ℕ) → p + 1 < 2 * leaf_count t → IsSome (subtree_at 0 t p)

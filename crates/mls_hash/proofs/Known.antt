@@ -6,7 +6,7 @@ use Rattle.std.proofs.lemmas.List.{set_past}
 use Rattle.std.proofs.lemmas.Option.{same_Some}
 use Rattle.mls_nodes.specs.declared.parent.ParentNode.{ParentNode}
 use Rattle.mls_tree.specs.Tree.{Tree, Subtree}
-use Rattle.mls_tree.specs.TreeHash.{hash_of_parent, parent_hash_input}
+use Rattle.mls_tree.specs.TreeHash.{hash_of_parent, parent_tree_hash_input}
 use Rattle.mls_tree.specs.NodeView.{HasChildren}
 use Rattle.mls_tree.proofs.Arrays.{slice_get-set_same, slice_get-set_other}
 use Rattle.mls_tree.proofs.Trees.{leaf_count-positive, subtree_at-stands}
@@ -95,7 +95,7 @@ module _ (t : Tree) (p q u m : ℕ) (parent : ParentNode) (c : HasChildren t p q
 
     -- the parent's own hash is known besides
     pub known_more : (known : KnownHashes) (hash : List ℕ) → AreKnownHashes H t known
-        → option_map H (parent_hash_input (option_map (stripped_parent L) (Some parent)) left right) ≡ Some hash
+        → option_map H (parent_tree_hash_input (option_map (stripped_parent L) (Some parent)) left right) ≡ Some hash
         → AreKnownHashes H t (record known { own = slice_set known.own (p / 2) (Some hash) })
     known_more known hash h a = record {
       subtrees = h.subtrees;

@@ -8,7 +8,7 @@ use Rattle.sha2.proofs.Facts256.{length-sha256}
 use Rattle.sha2.proofs.Facts512.{length-sha384, length-sha512}
 use Rattle.mls_nodes.specs.declared.parent.ParentNode.{ParentNode}
 use Rattle.mls_tree.specs.Tree.{Tree, leaf, branch, leaf_count, Subtree, subtree_at}
-use Rattle.mls_tree.specs.TreeHash.{tree_hash, hash_of_parent, leaf_hash_input, parent_hash_input}
+use Rattle.mls_tree.specs.TreeHash.{tree_hash, hash_of_parent, leaf_tree_hash_input, parent_tree_hash_input}
 use Rattle.mls_hash.specs.SuiteHash.{hash_of, hash_length}
 use Rattle.mls_hash.specs.WithoutLeaves.{tree_hash_at}
 
@@ -40,11 +40,11 @@ length-hashed suite (Some message) hash e = ap length (sym (same_Some _ _ e)) �
 length-parent_hash : (suite : ℕ) (p : Option ParentNode) (left right : Option (List ℕ)) (hash : List ℕ) → hash_of_parent (hash_of suite) p left right ≡ Some hash → length hash ≡ hash_length suite
 length-parent_hash suite p None right hash e = absurd (none-some hash e)
 length-parent_hash suite p (Some l) None hash e = absurd (none-some hash e)
-length-parent_hash suite p (Some l) (Some r) hash e = length-hashed suite (parent_hash_input p l r) hash e
+length-parent_hash suite p (Some l) (Some r) hash e = length-hashed suite (parent_tree_hash_input p l r) hash e
 
 -- so has a tree hash
 pub length-tree_hash : (suite first : ℕ) (t : Tree) (hash : List ℕ) → tree_hash (hash_of suite) first t ≡ Some hash → length hash ≡ hash_length suite
-length-tree_hash suite first (leaf x) hash e = length-hashed suite (leaf_hash_input first x) hash e
+length-tree_hash suite first (leaf x) hash e = length-hashed suite (leaf_tree_hash_input first x) hash e
 length-tree_hash suite first (branch l p r) hash e =
     length-parent_hash suite p (tree_hash (hash_of suite) first l) (tree_hash (hash_of suite) (first + leaf_count l) r) hash e
 

@@ -56,9 +56,9 @@ HoldsOwnLeaves t = (p : ℕ) → HoldsOwnLeavesAt t p
 
 -- ---- internal
 
--- `HasCapacity suite t list`: the list has an entry for each subtree, and each hash has as many bytes as the suite's
--- hashes.
-pub record HasCapacity (suite : ℕ) (t : Tree) (list : EqualHashes) : Type 0 where
+-- `HasEntryForEachSubtree suite t list`: the list has an entry for each subtree, and each hash has as many bytes as the
+-- suite's hashes.
+pub record HasEntryForEachSubtree (suite : ℕ) (t : Tree) (list : EqualHashes) : Type 0 where
   pub count : length list.hashes + 1 ≡ 2 * leaf_count t
   pub width : list.width ≡ hash_length suite
 

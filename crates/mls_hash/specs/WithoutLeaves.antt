@@ -15,9 +15,9 @@ is_among leaves i = list_any (λ x. x == i) leaves
 abbrev pub stripped_leaf : List ℕ → ℕ → Option LeafNode → Option LeafNode
 stripped_leaf leaves i x = if is_among leaves i then None else x
 
--- `without leaves numbers` is the indices that are not in the list.
+-- `without leaves indices` is the indices that are not in the list.
 abbrev pub without : List ℕ → List ℕ → List ℕ
-without leaves numbers = filter (λ i. not (is_among leaves i)) numbers
+without leaves indices = filter (λ i. not (is_among leaves i)) indices
 
 -- `stripped_parent leaves p` is the parent without the leaves of the list in its unmerged leaves.
 abbrev pub stripped_parent : List ℕ → ParentNode → ParentNode

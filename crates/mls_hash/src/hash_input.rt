@@ -7,7 +7,7 @@ ghost use Rattle.mls_wire.specs.Encoding as encoding;
 ghost use Rattle.mls_wire.specs.WriteContracts.{after};
 ghost use Rattle.mls_nodes.specs.Limits.{leaf_limit};
 ghost use Rattle.mls_nodes.specs.Layout as layout;
-ghost use Rattle.mls_tree.specs.TreeHash.{leaf_hash_input, parent_hash_input};
+ghost use Rattle.mls_tree.specs.TreeHash.{leaf_tree_hash_input, parent_tree_hash_input};
 ghost use Rattle.mls_hash.specs.SuiteHash.{hash_of};
 ghost use Rattle.mls_hash.specs.HashInputs.{HashesText, HashesWritten, IsNoWireFault, WritesText};
 ghost use Rattle.mls_hash.specs.WithoutLeaves.{stripped_parent, without};
@@ -48,7 +48,7 @@ fn write_leaf_input(
     node: Option<&LeafNode>,
     writer: &mut Writer,
 ) -> Result<(), CodecFault>
-    ensures { WritesText (leaf_hash_input number (option_copied node.entry)) writer.old writer.new
+    ensures { WritesText (leaf_tree_hash_input number (option_copied node.entry)) writer.old writer.new
         result }
 {
     writer.write_u8(1)?;
@@ -68,11 +68,11 @@ fn write_number(number: u32, writer: &mut Writer) -> Result<(), AllocError>
 }
 
 /// Returns how many of the numbers are not in the set.
-fn count_kept(numbers: &[u32], left_out: &LeafSet<'_>) -> usize
-    ensures { result ≡ length (without left_out.now numbers.now) }
+fn count_kept(indices: &[u32], left_out: &LeafSet<'_>) -> usize
+    ensures { result ≡ length (without left_out.now indices.now) }
 {
     let mut kept = 0;
-    for number in numbers {
+    for number in indices {
         if !left_out.contains(*number) {
             kept += 1;
         }
@@ -82,15 +82,15 @@ fn count_kept(numbers: &[u32], left_out: &LeafSet<'_>) -> usize
 
 /// Writes the numbers that are not in the set, one after the other.
 fn write_kept(
-    numbers: &[u32],
+    indices: &[u32],
     left_out: &LeafSet<'_>,
     writer: &mut Writer,
 ) -> Result<(), AllocError>
     ensures { OnOk result
-        (after writer.old (encoding.items (encoding.number w32) (without left_out.now numbers.now))
+        (after writer.old (encoding.items (encoding.number w32) (without left_out.now indices.now))
         ≡ Some writer.new) }
 {
-    for number in numbers {
+    for number in indices {
         if !left_out.contains(*number) {
             write_number(*number, writer)?;
         }
@@ -100,20 +100,20 @@ fn write_kept(
 
 /// Writes a list of unmerged leaves, without those of the set.
 fn write_unmerged(
-    numbers: &[u32],
+    indices: &[u32],
     left_out: &LeafSet<'_>,
     writer: &mut Writer,
 ) -> Result<(), CodecFault>
-    requires { length numbers.now ≤ leaf_limit }
-    ensures { WritesText (layout.unmerged (without left_out.now numbers.now)) writer.old writer.new
+    requires { length indices.now ≤ leaf_limit }
+    ensures { WritesText (layout.unmerged (without left_out.now indices.now)) writer.old writer.new
         result }
 {
-    if left_out.holds_just(numbers) {
+    if left_out.holds_just(indices) {
         return writer.write_len(0);
     }
-    let kept = count_kept(numbers, left_out);
+    let kept = count_kept(indices, left_out);
     writer.write_len(4 * kept)?;
-    write_kept(numbers, left_out, writer)?;
+    write_kept(indices, left_out, writer)?;
     Ok(())
 }
 
@@ -161,7 +161,7 @@ fn write_parent_input(
     right: &HashValue,
     writer: &mut Writer,
 ) -> Result<(), CodecFault>
-    ensures { WritesText (parent_hash_input
+    ensures { WritesText (parent_tree_hash_input
         (option_map (stripped_parent left_out.now) (option_copied node.entry)) left.now right.now)
         writer.old writer.new result }
 {
@@ -220,7 +220,7 @@ pub(crate) fn hash_leaf(
     writer: &mut Writer,
 ) -> Result<HashValue, HashFault>
     ensures { HashesText (option_map (hash_of suite)
-        (leaf_hash_input number (option_copied node.entry))) result }
+        (leaf_tree_hash_input number (option_copied node.entry))) result }
 {
     writer.clear();
     writer.reserve(length_of_leaf(node) as usize + 6)?;
@@ -239,7 +239,7 @@ pub(crate) fn hash_parent(
     writer: &mut Writer,
 ) -> Result<HashValue, HashFault>
     ensures { HashesText (option_map (hash_of suite)
-        (parent_hash_input (option_map (stripped_parent left_out.now) (option_copied node.entry))
+        (parent_tree_hash_input (option_map (stripped_parent left_out.now) (option_copied node.entry))
         left.now right.now)) result }
 {
     writer.clear();

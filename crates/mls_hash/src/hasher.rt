@@ -2,7 +2,7 @@
 
 ghost use Rattle.std.specs.Prelude.{◌≡◌, ℕ, List, []};
 ghost use Rattle.mls_hash.specs.SuiteHash.{hash_of};
-ghost use Rattle.mls_hash.specs.HasherModel.{Holds, IsFed};
+ghost use Rattle.mls_hash.specs.HasherModel.{HoldsMessage, IsFed};
 
 use crate::suite::Suite;
 use mls_tree::HashValue;
@@ -23,7 +23,7 @@ impl Hasher {
     /// Returns a hasher of the suite's hash function, to which nothing was fed.
     #[tactic(auto, unfolding(crate::specs::SuiteHash::hash_of))]
     pub(crate) fn new(suite: Suite) -> Hasher
-        ensures { Holds (hash_of suite) result [] }
+        ensures { HoldsMessage (hash_of suite) result [] }
     {
         match suite.number() {
             1..=3 => Hasher::Sha256(Sha256::new()),
@@ -45,7 +45,7 @@ impl Hasher {
 
     /// Returns the hash of what was fed.
     pub(crate) fn finish(self) -> HashValue
-        ensures { (H : List ℕ → List ℕ) (m : List ℕ) → Holds H self m → result ≡ H m }
+        ensures { (H : List ℕ → List ℕ) (m : List ℕ) → HoldsMessage H self m → result ≡ H m }
     {
         match self {
             Hasher::Sha256(hasher) => HashValue::new(&hasher.finalize()).unwrap(),

@@ -6,7 +6,7 @@ ghost use Rattle.mls_tree.specs.Tree.{subtree_at};
 ghost use Rattle.mls_hash.specs.SuiteHash.{hash_of};
 ghost use Rattle.mls_hash.specs.HashInputs.{HashesSubtree};
 ghost use Rattle.mls_hash.specs.WithoutLeaves.{tree_hash_at};
-ghost use Rattle.mls_hash.specs.SubtreeHashes.{AreAllHashes, AreHashesKept, AreHashesUnder, AreSubtreeHashes, HasCapacity};
+ghost use Rattle.mls_hash.specs.SubtreeHashes.{AreAllHashes, AreHashesKept, AreHashesUnder, AreSubtreeHashes, HasEntryForEachSubtree};
 
 use crate::cached_hashes::kept_hash;
 use crate::fault::HashFault;
@@ -43,8 +43,8 @@ fn put_hashes(
     hashes: &mut HashList,
     writer: &mut Writer,
 ) -> Result<HashValue, HashFault>
-    requires { HasCapacity suite tree.now.tree hashes.old }
-    ensures capacity { HasCapacity suite tree.now.tree hashes.new }
+    requires { HasEntryForEachSubtree suite tree.now.tree hashes.old }
+    ensures capacity { HasEntryForEachSubtree suite tree.now.tree hashes.new }
     ensures hash { HashesSubtree (subtree_at 0 tree.now.tree node_index)
         (tree_hash_at (hash_of suite) tree.now.tree node_index) result }
     ensures kept { let H = hash_of suite in
@@ -79,8 +79,8 @@ fn put_hashes(
 /// Copies the cached tree hashes of a tree, if they are of the suite's hash function, and returns whether all slots are
 /// filled. Stops at the first empty one.
 fn put_kept(suite: Suite, tree: &PublicTree, hashes: &mut HashList) -> bool
-    requires { HasCapacity suite tree.now.tree hashes.old }
-    ensures capacity { HasCapacity suite tree.now.tree hashes.new }
+    requires { HasEntryForEachSubtree suite tree.now.tree hashes.old }
+    ensures capacity { HasEntryForEachSubtree suite tree.now.tree hashes.new }
     ensures kept { OnTrue result
         (AreSubtreeHashes (hash_of suite) tree.now.tree hashes.new.hashes) }
 {

@@ -5,28 +5,28 @@ use Rattle.std.proofs.lemmas.List.{get_or_past, set-set, set-get_or}
 use Rattle.mls_nodes.specs.declared.leaf.LeafNode.{LeafNode}
 use Rattle.mls_tree.specs.Tree.{Tree, leaf_count, leaf_at}
 use Rattle.mls_check.proofs.Leaves.{leaf_at-low}
-use Rattle.mls_index.specs.LeafCredentials.{LeafClass, blank_class, class_of, class_at, AreClassesOf, undone}
+use Rattle.mls_index.specs.LeafCredentials.{LeafClass, blank_class, class_of, class_at, AreClassesOf, classes_before}
 
 pub same_classes : (t : Tree) (xs ys : List LeafClass) → ys ≡ xs → AreClassesOf t xs → AreClassesOf t ys
 same_classes t xs ys e h = subst (AreClassesOf t) (sym e) h
 
 -- ---- replacements that are undone
 
-pub undone-last : (es : List (ℕ × LeafClass)) (e : ℕ × LeafClass) (xs : List LeafClass) → undone (es ++ e ∷ []) xs ≡ undone es (slice_set xs e.0 e.1)
-undone-last [] e xs = refl
-undone-last (f ∷ es) e xs = ap (λ ys. slice_set ys f.0 f.1) (undone-last es e xs)
+pub classes_before-last : (es : List (ℕ × LeafClass)) (e : ℕ × LeafClass) (xs : List LeafClass) → classes_before (es ++ e ∷ []) xs ≡ classes_before es (slice_set xs e.0 e.1)
+classes_before-last [] e xs = refl
+classes_before-last (f ∷ es) e xs = ap (λ ys. slice_set ys f.0 f.1) (classes_before-last es e xs)
 
 -- one more is made
 pub replaced-back : (es fs : List (ℕ × LeafClass)) (xs ys : List LeafClass) (i : ℕ) (was now : LeafClass) → fs ≡ es ++ (i, was) ∷ [] → ys ≡ slice_set xs i now
-    → was ≡ class_at xs i → undone fs ys ≡ undone es xs
+    → was ≡ class_at xs i → classes_before fs ys ≡ classes_before es xs
 replaced-back es fs xs ys i was now more set stood =
-    ap (λ gs. undone gs ys) more ∙ undone-last es (i, was) ys ∙ ap (λ zs. undone es (slice_set zs i was)) set
-    ∙ ap (undone es) (set-set xs i now was ∙ ap (slice_set xs i) stood ∙ set-get_or xs i blank_class)
+    ap (λ gs. classes_before gs ys) more ∙ classes_before-last es (i, was) ys ∙ ap (λ zs. classes_before es (slice_set zs i was)) set
+    ∙ ap (classes_before es) (set-set xs i now was ∙ ap (slice_set xs i) stood ∙ set-get_or xs i blank_class)
 
 -- the last is undone
 pub back-last : (es fs : List (ℕ × LeafClass)) (xs ys : List LeafClass) (i : ℕ) (was : LeafClass) → es ≡ fs ++ (i, was) ∷ [] → ys ≡ slice_set xs i was
-    → undone fs ys ≡ undone es xs
-back-last es fs xs ys i was more set = ap (undone fs) set ∙ sym (undone-last fs (i, was) xs) ∙ ap (λ gs. undone gs xs) (sym more)
+    → classes_before fs ys ≡ classes_before es xs
+back-last es fs xs ys i was more set = ap (classes_before fs) set ∙ sym (classes_before-last fs (i, was) xs) ∙ ap (λ gs. classes_before gs xs) (sym more)
 
 -- ---- the class at an index
 

@@ -7,8 +7,8 @@ use Rattle.std.proofs.lemmas.Bool.Decides.{nat_tests}
 use Rattle.std.proofs.lemmas.List.{get_or-set_same, get_or-set_other, get_or_append_left, get_or_push, length_push, nil_from_length}
 use Rattle.mls_tree.specs.Tree.{Tree, leaf_count, leaf_at}
 use Rattle.mls_tree.specs.ChangedNodes.{AgreeExceptAt}
-use Rattle.mls_index.specs.LeafCredentials.{LeafClass, blank_class, class_of, class_at, undone}
-use Rattle.mls_index.specs.CredentialCounts.{Count, HaveBase, AreCountsOf, CountBut, IndexesFirst}
+use Rattle.mls_index.specs.LeafCredentials.{LeafClass, blank_class, class_of, class_at, classes_before}
+use Rattle.mls_index.specs.CredentialCounts.{Count, HaveBase, AreCountsOf, CountBut, CountsFirst}
 use Rattle.mls_index.specs.declared.credential_counts.CredentialCounts.{CredentialCounts}
 use Rattle.mls_index.proofs.Classes.{same_classes, class-beyond}
 use Rattle.mls_index.proofs.Standing.{same_leaf}
@@ -16,7 +16,7 @@ use Rattle.mls_index.proofs.Standing.{same_leaf}
 -- ---- counts are made
 
 pub filled-more : (t : Tree) (n : ℕ) (c d : CredentialCounts) (class : LeafClass) → class ≡ class_of (leaf_at 0 t n) → d.classes.list.items ≡ c.classes.list.items ++ class ∷ []
-    → d.replaced.items ≡ c.replaced.items → IndexesFirst t n c → IndexesFirst t (n + 1) d
+    → d.replaced.items ≡ c.replaced.items → CountsFirst t n c → CountsFirst t (n + 1) d
 filled-more t n c d class is e same h = record {
   count = ap length e ∙ length_push c.classes.list.items class ∙ ap (λ m. m + 1) h.count;
   at = λ i low. elim (cases_eq i n) [
@@ -31,7 +31,7 @@ filled-more t n c d class is e same h = record {
   none_replaced = ap length same ∙ h.none_replaced;
 }
 
-pub filled-all : (t : Tree) (n : ℕ) (c : CredentialCounts) → n ≡ leaf_count t → IndexesFirst t n c → AreCountsOf t c
+pub filled-all : (t : Tree) (n : ℕ) (c : CredentialCounts) → n ≡ leaf_count t → CountsFirst t n c → AreCountsOf t c
 filled-all t n c e h = record {
   counted = record {
     at = λ i. elim (cases_lt i n) [
@@ -48,14 +48,14 @@ filled-all t n c e h = record {
 
 pub base-counts : (t : Tree) (c : CredentialCounts) → HaveBase t c → length c.replaced.items ≡ 0 → AreCountsOf t c
 base-counts t c h none = record {
-  counted = same_classes t (undone c.replaced.items c.classes.list.items) c.classes.list.items (ap (λ es. undone es c.classes.list.items) (sym (nil_from_length c.replaced.items none))) h;
+  counted = same_classes t (classes_before c.replaced.items c.classes.list.items) c.classes.list.items (ap (λ es. classes_before es c.classes.list.items) (sym (nil_from_length c.replaced.items none))) h;
   none_replaced = none;
 }
 
 -- counts of a tree are settled with it
 pub counts-base : (t : Tree) (c : CredentialCounts) → AreCountsOf t c → HaveBase t c
 counts-base t c h =
-    same_classes t c.classes.list.items (undone c.replaced.items c.classes.list.items) (ap (λ es. undone es c.classes.list.items) (nil_from_length c.replaced.items h.none_replaced)) h.counted
+    same_classes t c.classes.list.items (classes_before c.replaced.items c.classes.list.items) (ap (λ es. classes_before es c.classes.list.items) (nil_from_length c.replaced.items h.none_replaced)) h.counted
 
 -- ---- places are entered
 

@@ -31,20 +31,20 @@ same_entry b p c q e =
 -- the entries after one more
 pub record WithEntry (s n : BTreeSet (ℕ × ℕ)) (b p : ℕ) : Type 0 where
   pub here : has_entry n b p ≡ true
-  pub kept : (c q : ℕ) → has_entry s c q ≡ true → has_entry n c q ≡ true
+  pub remaining : (c q : ℕ) → has_entry s c q ≡ true → has_entry n c q ≡ true
   pub only : (c q : ℕ) → has_entry n c q ≡ true → (has_entry s c q ≡ true) ⊎ ((b ≡ c) × (p ≡ q))
 
 -- the entries after one less
 pub record WithoutEntry (s n : BTreeSet (ℕ × ℕ)) (b p : ℕ) : Type 0 where
   pub gone : has_entry n b p ≡ false
   pub only : (c q : ℕ) → has_entry n c q ≡ true → has_entry s c q ≡ true
-  pub kept : (c q : ℕ) → has_entry s c q ≡ true → (has_entry n c q ≡ true) ⊎ ((b ≡ c) × (p ≡ q))
+  pub remaining : (c q : ℕ) → has_entry s c q ≡ true → (has_entry n c q ≡ true) ⊎ ((b ≡ c) × (p ≡ q))
 
 pub staged : (s n : BTreeSet (ℕ × ℕ)) (b p : ℕ) → Updates entry_cmp s n (b, p) true → WithEntry s n b p
 unfolding has_entry
 staged s n b p u = record {
   here = u.1;
-  kept = λ c q had. elim (cases_Bool (is_at (entry_cmp (b, p)) (c, q))) [
+  remaining = λ c q had. elim (cases_Bool (is_at (entry_cmp (b, p)) (c, q))) [
     | inl at ↦ u.0 (c, q) ∙ rw at refl
     | inr off ↦ u.2 (c, q) off ∙ had
   ];
@@ -62,7 +62,7 @@ removed s n b p u = record {
     | inl at ↦ absurd (false≢true (sym (u.0 (c, q) ∙ rw at refl) ∙ has))
     | inr off ↦ sym (u.2 (c, q) off) ∙ has
   ];
-  kept = λ c q had. elim (cases_Bool (is_at (entry_cmp (b, p)) (c, q))) [
+  remaining = λ c q had. elim (cases_Bool (is_at (entry_cmp (b, p)) (c, q))) [
     | inl at ↦ inr (same_entry b p c q at)
     | inr off ↦ inl (u.2 (c, q) off ∙ had)
   ];

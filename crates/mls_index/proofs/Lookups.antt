@@ -6,7 +6,7 @@ use Rattle.mls_tree.specs.Tree.{Tree, leaf_count}
 use Rattle.mls_tree.proofs.Trees.{leaf_count-positive}
 use Rattle.mls_index.specs.NodeKeys.{fingerprint}
 use Rattle.mls_index.specs.NodeKeys.{key_at_node, fingerprint_at, HasKey, IsUniqueKey}
-use Rattle.mls_index.specs.KeyTable.{has_entry, contains_entry, ContainsKeysOf}
+use Rattle.mls_index.specs.KeyTable.{has_entry, contains_entry, TableContainsKeys}
 use Rattle.mls_index.specs.RepeatedKeys.{ShareKey, FindsOther}
 use Rattle.mls_index.specs.declared.node_key.KeyKind.{KeyKind}
 use Rattle.mls_index.specs.declared.key_table.KeyTable.{KeyTable}
@@ -14,7 +14,7 @@ use Rattle.mls_index.proofs.Entries.{IsSought, AreIncreasing, sought-all, lists-
 use Rattle.mls_index.proofs.Fitting.{never, always}
 use Rattle.mls_index.proofs.Tables.{fingerprint_at-low}
 
-module _ (kind : KeyKind) (t : Tree) (k : KeyTable) (key : List ℕ) (covers : ContainsKeysOf (fingerprint_at kind t) k) (few : leaf_count t ≤ 1048576) where
+module _ (kind : KeyKind) (t : Tree) (k : KeyTable) (key : List ℕ) (covers : TableContainsKeys (fingerprint_at kind t) k) (few : leaf_count t ≤ 1048576) where
   key_begun : (q : ℕ) → key_at_node kind t q ≡ Some key → fingerprint_at kind t q ≡ Some (fingerprint key)
   key_begun q is = ap (option_map fingerprint) is
 

@@ -9,7 +9,7 @@ use Rattle.mls_tree.specs.ChangedNodes.{AgreeExceptAt}
 use Rattle.mls_check.specs.LeafValidation.{all_leaves, has_unique_signature_key}
 use Rattle.mls_check.proofs.Leaves.{all_leaves-at}
 use Rattle.mls_index.specs.FirstChanged.{smaller}
-use Rattle.mls_index.specs.FirstIndex.{IsFirst}
+use Rattle.mls_index.specs.FirstIndex.{IsLeast}
 use Rattle.mls_index.specs.IncrementalCheck.{contains_node_index}
 use Rattle.mls_index.specs.RepeatedKeys.{ShareKey, FindsOther, IsRepeatedAt, FindsRepeatedAt, ChangedLeavesFindRepeated}
 use Rattle.mls_index.specs.declared.node_key.KeyKind.TheVariants.{Signature}
@@ -86,7 +86,7 @@ module _ (t : Tree) (p : ℕ) where
     | inr (at, shared) ↦ none (2 * i) shared
   ]
 
-  module _ (q : ℕ) (f : IsFirst (ShareKey Signature t p) q) where
+  module _ (q : ℕ) (f : IsLeast (ShareKey Signature t p) q) where
     none_smaller : (m : ℕ) → 2 * m ≤ p → 2 * m ≤ q → (j : ℕ) → j < m → IsRepeatedAt (p ∷ []) t j → ⊥
     none_smaller m low-p low-q j low h = elim (one_there j h) [
       | inl at ↦ absurd (omega (arith, at, low, low-p))

@@ -10,7 +10,7 @@ use Rattle.mls_check.specs.DistinctKeys.{encryption_key}
 use Rattle.mls_check.proofs.Repeats.{no_key_above}
 use Rattle.mls_index.specs.NodeKeys.{node_key, fingerprint_at}
 use Rattle.mls_index.specs.IncrementalCheck.{contains_node_index}
-use Rattle.mls_index.specs.KeyTable.{has_entry, contains_entry, AreSameBut, base_at, HasBase, IsTableOf, ContainsKeysOf, IndexesFirst, IsSettling, HasStaged, HasLeft, ContainsKeysBut}
+use Rattle.mls_index.specs.KeyTable.{has_entry, contains_entry, AreSameBut, base_at, TableHasBase, IsTableOf, TableContainsKeys, TableIndexesFirst, IsSettling, HasStaged, HasLeft, ContainsKeysBut}
 use Rattle.mls_index.specs.declared.node_key.KeyKind.{KeyKind}
 use Rattle.mls_index.specs.declared.node_key.KeyKind.TheVariants.{Encryption, Signature}
 use Rattle.mls_index.specs.declared.key_table.KeyTable.{KeyTable}
@@ -112,7 +112,7 @@ is_it (Some c) b = elim (cases_eq c b) [
 ]
 
 -- each entry is of what stands at places, or came
-only_cases : (x : ℕ → Option ℕ) (k : KeyTable) → HasBase x k → (b p : ℕ) → has_entry k.entries b p ≡ true
+only_cases : (x : ℕ → Option ℕ) (k : KeyTable) → TableHasBase x k → (b p : ℕ) → has_entry k.entries b p ≡ true
     → (x p ≡ Some b) ⊎ (contains_entry k.came.items b p ≡ true)
 only_cases x k h b p has = elim (cases_Bool (contains_entry k.came.items b p)) [
   | inl came ↦ inr came
@@ -129,7 +129,7 @@ only_from x k cases b p has none = elim (cases b p has) [
 
 -- ---- a table is made
 
-pub filled-first : (x : ℕ → Option ℕ) (k : KeyTable) → k.entries.keys ≡ [] → k.fingerprints.items ≡ [] → k.came.items ≡ [] → IndexesFirst x 0 k
+pub filled-first : (x : ℕ → Option ℕ) (k : KeyTable) → k.entries.keys ≡ [] → k.fingerprints.items ≡ [] → k.came.items ≡ [] → TableIndexesFirst x 0 k
 filled-first x k entries fingerprints came = record {
   count = ap length fingerprints;
   base = λ p low. absurd (omega (arith, low));
@@ -139,7 +139,7 @@ filled-first x k entries fingerprints came = record {
 }
 
 pub filled-more : (x : ℕ → Option ℕ) (k n : KeyTable) (p : ℕ) (o : Option ℕ) → x p ≡ o → n.fingerprints.items ≡ k.fingerprints.items ++ o ∷ []
-    → HasStaged o p k.entries n.entries → n.came.items ≡ k.came.items → IndexesFirst x p k → IndexesFirst x (p + 1) n
+    → HasStaged o p k.entries n.entries → n.came.items ≡ k.came.items → TableIndexesFirst x p k → TableIndexesFirst x (p + 1) n
 filled-more x k n p o is e w came h = record {
   count = ap length e ∙ length-last k.fingerprints.items o ∙ ap (λ m. m + 1) h.count;
   base = λ q low. elim (cases_eq q p) [
@@ -150,7 +150,7 @@ filled-more x k n p o is e w came h = record {
   ];
   all = λ b q low there. elim (cases_eq q p) [
     | inl same ↦ subst (λ r. has_entry n.entries b r ≡ true) (sym same) (w.here b (sym is ∙ ap x (sym same) ∙ there))
-    | inr other ↦ (let less : q < p = omega (arith, low, other) in w.kept b q (h.all b q less there))
+    | inr other ↦ (let less : q < p = omega (arith, low, other) in w.remaining b q (h.all b q less there))
   ];
   only = λ b q has. elim (w.only b q has) [
     | inl had ↦ (let old = h.only b q had in let low : q < p + 1 = omega (arith, old.0) in (low, old.1))
@@ -159,7 +159,7 @@ filled-more x k n p o is e w came h = record {
   none_came = came ∙ h.none_came;
 }
 
-pub filled-all : (kind : KeyKind) (t : Tree) (n : ℕ) (k : KeyTable) → n + 1 ≡ 2 * leaf_count t → IndexesFirst (fingerprint_at kind t) n k → IsTableOf (fingerprint_at kind t) k
+pub filled-all : (kind : KeyKind) (t : Tree) (n : ℕ) (k : KeyTable) → n + 1 ≡ 2 * leaf_count t → TableIndexesFirst (fingerprint_at kind t) n k → IsTableOf (fingerprint_at kind t) k
 filled-all kind t n k e h = record {
   between = record {
     base = λ p. elim (cases_lt p n) [
@@ -176,12 +176,12 @@ filled-all kind t n k e h = record {
 -- ---- keys come
 
 pub put-none : (p : ℕ) (s : BTreeSet (ℕ × ℕ)) → HasStaged None p s s
-put-none p s = record { here = λ b e. absurd (none-some b e); kept = λ b q had. had; only = λ b q has. inl has }
+put-none p s = record { here = λ b e. absurd (none-some b e); remaining = λ b q had. had; only = λ b q has. inl has }
 
 pub put-some : (b p : ℕ) (s n : BTreeSet (ℕ × ℕ)) → WithEntry s n b p → HasStaged (Some b) p s n
 put-some b p s n w = record {
   here = λ c e. subst (λ d. has_entry n d p ≡ true) (same_Some b c e) w.here;
-  kept = w.kept;
+  remaining = w.remaining;
   only = λ c q has. elim (w.only c q has) [ inl had ↦ inl had | inr new ↦ inr (ap Some new.0, new.1) ];
 }
 
@@ -189,12 +189,12 @@ put-some b p s n w = record {
 pub put-had : (b p : ℕ) (s : BTreeSet (ℕ × ℕ)) → has_entry s b p ≡ true → HasStaged (Some b) p s s
 put-had b p s there = record {
   here = λ c e. subst (λ d. has_entry s d p ≡ true) (same_Some b c e) there;
-  kept = λ c q had. had;
+  remaining = λ c q had. had;
   only = λ c q has. inl has;
 }
 
 pub between-same : (x : ℕ → Option ℕ) (k n : KeyTable) → ((b p : ℕ) → has_entry n.entries b p ≡ has_entry k.entries b p)
-    → n.fingerprints.items ≡ k.fingerprints.items → n.came.items ≡ k.came.items → HasBase x k → HasBase x n
+    → n.fingerprints.items ≡ k.fingerprints.items → n.came.items ≡ k.came.items → TableHasBase x k → TableHasBase x n
 between-same x k n entries fingerprints came h = record {
   base = λ p. base-same k n fingerprints p ∙ h.base p;
   all = λ b p e. entries b p ∙ h.all b p e;
@@ -206,7 +206,7 @@ between-same x k n entries fingerprints came h = record {
 }
 
 pub between-base : (x : ℕ → Option ℕ) (k n : KeyTable) → n.entries ≡ k.entries → n.came ≡ k.came
-    → ((p : ℕ) → base_at n p ≡ base_at k p) → HasBase x k → HasBase x n
+    → ((p : ℕ) → base_at n p ≡ base_at k p) → TableHasBase x k → TableHasBase x n
 between-base x k n entries came base h = record {
   base = λ p. base p ∙ h.base p;
   all = λ b p e. ap (λ s. has_entry s b p) entries ∙ h.all b p e;
@@ -218,10 +218,10 @@ between-base x k n entries came base h = record {
 }
 
 pub between-more : (x : ℕ → Option ℕ) (k n : KeyTable) (b p : ℕ) → has_entry k.entries b p ≡ false → WithEntry k.entries n.entries b p
-    → n.came.items ≡ k.came.items ++ (b, p) ∷ [] → n.fingerprints.items ≡ k.fingerprints.items → HasBase x k → HasBase x n
+    → n.came.items ≡ k.came.items ++ (b, p) ∷ [] → n.fingerprints.items ≡ k.fingerprints.items → TableHasBase x k → TableHasBase x n
 between-more x k n b p free w came fingerprints h = record {
   base = λ q. base-same k n fingerprints q ∙ h.base q;
-  all = λ c q e. w.kept c q (h.all c q e);
+  all = λ c q e. w.remaining c q (h.all c q e);
   only = only_from x n (λ c q has. elim (w.only c q has) [
     | inl had ↦ elim (only_cases x k h c q had) [
       | inl old ↦ inl old
@@ -242,14 +242,14 @@ pub covers-more : (y : ℕ → Option ℕ) (k n : KeyTable) (r : ℕ) (tail : Li
     → ContainsKeysBut (r ∷ tail) y k → ContainsKeysBut tail y n
 covers-more y k n r tail o is w h b p off e = elim (cases_eq p r) [
   | inl same ↦ subst (λ q. has_entry n.entries b q ≡ true) (sym same) (w.here b (is ∙ ap y (sym same) ∙ e))
-  | inr other ↦ w.kept b p (h b p (listed-other r p tail other ∙ off) e)
+  | inr other ↦ w.remaining b p (h b p (listed-other r p tail other ∙ off) e)
 ]
 
 -- the keys at the places that changed were entered
 pub covers-all : (x : ℕ → Option ℕ) (kind : KeyKind) (t : Tree) (node_indices : List ℕ) (count : ℕ) (k m n : KeyTable) → count + 1 ≡ 2 * leaf_count t
     → m.entries ≡ k.entries → count ≤ length m.fingerprints.items → n.fingerprints ≡ m.fingerprints
-    → ContainsKeysOf x k → AreSameBut node_indices x (fingerprint_at kind t) → (ContainsKeysBut node_indices (fingerprint_at kind t) m → ContainsKeysBut [] (fingerprint_at kind t) n)
-    → ContainsKeysOf (fingerprint_at kind t) n
+    → TableContainsKeys x k → AreSameBut node_indices x (fingerprint_at kind t) → (ContainsKeysBut node_indices (fingerprint_at kind t) m → ContainsKeysBut [] (fingerprint_at kind t) n)
+    → TableContainsKeys (fingerprint_at kind t) n
 covers-all x kind t node_indices count k m n is entries capacity fingerprints had same put =
     let wide : count ≤ length n.fingerprints.items = subst (λ v. count ≤ length v.items) (sym fingerprints) capacity in
     record {
@@ -260,20 +260,20 @@ covers-all x kind t node_indices count k m n is entries capacity fingerprints ha
 -- ---- keys go
 
 pub left-none : (now : Option ℕ) (p : ℕ) (s : BTreeSet (ℕ × ℕ)) → HasLeft None now p s s
-left-none now p s = record { gone = λ b e other. absurd (none-some b e); only = λ b q has. has; kept = λ b q had. inl had }
+left-none now p s = record { gone = λ b e other. absurd (none-some b e); only = λ b q has. has; remaining = λ b q had. inl had }
 
 pub left-stays : (b : ℕ) (now : Option ℕ) (p : ℕ) (s : BTreeSet (ℕ × ℕ)) → now ≡ Some b → HasLeft (Some b) now p s s
 left-stays b now p s is = record {
   gone = λ c e other. absurd (other (is ∙ e));
   only = λ c q has. has;
-  kept = λ c q had. inl had;
+  remaining = λ c q had. inl had;
 }
 
 pub left-gone : (b : ℕ) (now : Option ℕ) (p : ℕ) (s n : BTreeSet (ℕ × ℕ)) → now ≢ Some b → WithoutEntry s n b p → HasLeft (Some b) now p s n
 left-gone b now p s n foreign w = record {
   gone = λ c e other. subst (λ d. has_entry n d p ≡ false) (same_Some b c e) w.gone;
   only = w.only;
-  kept = λ c q had. elim (w.kept c q had) [
+  remaining = λ c q had. elim (w.remaining c q had) [
     | inl stays ↦ inl stays
     | inr gone ↦ inr (λ e. foreign (e ∙ ap Some (sym gone.0)), gone.1)
   ];
@@ -281,16 +281,16 @@ left-gone b now p s n foreign w = record {
 
 -- keys that are covered stay so
 covers-left : (y : ℕ → Option ℕ) (k n : KeyTable) (p : ℕ) (left o : Option ℕ) → y p ≡ o → HasLeft left o p k.entries n.entries
-    → length n.fingerprints.items ≡ length k.fingerprints.items → ContainsKeysOf y k → ContainsKeysOf y n
+    → length n.fingerprints.items ≡ length k.fingerprints.items → TableContainsKeys y k → TableContainsKeys y n
 covers-left y k n p left o is w long h = record {
-  entries = λ b q e. elim (w.kept b q (h.entries b q e)) [
+  entries = λ b q e. elim (w.remaining b q (h.entries b q e)) [
     | inl stays ↦ stays
     | inr gone ↦ absurd (gone.0 (sym is ∙ ap y gone.1 ∙ e))
   ];
   capacity = λ b q e. subst (λ m. q < m) (sym long) (h.capacity b q e);
 }
 
-pub settling-first : (x y : ℕ → Option ℕ) (node_indices : List ℕ) (k : KeyTable) → HasBase x k → ContainsKeysOf y k → AreSameBut node_indices x y → IsSettling y node_indices k
+pub settling-first : (x y : ℕ → Option ℕ) (node_indices : List ℕ) (k : KeyTable) → TableHasBase x k → TableContainsKeys y k → AreSameBut node_indices x y → IsSettling y node_indices k
 settling-first x y node_indices k h covers same = record {
   covers = covers;
   base = λ p off. h.base p ∙ same p off;
@@ -405,10 +405,10 @@ settling-last y k none h = record {
 
 -- an entry that came goes again
 pub between-less : (x : ℕ → Option ℕ) (k n : KeyTable) (b p : ℕ) → k.came.items ≡ n.came.items ++ (b, p) ∷ [] → WithoutEntry k.entries n.entries b p
-    → n.fingerprints.items ≡ k.fingerprints.items → HasBase x k → HasBase x n
+    → n.fingerprints.items ≡ k.fingerprints.items → TableHasBase x k → TableHasBase x n
 between-less x k n b p came w fingerprints h = record {
   base = λ q. base-same k n fingerprints q ∙ h.base q;
-  all = λ c q e. elim (w.kept c q (h.all c q e)) [
+  all = λ c q e. elim (w.remaining c q (h.all c q e)) [
     | inl stays ↦ stays
     | inr gone ↦
         absurd (h.new c q (ap (λ es. contains_entry es c q) came
@@ -426,7 +426,7 @@ between-less x k n b p came w fingerprints h = record {
   new = λ c q listed. h.new c q (ap (λ es. contains_entry es c q) came ∙ lists-kept n.came.items ((b, p) ∷ []) c q listed);
 }
 
-pub between-last : (x : ℕ → Option ℕ) (k : KeyTable) → k.came.items ≡ [] → HasBase x k → IsTableOf x k
+pub between-last : (x : ℕ → Option ℕ) (k : KeyTable) → k.came.items ≡ [] → TableHasBase x k → IsTableOf x k
 between-last x k none h = record { between = h; none_came = none }
 
 -- ---- what a table covers
@@ -438,5 +438,5 @@ some_room k p b e = elim (cases_lt p (length k.fingerprints.items)) [
 ]
 
 -- what a table is settled with
-pub between-covers : (x : ℕ → Option ℕ) (k : KeyTable) → HasBase x k → ContainsKeysOf x k
+pub between-covers : (x : ℕ → Option ℕ) (k : KeyTable) → TableHasBase x k → TableContainsKeys x k
 between-covers x k h = record { entries = h.all; capacity = λ b p e. some_room k p b (h.base p ∙ e) }

@@ -4,7 +4,7 @@ use Rattle.std.specs.Prelude.{◌≡◌, ℕ, ◌*◌, ◌≤◌, ◌<◌, ◌==
 use Rattle.std.specs.List.{list_any}
 use Rattle.std.specs.Coded.{Coded-set, coded_bool, coded×, coded_ℕ, code_by}
 use Rattle.mls_tree.specs.Tree.{Tree, leaf_count, leaf_at}
-use Rattle.mls_index.specs.LeafCredentials.{LeafClass, class_of, class_at, AreClassesOf, undone}
+use Rattle.mls_index.specs.LeafCredentials.{LeafClass, class_of, class_at, AreClassesOf, classes_before}
 use Rattle.mls_index.specs.declared.credential_counts.CredentialCounts.{CredentialCounts}
 
 -- `Count t c`: the counts are those of the tree.
@@ -13,22 +13,22 @@ Count t c = AreClassesOf t c.classes.list.items
 
 -- `HaveBase t c`: the counts are those of the tree once all that was replaced is undone.
 abbrev pub HaveBase : Tree → CredentialCounts → Type 0
-HaveBase t c = AreClassesOf t (undone c.replaced.items c.classes.list.items)
+HaveBase t c = AreClassesOf t (classes_before c.replaced.items c.classes.list.items)
 
 -- `AreCountsOf t c`: the counts are those of the tree, and there is nothing to undo.
 pub record AreCountsOf (t : Tree) (c : CredentialCounts) : Type 0 where
   pub counted : Count t c
   pub none_replaced : length c.replaced.items ≡ 0
 
-abbrev parts : LeafClass → Bool × (Bool × (Bool × Bool))
-parts x = (x.has_basic, (x.has_x509, (x.lacks_basic, x.lacks_x509)))
+abbrev class_parts : LeafClass → Bool × (Bool × (Bool × Bool))
+class_parts x = (x.has_basic, (x.has_x509, (x.lacks_basic, x.lacks_x509)))
 
-abbrev whole : Bool × (Bool × (Bool × Bool)) → LeafClass
-whole p = record { has_basic = p.0; has_x509 = p.1.0; lacks_basic = p.1.1.0; lacks_x509 = p.1.1.1 }
+abbrev class_of_parts : Bool × (Bool × (Bool × Bool)) → LeafClass
+class_of_parts p = record { has_basic = p.0; has_x509 = p.1.0; lacks_basic = p.1.1.0; lacks_x509 = p.1.1.1 }
 
 class_set : (x y : LeafClass) → IsProp (x ≡ y)
 class_set x y =
-    Coded-set (code_by (Bool × (Bool × (Bool × Bool))) (coded× coded_bool (coded× coded_bool (coded× coded_bool coded_bool))) parts whole (λ _. refl)) x y
+    Coded-set (code_by (Bool × (Bool × (Bool × Bool))) (coded× coded_bool (coded× coded_bool (coded× coded_bool coded_bool))) class_parts class_of_parts (λ _. refl)) x y
 
 -- `AreCountsOf` has at most one proof.
 pub AreCountsOf-prop : (t : Tree) (c : CredentialCounts) → IsProp (AreCountsOf t c)
@@ -45,8 +45,8 @@ pub record CountBut (node_indices : List ℕ) (t : Tree) (c : CredentialCounts) 
 abbrev pub HasCapacityFor : Tree → CredentialCounts → Type 0
 HasCapacityFor t c = leaf_count t ≤ length c.classes.list.items
 
--- `IndexesFirst t n c`: the first n leaves of the tree are counted.
-pub record IndexesFirst (t : Tree) (n : ℕ) (c : CredentialCounts) : Type 0 where
+-- `CountsFirst t n c`: the first n leaves of the tree are counted.
+pub record CountsFirst (t : Tree) (n : ℕ) (c : CredentialCounts) : Type 0 where
   pub count : length c.classes.list.items ≡ n
   pub at : (i : ℕ) → i < n → class_at c.classes.list.items i ≡ class_of (leaf_at 0 t i)
   pub none_replaced : length c.replaced.items ≡ 0

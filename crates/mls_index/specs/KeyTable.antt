@@ -29,8 +29,8 @@ AreSameBut node_indices x y = (p : ℕ) → contains_node_index node_indices p �
 unfoldable pub base_at : KeyTable → ℕ → Option ℕ
 base_at k p = unwrap_or (slice_get k.fingerprints.items p) None
 
--- `HasBase x k`: the base of the table is `x`. It has further entries only for keys that were added since.
-pub record HasBase (x : ℕ → Option ℕ) (k : KeyTable) : Type 0 where
+-- `TableHasBase x k`: the base of the table is `x`. It has further entries only for keys that were added since.
+pub record TableHasBase (x : ℕ → Option ℕ) (k : KeyTable) : Type 0 where
   pub base : (p : ℕ) → base_at k p ≡ x p
   pub all : (b p : ℕ) → x p ≡ Some b → has_entry k.entries b p ≡ true
   pub only : (b p : ℕ) → has_entry k.entries b p ≡ true → contains_entry k.came.items b p ≡ false → x p ≡ Some b
@@ -38,7 +38,7 @@ pub record HasBase (x : ℕ → Option ℕ) (k : KeyTable) : Type 0 where
 
 -- `IsTableOf x k`: the entries are those of `x`, and none were added.
 pub record IsTableOf (x : ℕ → Option ℕ) (k : KeyTable) : Type 0 where
-  pub between : HasBase x k
+  pub between : TableHasBase x k
   pub none_came : k.came.items ≡ []
 
 bool_set : (a b : Bool) → IsProp (a ≡ b)
@@ -50,31 +50,32 @@ fingerprint_set o r = Coded-set (coded_option coded_ℕ) o r
 entries_set : (es fs : List (ℕ × ℕ)) → IsProp (es ≡ fs)
 entries_set es fs = Coded-set (coded_list (coded× coded_ℕ coded_ℕ)) es fs
 
-never : (g h : ⊥) → g ≡ h
-never g h = absurd g
+false_is_prop : (g h : ⊥) → g ≡ h
+false_is_prop g h = absurd g
 
-HasBase-prop : (x : ℕ → Option ℕ) (k : KeyTable) → IsProp (HasBase x k)
-HasBase-prop x k g h = λ i. record {
+TableHasBase-prop : (x : ℕ → Option ℕ) (k : KeyTable) → IsProp (TableHasBase x k)
+TableHasBase-prop x k g h = λ i. record {
   base = λ p. fingerprint_set (base_at k p) (x p) (g.base p) (h.base p) i;
   all = λ b p is. bool_set (has_entry k.entries b p) true (g.all b p is) (h.all b p is) i;
   only = λ b p has old. fingerprint_set (x p) (Some b) (g.only b p has old) (h.only b p has old) i;
-  new = λ b p came is. never (g.new b p came is) (h.new b p came is) i;
+  new = λ b p came is. false_is_prop (g.new b p came is) (h.new b p came is) i;
 }
 
 -- `IsTableOf` has at most one proof.
 pub IsTableOf-prop : (x : ℕ → Option ℕ) (k : KeyTable) → IsProp (IsTableOf x k)
 IsTableOf-prop x k g h = λ i. record {
-  between = HasBase-prop x k g.between h.between i;
+  between = TableHasBase-prop x k g.between h.between i;
   none_came = entries_set k.came.items [] g.none_came h.none_came i;
 }
 
--- `ContainsKeysOf y k`: the table has an entry for each key of `y`, and stores a fingerprint for each such node index.
-pub record ContainsKeysOf (y : ℕ → Option ℕ) (k : KeyTable) : Type 0 where
+-- `TableContainsKeys y k`: the table has an entry for each key of `y`, and stores a fingerprint for each such node
+-- index.
+pub record TableContainsKeys (y : ℕ → Option ℕ) (k : KeyTable) : Type 0 where
   pub entries : (b p : ℕ) → y p ≡ Some b → has_entry k.entries b p ≡ true
   pub capacity : (b p : ℕ) → y p ≡ Some b → p < length k.fingerprints.items
 
--- `IndexesFirst x n k`: the table has the keys of `x` at the node indices below n.
-pub record IndexesFirst (x : ℕ → Option ℕ) (n : ℕ) (k : KeyTable) : Type 0 where
+-- `TableIndexesFirst x n k`: the table has the keys of `x` at the node indices below n.
+pub record TableIndexesFirst (x : ℕ → Option ℕ) (n : ℕ) (k : KeyTable) : Type 0 where
   pub count : length k.fingerprints.items ≡ n
   pub base : (p : ℕ) → p < n → base_at k p ≡ x p
   pub all : (b p : ℕ) → p < n → x p ≡ Some b → has_entry k.entries b p ≡ true
@@ -84,7 +85,7 @@ pub record IndexesFirst (x : ℕ → Option ℕ) (n : ℕ) (k : KeyTable) : Type
 -- `IsSettling y rest k`: the base of the table becomes `y`. The node indices in `rest` and the added entries are left
 -- to do.
 pub record IsSettling (y : ℕ → Option ℕ) (rest : List ℕ) (k : KeyTable) : Type 0 where
-  pub covers : ContainsKeysOf y k
+  pub covers : TableContainsKeys y k
   pub base : (p : ℕ) → contains_node_index rest p ≡ false → base_at k p ≡ y p
   pub only : (b p : ℕ) → has_entry k.entries b p ≡ true
       → (y p ≡ Some b) ⊎ ((contains_entry k.came.items b p ≡ true) ⊎ ((contains_node_index rest p ≡ true) × (base_at k p ≡ Some b)))
@@ -92,7 +93,7 @@ pub record IsSettling (y : ℕ → Option ℕ) (rest : List ℕ) (k : KeyTable) 
 -- `HasStaged o p s n`: the entries `n` are `s` with one more, if there is a fingerprint for the node index.
 pub record HasStaged (o : Option ℕ) (p : ℕ) (s n : BTreeSet (ℕ × ℕ)) : Type 0 where
   pub here : (b : ℕ) → o ≡ Some b → has_entry n b p ≡ true
-  pub kept : (b q : ℕ) → has_entry s b q ≡ true → has_entry n b q ≡ true
+  pub remaining : (b q : ℕ) → has_entry s b q ≡ true → has_entry n b q ≡ true
   pub only : (b q : ℕ) → has_entry n b q ≡ true → (has_entry s b q ≡ true) ⊎ ((o ≡ Some b) × (p ≡ q))
 
 -- `HasLeft left now p s n`: the entries `n` are `s` without the one of the previous key, unless it is that of the key
@@ -100,7 +101,7 @@ pub record HasStaged (o : Option ℕ) (p : ℕ) (s n : BTreeSet (ℕ × ℕ)) : 
 pub record HasLeft (left now : Option ℕ) (p : ℕ) (s n : BTreeSet (ℕ × ℕ)) : Type 0 where
   pub gone : (b : ℕ) → left ≡ Some b → now ≢ Some b → has_entry n b p ≡ false
   pub only : (b q : ℕ) → has_entry n b q ≡ true → has_entry s b q ≡ true
-  pub kept : (b q : ℕ) → has_entry s b q ≡ true → (has_entry n b q ≡ true) ⊎ ((now ≢ Some b) × (p ≡ q))
+  pub remaining : (b q : ℕ) → has_entry s b q ≡ true → (has_entry n b q ≡ true) ⊎ ((now ≢ Some b) × (p ≡ q))
 
 -- `ContainsKeysBut node_indices y k`: the table has an entry for each key of `y` outside some node indices.
 abbrev pub ContainsKeysBut : List ℕ → (ℕ → Option ℕ) → KeyTable → Type 0

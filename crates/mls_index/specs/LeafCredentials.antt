@@ -48,8 +48,8 @@ FindsLacking classes o = FindsFirst (λ i. lacks_used classes (class_at classes 
 pub record AreClassesOf (t : Tree) (classes : List LeafClass) : Type 0 where
   pub at : (i : ℕ) → class_at classes i ≡ class_of (leaf_at 0 t i)
 
--- `undone replaced classes` is the list before some replacements, each an index and the previous class. The last
--- one is undone first.
-abbrev pub undone : List (ℕ × LeafClass) → List LeafClass → List LeafClass
-undone [] classes = classes
-undone (e ∷ replaced) classes = slice_set (undone replaced classes) e.0 e.1
+-- `classes_before replaced classes` is the list before some replacements, each an index and the previous class. The
+-- last one is undone first.
+abbrev pub classes_before : List (ℕ × LeafClass) → List LeafClass → List LeafClass
+classes_before [] classes = classes
+classes_before (e ∷ replaced) classes = slice_set (classes_before replaced classes) e.0 e.1

@@ -9,8 +9,8 @@ use Rattle.mls_index.specs.declared.tree_index.TreeIndex.{TreeIndex}
 -- `HasBase t i`: `i` is the index of `t` with further entries for a changed tree. `TreeIndex::revert` removes these and
 -- gives `IsIndexOf t`.
 pub record HasBase (t : Tree) (i : TreeIndex) : Type 0 where
-  pub encryption : table.HasBase (fingerprint_at Encryption t) i.encryption
-  pub signature : table.HasBase (fingerprint_at Signature t) i.signature
+  pub encryption : table.TableHasBase (fingerprint_at Encryption t) i.encryption
+  pub signature : table.TableHasBase (fingerprint_at Signature t) i.signature
   pub credentials : counts.HaveBase t i.credentials
 
 -- `IsIndexOf t i`: `i` is the index of `t`. Its entries are the keys of `t`, and its counts are those of `t`.
@@ -22,8 +22,8 @@ pub record IsIndexOf (t : Tree) (i : TreeIndex) : Type 0 where
 -- `ContainsKeysOf t i`: `i` has an entry for each key of `t`, perhaps others, and its counts are those of `t`. Look-ups
 -- for `t` are then right.
 pub record ContainsKeysOf (t : Tree) (i : TreeIndex) : Type 0 where
-  pub encryption : table.ContainsKeysOf (fingerprint_at Encryption t) i.encryption
-  pub signature : table.ContainsKeysOf (fingerprint_at Signature t) i.signature
+  pub encryption : table.TableContainsKeys (fingerprint_at Encryption t) i.encryption
+  pub signature : table.TableContainsKeys (fingerprint_at Signature t) i.signature
   pub credentials : counts.Count t i.credentials
 
 -- `IsIndexOf` has at most one proof.

@@ -5,7 +5,7 @@ ghost use Rattle.mls_tree.specs.Tree.{Tree};
 ghost use Rattle.mls_tree.specs.ChangedNodes.{AgreeExceptAt};
 ghost use Rattle.mls_check.specs.LeafValidation.{FindsFailing, supports_used_credentials};
 ghost use Rattle.mls_index.specs.IncrementalCheck.{SupportCredentials};
-ghost use Rattle.mls_index.specs.CredentialCounts.{Count, HaveBase, AreCountsOf, CountBut, HasCapacityFor, IndexesFirst};
+ghost use Rattle.mls_index.specs.CredentialCounts.{Count, HaveBase, AreCountsOf, CountBut, HasCapacityFor, CountsFirst};
 
 use crate::leaf_credentials::{CountedClasses, LeafClass};
 use mls_check::OutOfMemory;
@@ -26,7 +26,7 @@ pub(crate) struct CredentialCounts {
 impl CredentialCounts {
     /// Returns counts of no leaves. Does not allocate.
     fn new(alloc: Global) -> CredentialCounts
-        ensures { (t : Tree) → IndexesFirst t 0 result }
+        ensures { (t : Tree) → CountsFirst t 0 result }
     {
         CredentialCounts {
             classes: CountedClasses::new(alloc),
@@ -36,7 +36,7 @@ impl CredentialCounts {
 
     /// Counts the leaves of a tree, one after the other.
     fn fill(&mut self, tree: &PublicTree) -> Result<(), AllocError>
-        requires { IndexesFirst tree.now.tree 0 self.old }
+        requires { CountsFirst tree.now.tree 0 self.old }
         ensures { OnOk result (AreCountsOf tree.now.tree self.new) }
     {
         for index in 0..tree.leaf_count() {

@@ -3,7 +3,7 @@
 ghost use Rattle.std.specs.Prelude.{◌≡◌, ◌<◌, ◌≤◌, ◌+◌, ◌^◌, ◌∷◌, ◌↔◌, [], ℕ, List, Option, Some, IsTrue, IfOk, OnOk, length, true};
 ghost use Rattle.mls_index.specs.NodeKeys.{fingerprint_at, HasKey, IsUniqueKey};
 ghost use Rattle.mls_index.specs.RepeatedKeys.{FindsOther};
-ghost use Rattle.mls_index.specs.KeyTable.{has_entry, base_at, AreSameBut, HasBase, IsTableOf, ContainsKeysOf, ContainsKeysBut, IndexesFirst, IsSettling, HasStaged, HasLeft};
+ghost use Rattle.mls_index.specs.KeyTable.{has_entry, base_at, AreSameBut, TableHasBase, IsTableOf, TableContainsKeys, ContainsKeysBut, TableIndexesFirst, IsSettling, HasStaged, HasLeft};
 
 use crate::node_key::{
     KeyKind, fingerprint, fingerprint_at, has_key_at, is_number, key_at_node, node_index_count,
@@ -59,7 +59,7 @@ fn leave_entry(
 impl KeyTable {
     /// Returns a table of no keys. Does not allocate.
     fn new(alloc: Global) -> KeyTable
-        ensures { (x : ℕ → Option ℕ) → IndexesFirst x 0 result }
+        ensures { (x : ℕ → Option ℕ) → TableIndexesFirst x 0 result }
     {
         KeyTable {
             entries: BTreeSet::new(alloc),
@@ -71,7 +71,7 @@ impl KeyTable {
     /// Adds the next node index of the base tree, with the fingerprint of its key.
     fn append(&mut self, number: Option<u64>, node_index: u32) -> Result<(), AllocError>
         ensures { OnOk result ((x : ℕ → Option ℕ) → x node_index ≡ number
-            → IndexesFirst x node_index self.old → IndexesFirst x (node_index + 1) self.new) }
+            → TableIndexesFirst x node_index self.old → TableIndexesFirst x (node_index + 1) self.new) }
     {
         put_entry(&mut self.entries, number, node_index)?;
         self.fingerprints.push(number)?;
@@ -80,7 +80,7 @@ impl KeyTable {
 
     /// Adds the node indices of a tree, one after the other.
     fn fill(&mut self, tree: &PublicTree, kind: KeyKind) -> Result<(), AllocError>
-        requires { IndexesFirst (fingerprint_at kind tree.now.tree) 0 self.old }
+        requires { TableIndexesFirst (fingerprint_at kind tree.now.tree) 0 self.old }
         ensures { OnOk result (IsTableOf (fingerprint_at kind tree.now.tree) self.new) }
     {
         for node_index in 0..node_index_count(tree) {
@@ -117,7 +117,7 @@ impl KeyTable {
 
     /// Adds an entry for a key at a node index, unless there is one.
     fn insert_at(&mut self, number: Option<u64>, node_index: u32) -> Result<(), AllocError>
-        ensures index_base { (x : ℕ → Option ℕ) → HasBase x self.old → HasBase x self.new }
+        ensures index_base { (x : ℕ → Option ℕ) → TableHasBase x self.old → TableHasBase x self.new }
         ensures staged { OnOk result (HasStaged number node_index self.old.entries self.new.entries) }
         ensures fingerprints { self.new.fingerprints ≡ self.old.fingerprints }
     {
@@ -140,7 +140,7 @@ impl KeyTable {
         kind: KeyKind,
         node_indices: &[u32],
     ) -> Result<(), AllocError>
-        ensures index_base { (x : ℕ → Option ℕ) → HasBase x self.old → HasBase x self.new }
+        ensures index_base { (x : ℕ → Option ℕ) → TableHasBase x self.old → TableHasBase x self.new }
         ensures index_contains_keys { OnOk result (ContainsKeysBut node_indices.now (fingerprint_at kind tree.now.tree) self.old
             → ContainsKeysBut [] (fingerprint_at kind tree.now.tree) self.new) }
         ensures fingerprints { self.new.fingerprints ≡ self.old.fingerprints }
@@ -161,10 +161,10 @@ impl KeyTable {
         kind: KeyKind,
         node_indices: &[u32],
     ) -> Result<(), AllocError>
-        ensures index_base { (x : ℕ → Option ℕ) → HasBase x self.old → HasBase x self.new }
-        ensures index_contains_keys { OnOk result ((x : ℕ → Option ℕ) → ContainsKeysOf x self.old
+        ensures index_base { (x : ℕ → Option ℕ) → TableHasBase x self.old → TableHasBase x self.new }
+        ensures index_contains_keys { OnOk result ((x : ℕ → Option ℕ) → TableContainsKeys x self.old
             → AreSameBut node_indices.now x (fingerprint_at kind tree.now.tree)
-            → ContainsKeysOf (fingerprint_at kind tree.now.tree) self.new) }
+            → TableContainsKeys (fingerprint_at kind tree.now.tree) self.new) }
     {
         self.make_room(node_index_count(tree))?;
         self.insert_all(tree, kind, node_indices)
@@ -210,7 +210,7 @@ impl KeyTable {
     /// Makes a tree whose keys the table contains, and which differs at these node indices from the base tree, the base
     /// tree. Does not allocate.
     pub(crate) fn accept(&mut self, tree: &PublicTree, kind: KeyKind, node_indices: &[u32])
-        ensures { (x : ℕ → Option ℕ) → HasBase x self.old → ContainsKeysOf (fingerprint_at kind tree.now.tree) self.old
+        ensures { (x : ℕ → Option ℕ) → TableHasBase x self.old → TableContainsKeys (fingerprint_at kind tree.now.tree) self.old
             → AreSameBut node_indices.now x (fingerprint_at kind tree.now.tree)
             → IsTableOf (fingerprint_at kind tree.now.tree) self.new }
     {
@@ -220,7 +220,7 @@ impl KeyTable {
 
     /// Removes the added entries. Does not allocate.
     pub(crate) fn revert(&mut self)
-        ensures { (x : ℕ → Option ℕ) → HasBase x self.old → IsTableOf x self.new }
+        ensures { (x : ℕ → Option ℕ) → TableHasBase x self.old → IsTableOf x self.new }
     {
         while let Some((number, node_index)) = self.came.pop() {
             self.entries.remove(&(number, node_index));
@@ -229,7 +229,7 @@ impl KeyTable {
 
     /// Returns whether some node of a tree has this key.
     pub(crate) fn has_key(&self, tree: &PublicTree, kind: KeyKind, key: &[u8]) -> bool
-        ensures { ContainsKeysOf (fingerprint_at kind tree.now.tree) self.now
+        ensures { TableContainsKeys (fingerprint_at kind tree.now.tree) self.now
             → IsTrue result ↔ HasKey kind tree.now.tree key.now }
     {
         let number = fingerprint(key);
@@ -249,7 +249,7 @@ impl KeyTable {
         kind: KeyKind,
         node_index: u32,
     ) -> Option<u32>
-        ensures { ContainsKeysOf (fingerprint_at kind tree.now.tree) self.now
+        ensures { TableContainsKeys (fingerprint_at kind tree.now.tree) self.now
             → FindsOther kind tree.now.tree node_index result }
     {
         let Some(key) = key_at_node(tree, kind, node_index) else {
@@ -266,7 +266,7 @@ impl KeyTable {
 
     /// Returns whether no other node of a tree has the key at a node index.
     pub(crate) fn has_unique_key(&self, tree: &PublicTree, kind: KeyKind, node_index: u32) -> bool
-        ensures { ContainsKeysOf (fingerprint_at kind tree.now.tree) self.now
+        ensures { TableContainsKeys (fingerprint_at kind tree.now.tree) self.now
             → IsTrue result ↔ IsUniqueKey kind tree.now.tree node_index }
     {
         self.first_other(tree, kind, node_index).is_none()

@@ -9,7 +9,7 @@ use Rattle.std.proofs.lemmas.List.{append-nil}
 use Rattle.mls_wire.specs.Input.{Input, at}
 use Rattle.mls_wire.specs.Parsing.{◌>>=◌, number_at, vector_at, body_at, items_at, list_at, optional_at}
 use Rattle.mls_wire.specs.ListLoops.{with_front, shortens, items_go_on, items_end}
-use Rattle.mls_nodes.specs.Parsing.{leaf_at, extension_at}
+use Rattle.mls_nodes.specs.Parsing.{leaf_node_at, extension_at}
 use Rattle.mls_msgs.specs.Layout.{is_commit, is_member, proposal, proposal_or_ref}
 use Rattle.mls_msgs.specs.Authenticated.{authenticated_content}
 use Rattle.mls_msgs.specs.AuthenticatedExact.{authenticated_content_exact}
@@ -59,7 +59,7 @@ module _ {A : Type 0} (test : A → Bool) where
 proposal_body : (n : ℕ) (i : Input) → n ≢ 4 → n ≢ 5 → n ≢ 6
     → passes is_members_proposal (
     if nat_eq n 1 then (key_package_at i >>= λ x. Some (proposals.Add x.0, x.1))
-    else if nat_eq n 2 then (leaf_at i >>= λ x. Some (proposals.Update x.0, x.1))
+    else if nat_eq n 2 then (leaf_node_at i >>= λ x. Some (proposals.Update x.0, x.1))
     else if nat_eq n 3 then (number_at w32 i >>= λ x. Some (proposals.Remove x.0, x.1))
     else if nat_eq n 4 then (psk_id_at i >>= λ x. Some (proposals.PreSharedKey x.0, x.1))
     else if nat_eq n 5 then (reinit_at i >>= λ x. Some (proposals.ReInit x.0, x.1))
@@ -69,7 +69,7 @@ proposal_body : (n : ℕ) (i : Input) → n ≢ 4 → n ≢ 5 → n ≢ 6
     ) ≡ true
 proposal_body n i a b c =
     either is_members_proposal (nat_eq n 1) _ _ (λ e. wrapped is_members_proposal proposals.Add (key_package_at i) (λ x. refl))
-    (λ e. either is_members_proposal (nat_eq n 2) _ _ (λ e. wrapped is_members_proposal proposals.Update (leaf_at i) (λ x. refl))
+    (λ e. either is_members_proposal (nat_eq n 2) _ _ (λ e. wrapped is_members_proposal proposals.Update (leaf_node_at i) (λ x. refl))
     (λ e. either is_members_proposal (nat_eq n 3) _ _ (λ e. wrapped is_members_proposal proposals.Remove (number_at w32 i) (λ x. refl))
     (λ e. either is_members_proposal (nat_eq n 4) _ _ (λ e. absurd (a (eqb-true n 4 e)))
     (λ e. either is_members_proposal (nat_eq n 5) _ _ (λ e. absurd (b (eqb-true n 5 e)))

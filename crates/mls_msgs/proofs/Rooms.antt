@@ -54,4 +54,4 @@ pub ruleset made = (drafted, undrafted, no_room, room_some)
 pub ruleset message_made = (drafted, room_some, message_unmade, message_unput)
 
 -- how the sizes of a message's parts are put together
-pub ruleset sizes = (nodes.sizes, size_of_bytes, no_size_of)
+pub ruleset sizes = (nodes.tag_sizes, size_of_bytes, no_size_of)

@@ -9,7 +9,7 @@ use Rattle.mls_wire.specs.ListsExact.{list_exact, list_long}
 use Rattle.mls_wire.specs.OptionalsExact.{optional_exact}
 use Rattle.mls_wire.specs.EncodingConcat.{long_left}
 use Rattle.mls_nodes.specs.Layout.{leaf}
-use Rattle.mls_nodes.specs.Parsing.{leaf_at}
+use Rattle.mls_nodes.specs.Parsing.{leaf_node_at}
 use Rattle.mls_nodes.specs.NodesExact.{leaf_exact, leaf_long}
 use Rattle.mls_msgs.specs.Layout.{proposal_or_ref, ciphertext, path_node, update_path, commit}
 use Rattle.mls_msgs.specs.Parsing.{proposal_or_ref_at, ciphertext_at, path_node_at, update_path_at, commit_at}
@@ -46,7 +46,7 @@ path_nodes_exact = list_exact path_node path_node_at path_node_exact path_node_l
 pub update_path_exact : IsExact update_path update_path_at
 unfolding update_path update_path_at
 update_path_exact =
-    field_then Any (λ p. p.leaf_node) leaf _ leaf_at _ leaf_exact
+    field_then Any (λ p. p.leaf_node) leaf _ leaf_node_at _ leaf_exact
     (λ a. made_of _ (λ x. record { leaf_node = a; nodes = x }) (list path_node) _ (list_at path_node_at) path_nodes_exact
     (λ x. (tt, refl)) (λ x. refl) (λ n p. (n.nodes, rw (← p.1) refl)))
 

@@ -42,29 +42,29 @@ sender_parts (External i) = refl
 sender_parts NewMemberProposal = refl
 sender_parts NewMemberCommit = refl
 
-is_a_member : (s : Sender) → Unit {0} × (sender_kind s ≡ 1) → (x : ℕ) × (Member x ≡ s)
-is_a_member (Member x) p = (x, refl)
-is_a_member (External x) p = absurd (omega arith)
-is_a_member NewMemberProposal p = absurd (omega arith)
-is_a_member NewMemberCommit p = absurd (omega arith)
+is_member_by_kind : (s : Sender) → Unit {0} × (sender_kind s ≡ 1) → (x : ℕ) × (Member x ≡ s)
+is_member_by_kind (Member x) p = (x, refl)
+is_member_by_kind (External x) p = absurd (omega arith)
+is_member_by_kind NewMemberProposal p = absurd (omega arith)
+is_member_by_kind NewMemberCommit p = absurd (omega arith)
 
-is_external : (s : Sender) → Unit {0} × (sender_kind s ≡ 2) → (x : ℕ) × (External x ≡ s)
-is_external (Member x) p = absurd (omega arith)
-is_external (External x) p = (x, refl)
-is_external NewMemberProposal p = absurd (omega arith)
-is_external NewMemberCommit p = absurd (omega arith)
+is_external_by_kind : (s : Sender) → Unit {0} × (sender_kind s ≡ 2) → (x : ℕ) × (External x ≡ s)
+is_external_by_kind (Member x) p = absurd (omega arith)
+is_external_by_kind (External x) p = (x, refl)
+is_external_by_kind NewMemberProposal p = absurd (omega arith)
+is_external_by_kind NewMemberCommit p = absurd (omega arith)
 
-is_new_proposal : (s : Sender) → Unit {0} × (sender_kind s ≡ 3) → NewMemberProposal ≡ s
-is_new_proposal (Member x) p = absurd (omega arith)
-is_new_proposal (External x) p = absurd (omega arith)
-is_new_proposal NewMemberProposal p = refl
-is_new_proposal NewMemberCommit p = absurd (omega arith)
+is_new_member_proposal_by_kind : (s : Sender) → Unit {0} × (sender_kind s ≡ 3) → NewMemberProposal ≡ s
+is_new_member_proposal_by_kind (Member x) p = absurd (omega arith)
+is_new_member_proposal_by_kind (External x) p = absurd (omega arith)
+is_new_member_proposal_by_kind NewMemberProposal p = refl
+is_new_member_proposal_by_kind NewMemberCommit p = absurd (omega arith)
 
-is_new_commit : (s : Sender) → Unit {0} × (sender_kind s ≡ 4) → NewMemberCommit ≡ s
-is_new_commit (Member x) p = absurd (omega arith)
-is_new_commit (External x) p = absurd (omega arith)
-is_new_commit NewMemberProposal p = absurd (omega arith)
-is_new_commit NewMemberCommit p = refl
+is_new_member_commit_by_kind : (s : Sender) → Unit {0} × (sender_kind s ≡ 4) → NewMemberCommit ≡ s
+is_new_member_commit_by_kind (Member x) p = absurd (omega arith)
+is_new_member_commit_by_kind (External x) p = absurd (omega arith)
+is_new_member_commit_by_kind NewMemberProposal p = absurd (omega arith)
+is_new_member_commit_by_kind NewMemberCommit p = refl
 
 no_sender : (n : ℕ) → n ≢ 1 → n ≢ 2 → n ≢ 3 → n ≢ 4 → (s : Sender) → Unit {0} × (sender_kind s ≡ n) → ⊥
 no_sender n w x y z (Member _) p = w (sym p.1)
@@ -76,10 +76,10 @@ pub sender_exact : IsExact sender sender_at
 unfolding sender_at
 sender_exact = encoded_as Any sender _ sender_at sender_parts
     (field_then Any sender_kind (number w8) sender_body (number_at w8) _ (number_exact w8 wide8)
-    (λ n. tag_is sender_kind _ _ _ n 1 (made_of _ Member (number w32) _ (number_at w32) (number_exact w32 wide32) (λ x. (tt, refl)) (λ x. refl) is_a_member)
-    (λ w. tag_is sender_kind _ _ _ n 2 (made_of _ External (number w32) _ (number_at w32) (number_exact w32 wide32) (λ x. (tt, refl)) (λ x. refl) is_external)
-    (λ x. tag_is sender_kind _ _ _ n 3 (known _ _ NewMemberProposal (tt, refl) refl is_new_proposal)
-    (λ y. tag_is sender_kind _ _ _ n 4 (known _ _ NewMemberCommit (tt, refl) refl is_new_commit)
+    (λ n. tag_is sender_kind _ _ _ n 1 (made_of _ Member (number w32) _ (number_at w32) (number_exact w32 wide32) (λ x. (tt, refl)) (λ x. refl) is_member_by_kind)
+    (λ w. tag_is sender_kind _ _ _ n 2 (made_of _ External (number w32) _ (number_at w32) (number_exact w32 wide32) (λ x. (tt, refl)) (λ x. refl) is_external_by_kind)
+    (λ x. tag_is sender_kind _ _ _ n 3 (known _ _ NewMemberProposal (tt, refl) refl is_new_member_proposal_by_kind)
+    (λ y. tag_is sender_kind _ _ _ n 4 (known _ _ NewMemberCommit (tt, refl) refl is_new_member_commit_by_kind)
     (λ z. never _ _ (no_sender n w x y z)))))))
 
 pub sender_long : IsLong sender
@@ -109,20 +109,20 @@ content_parts (contents.Application d) = refl
 content_parts (contents.Proposal p) = refl
 content_parts (contents.Commit c) = refl
 
-is_application : (c : Content) → Unit {0} × (content_kind c ≡ 1) → (x : List ℕ) × (contents.Application x ≡ c)
-is_application (contents.Application x) p = (x, refl)
-is_application (contents.Proposal x) p = absurd (omega arith)
-is_application (contents.Commit x) p = absurd (omega arith)
+is_application_by_kind : (c : Content) → Unit {0} × (content_kind c ≡ 1) → (x : List ℕ) × (contents.Application x ≡ c)
+is_application_by_kind (contents.Application x) p = (x, refl)
+is_application_by_kind (contents.Proposal x) p = absurd (omega arith)
+is_application_by_kind (contents.Commit x) p = absurd (omega arith)
 
-is_a_proposal : (c : Content) → Unit {0} × (content_kind c ≡ 2) → (x : Proposal) × (contents.Proposal x ≡ c)
-is_a_proposal (contents.Application x) p = absurd (omega arith)
-is_a_proposal (contents.Proposal x) p = (x, refl)
-is_a_proposal (contents.Commit x) p = absurd (omega arith)
+is_proposal_by_kind : (c : Content) → Unit {0} × (content_kind c ≡ 2) → (x : Proposal) × (contents.Proposal x ≡ c)
+is_proposal_by_kind (contents.Application x) p = absurd (omega arith)
+is_proposal_by_kind (contents.Proposal x) p = (x, refl)
+is_proposal_by_kind (contents.Commit x) p = absurd (omega arith)
 
-is_a_commit : (c : Content) → Unit {0} × (content_kind c ≡ 3) → (x : Commit) × (contents.Commit x ≡ c)
-is_a_commit (contents.Application x) p = absurd (omega arith)
-is_a_commit (contents.Proposal x) p = absurd (omega arith)
-is_a_commit (contents.Commit x) p = (x, refl)
+is_commit_by_kind : (c : Content) → Unit {0} × (content_kind c ≡ 3) → (x : Commit) × (contents.Commit x ≡ c)
+is_commit_by_kind (contents.Application x) p = absurd (omega arith)
+is_commit_by_kind (contents.Proposal x) p = absurd (omega arith)
+is_commit_by_kind (contents.Commit x) p = (x, refl)
 
 no_content : (n : ℕ) → n ≢ 1 → n ≢ 2 → n ≢ 3 → (c : Content) → Unit {0} × (content_kind c ≡ n) → ⊥
 no_content n x y z (contents.Application _) p = x (sym p.1)
@@ -133,9 +133,9 @@ pub content_exact : IsExact content content_at
 unfolding content_at
 content_exact = encoded_as Any content _ content_at content_parts
     (field_then Any content_kind (number w8) content_body (number_at w8) _ (number_exact w8 wide8)
-    (λ n. tag_is content_kind _ _ _ n 1 (made_of _ contents.Application vector _ vector_at vector_exact (λ x. (tt, refl)) (λ x. refl) is_application)
-    (λ x. tag_is content_kind _ _ _ n 2 (made_of _ contents.Proposal proposal _ proposal_at proposal_exact (λ x. (tt, refl)) (λ x. refl) is_a_proposal)
-    (λ y. tag_is content_kind _ _ _ n 3 (made_of _ contents.Commit commit _ commit_at commit_exact (λ x. (tt, refl)) (λ x. refl) is_a_commit)
+    (λ n. tag_is content_kind _ _ _ n 1 (made_of _ contents.Application vector _ vector_at vector_exact (λ x. (tt, refl)) (λ x. refl) is_application_by_kind)
+    (λ x. tag_is content_kind _ _ _ n 2 (made_of _ contents.Proposal proposal _ proposal_at proposal_exact (λ x. (tt, refl)) (λ x. refl) is_proposal_by_kind)
+    (λ y. tag_is content_kind _ _ _ n 3 (made_of _ contents.Commit commit _ commit_at commit_exact (λ x. (tt, refl)) (λ x. refl) is_commit_by_kind)
     (λ z. never _ _ (no_content n x y z))))))
 
 pub content_long : IsLong content

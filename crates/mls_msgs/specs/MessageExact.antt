@@ -116,9 +116,9 @@ message_parts (messages.KeyPackage k) = refl
 abbrev IsBody : ℕ → Input → Message → Type 0
 IsBody n i m = (format_of m ≡ n) × (message_body m ≡ Some i.left)
 
-body_takes : (n : ℕ) (i : Input) (x : Message) → message_body_at n i ≡ Some x → IsBody n i x
+message_body_takes : (n : ℕ) (i : Input) (x : Message) → message_body_at n i ≡ Some x → IsBody n i x
 unfolding message_body_at
-body_takes n i x e =
+message_body_takes n i x e =
     elim (chosen_parts (nat_eq n 1) _ _ x e) [
       | inl a ↦
           let b = bind_some (rest_at public_message_at i) (λ m. Some (messages.Public m)) x a.1 in
@@ -148,21 +148,21 @@ unread_again n i e = elim (either_holds (nat_eq n 2) (nat_eq n 3) e) [
   | inr three ↦ let is : n ≡ 3 = eqb-true n 3 three in rw is refl
 ]
 
-body_again : (x : Message) (text : List ℕ) (offset : ℕ) → message_body x ≡ Some text → message_body_at (format_of x) (at offset text) ≡ Some x
+message_body_again : (x : Message) (text : List ℕ) (offset : ℕ) → message_body x ≡ Some text → message_body_at (format_of x) (at offset text) ≡ Some x
 unfolding message_body_at
-body_again (messages.Public m) text offset e = let a = rest_again public_message public_message_at public_message_exact m text offset e in rw a refl
-body_again (messages.Unread n body) text offset e =
+message_body_again (messages.Public m) text offset e = let a = rest_again public_message public_message_at public_message_exact m text offset e in rw a refl
+message_body_again (messages.Unread n body) text offset e =
     let a = allowed (is_unread n) (Some body) text e in
     unread_again n (at offset text) a.0 ∙ ap (λ (b : List ℕ). Some (messages.Unread n b)) (sym (some_is body text a.1))
-body_again (messages.GroupInfo g) text offset e = let a = rest_again group_info group_info_at group_info_exact g text offset e in rw a refl
-body_again (messages.KeyPackage k) text offset e = let a = rest_again key_package key_package_at key_package_exact k text offset e in rw a refl
+message_body_again (messages.GroupInfo g) text offset e = let a = rest_again group_info group_info_at group_info_exact g text offset e in rw a refl
+message_body_again (messages.KeyPackage k) text offset e = let a = rest_again key_package key_package_at key_package_exact k text offset e in rw a refl
 
 pub message_takes : (bytes : List ℕ) (x : Message) → message_at bytes ≡ Some x → message x ≡ Some bytes
 unfolding message_at
 message_takes bytes x e =
     let h = bind_some (header_at (at 0 bytes)) (λ n. message_body_at n.0 n.1) x e in
     let t = (header_exact.takes (at 0 bytes) h.0.0 h.0.1 h.1).1 in
-    let b = body_takes h.0.0 h.0.1 x h.2 in
+    let b = message_body_takes h.0.0 h.0.1 x h.2 in
     sym (message_parts x) ∙ (join _ _ t.0 h.0.1.left (ap header b.0 ∙ t.1) b.1 ∙ ap (λ (s : List ℕ). Some s) (sym t.2))
 
 pub message_again : (x : Message) (bytes : List ℕ) → message x ≡ Some bytes → message_at bytes ≡ Some x
@@ -170,7 +170,7 @@ unfolding message_at
 message_again x bytes e =
     let p = joined (header (format_of x)) (message_body x) bytes (message_parts x ∙ e) in
     let h = header_exact.again (format_of x) p.0 p.1 0 tt p.2 in
-    let b = body_again x p.1 (0 + length p.0) p.3 in
+    let b = message_body_again x p.1 (0 + length p.0) p.3 in
     ap message_at p.4 ∙ rw (h, b) refl
 
 -- What is decoded from an input within the limit.

@@ -4,7 +4,7 @@ use Rattle.std.specs.Prelude.{Option, Some, None, nat_eq, if◌then◌else◌}
 use Rattle.std.specs.Int.{w8, w16, w32, w64}
 use Rattle.mls_wire.specs.Input.{Input}
 use Rattle.mls_wire.specs.Parsing.{◌>>=◌, number_at, vector_at, list_at, optional_at}
-use Rattle.mls_nodes.specs.Parsing.{extension_at, leaf_at, group_context_at}
+use Rattle.mls_nodes.specs.Parsing.{extension_at, leaf_node_at, group_context_at}
 use Rattle.mls_msgs.specs.declared.key_package.KeyPackage.{KeyPackage}
 use Rattle.mls_msgs.specs.declared.proposal.Proposal.{Proposal}
 use Rattle.mls_msgs.specs.declared.proposal.Proposal.TheVariants as proposals
@@ -33,7 +33,7 @@ key_package_at i = do
   version ← number_at w16 i
   cipher_suite ← number_at w16 version.1
   init_key ← vector_at cipher_suite.1
-  leaf_node ← leaf_at init_key.1
+  leaf_node ← leaf_node_at init_key.1
   extensions ← list_at extension_at leaf_node.1
   signature ← vector_at extensions.1
   Some (
@@ -102,7 +102,7 @@ unfoldable pub proposal_at : Input → Option (Proposal × Input)
 proposal_at i = do
   kind ← number_at w16 i
   if nat_eq kind.0 1 then (key_package_at kind.1 >>= λ x. Some (proposals.Add x.0, x.1))
-      else if nat_eq kind.0 2 then (leaf_at kind.1 >>= λ x. Some (proposals.Update x.0, x.1))
+      else if nat_eq kind.0 2 then (leaf_node_at kind.1 >>= λ x. Some (proposals.Update x.0, x.1))
       else if nat_eq kind.0 3 then (number_at w32 kind.1 >>= λ x. Some (proposals.Remove x.0, x.1))
       else if nat_eq kind.0 4 then (psk_id_at kind.1 >>= λ x. Some (proposals.PreSharedKey x.0, x.1))
       else if nat_eq kind.0 5 then (reinit_at kind.1 >>= λ x. Some (proposals.ReInit x.0, x.1))
@@ -135,7 +135,7 @@ path_node_at i = do
 -- An UpdatePath.
 unfoldable pub update_path_at : Input → Option (UpdatePath × Input)
 update_path_at i = do
-  leaf_node ← leaf_at i
+  leaf_node ← leaf_node_at i
   nodes ← list_at path_node_at leaf_node.1
   Some (record { leaf_node = leaf_node.0; nodes = nodes.0 }, nodes.1)
 

@@ -10,7 +10,7 @@ use Rattle.mls_wire.specs.VectorsExact.{vector_exact}
 use Rattle.mls_wire.specs.EncodingConcat.{long_left}
 use Rattle.mls_nodes.specs.Extension.{extension}
 use Rattle.mls_nodes.specs.Layout.{leaf}
-use Rattle.mls_nodes.specs.Parsing.{extension_at, leaf_at}
+use Rattle.mls_nodes.specs.Parsing.{extension_at, leaf_node_at}
 use Rattle.mls_nodes.specs.NodesExact.{extensions_exact, leaf_exact}
 use Rattle.mls_msgs.specs.Layout.{key_package, psk_id, reinit, proposal, proposal_or_ref}
 use Rattle.mls_msgs.specs.Parsing.{key_package_at, psk_id_at, reinit_at, proposal_at, proposal_or_ref_at}
@@ -31,7 +31,7 @@ key_package_exact =
     field_then Any (λ k. k.version) (number w16) _ (number_at w16) _ (number_exact w16 wide16)
     (λ a. field_then _ (λ k. k.cipher_suite) (number w16) _ (number_at w16) _ (number_exact w16 wide16)
     (λ b. field_then _ (λ k. k.init_key) vector _ vector_at _ vector_exact
-    (λ c. field_then _ (λ k. k.leaf_node) leaf _ leaf_at _ leaf_exact
+    (λ c. field_then _ (λ k. k.leaf_node) leaf _ leaf_node_at _ leaf_exact
     (λ d. field_then _ (λ k. k.extensions) (list extension) _ (list_at extension_at) _ extensions_exact
     (λ e. made_of _ (λ x. record { version = a; cipher_suite = b; init_key = c; leaf_node = d; extensions = e; signature = x }) vector _ vector_at vector_exact
     (λ x. (((((tt, refl), refl), refl), refl), refl)) (λ x. refl)
@@ -73,68 +73,68 @@ proposal_parts (proposals.ReInit x) = refl
 proposal_parts (proposals.ExternalInit x) = refl
 proposal_parts (proposals.ContextExtensions x) = refl
 
-is_add : (p : Proposal) → Unit {0} × (proposal_kind p ≡ 1) → (x : KeyPackage) × (proposals.Add x ≡ p)
-is_add (proposals.Add x) p = (x, refl)
-is_add (proposals.Update x) p = absurd (omega arith)
-is_add (proposals.Remove x) p = absurd (omega arith)
-is_add (proposals.PreSharedKey x) p = absurd (omega arith)
-is_add (proposals.ReInit x) p = absurd (omega arith)
-is_add (proposals.ExternalInit x) p = absurd (omega arith)
-is_add (proposals.ContextExtensions x) p = absurd (omega arith)
+is_add_by_kind : (p : Proposal) → Unit {0} × (proposal_kind p ≡ 1) → (x : KeyPackage) × (proposals.Add x ≡ p)
+is_add_by_kind (proposals.Add x) p = (x, refl)
+is_add_by_kind (proposals.Update x) p = absurd (omega arith)
+is_add_by_kind (proposals.Remove x) p = absurd (omega arith)
+is_add_by_kind (proposals.PreSharedKey x) p = absurd (omega arith)
+is_add_by_kind (proposals.ReInit x) p = absurd (omega arith)
+is_add_by_kind (proposals.ExternalInit x) p = absurd (omega arith)
+is_add_by_kind (proposals.ContextExtensions x) p = absurd (omega arith)
 
-is_update : (p : Proposal) → Unit {0} × (proposal_kind p ≡ 2) → (x : LeafNode) × (proposals.Update x ≡ p)
-is_update (proposals.Add x) p = absurd (omega arith)
-is_update (proposals.Update x) p = (x, refl)
-is_update (proposals.Remove x) p = absurd (omega arith)
-is_update (proposals.PreSharedKey x) p = absurd (omega arith)
-is_update (proposals.ReInit x) p = absurd (omega arith)
-is_update (proposals.ExternalInit x) p = absurd (omega arith)
-is_update (proposals.ContextExtensions x) p = absurd (omega arith)
+is_update_by_kind : (p : Proposal) → Unit {0} × (proposal_kind p ≡ 2) → (x : LeafNode) × (proposals.Update x ≡ p)
+is_update_by_kind (proposals.Add x) p = absurd (omega arith)
+is_update_by_kind (proposals.Update x) p = (x, refl)
+is_update_by_kind (proposals.Remove x) p = absurd (omega arith)
+is_update_by_kind (proposals.PreSharedKey x) p = absurd (omega arith)
+is_update_by_kind (proposals.ReInit x) p = absurd (omega arith)
+is_update_by_kind (proposals.ExternalInit x) p = absurd (omega arith)
+is_update_by_kind (proposals.ContextExtensions x) p = absurd (omega arith)
 
-is_remove : (p : Proposal) → Unit {0} × (proposal_kind p ≡ 3) → (x : ℕ) × (proposals.Remove x ≡ p)
-is_remove (proposals.Add x) p = absurd (omega arith)
-is_remove (proposals.Update x) p = absurd (omega arith)
-is_remove (proposals.Remove x) p = (x, refl)
-is_remove (proposals.PreSharedKey x) p = absurd (omega arith)
-is_remove (proposals.ReInit x) p = absurd (omega arith)
-is_remove (proposals.ExternalInit x) p = absurd (omega arith)
-is_remove (proposals.ContextExtensions x) p = absurd (omega arith)
+is_remove_by_kind : (p : Proposal) → Unit {0} × (proposal_kind p ≡ 3) → (x : ℕ) × (proposals.Remove x ≡ p)
+is_remove_by_kind (proposals.Add x) p = absurd (omega arith)
+is_remove_by_kind (proposals.Update x) p = absurd (omega arith)
+is_remove_by_kind (proposals.Remove x) p = (x, refl)
+is_remove_by_kind (proposals.PreSharedKey x) p = absurd (omega arith)
+is_remove_by_kind (proposals.ReInit x) p = absurd (omega arith)
+is_remove_by_kind (proposals.ExternalInit x) p = absurd (omega arith)
+is_remove_by_kind (proposals.ContextExtensions x) p = absurd (omega arith)
 
-is_key : (p : Proposal) → Unit {0} × (proposal_kind p ≡ 4) → (x : PreSharedKeyId) × (proposals.PreSharedKey x ≡ p)
-is_key (proposals.Add x) p = absurd (omega arith)
-is_key (proposals.Update x) p = absurd (omega arith)
-is_key (proposals.Remove x) p = absurd (omega arith)
-is_key (proposals.PreSharedKey x) p = (x, refl)
-is_key (proposals.ReInit x) p = absurd (omega arith)
-is_key (proposals.ExternalInit x) p = absurd (omega arith)
-is_key (proposals.ContextExtensions x) p = absurd (omega arith)
+is_psk_by_kind : (p : Proposal) → Unit {0} × (proposal_kind p ≡ 4) → (x : PreSharedKeyId) × (proposals.PreSharedKey x ≡ p)
+is_psk_by_kind (proposals.Add x) p = absurd (omega arith)
+is_psk_by_kind (proposals.Update x) p = absurd (omega arith)
+is_psk_by_kind (proposals.Remove x) p = absurd (omega arith)
+is_psk_by_kind (proposals.PreSharedKey x) p = (x, refl)
+is_psk_by_kind (proposals.ReInit x) p = absurd (omega arith)
+is_psk_by_kind (proposals.ExternalInit x) p = absurd (omega arith)
+is_psk_by_kind (proposals.ContextExtensions x) p = absurd (omega arith)
 
-is_reinit : (p : Proposal) → Unit {0} × (proposal_kind p ≡ 5) → (x : ReInit) × (proposals.ReInit x ≡ p)
-is_reinit (proposals.Add x) p = absurd (omega arith)
-is_reinit (proposals.Update x) p = absurd (omega arith)
-is_reinit (proposals.Remove x) p = absurd (omega arith)
-is_reinit (proposals.PreSharedKey x) p = absurd (omega arith)
-is_reinit (proposals.ReInit x) p = (x, refl)
-is_reinit (proposals.ExternalInit x) p = absurd (omega arith)
-is_reinit (proposals.ContextExtensions x) p = absurd (omega arith)
+is_reinit_by_kind : (p : Proposal) → Unit {0} × (proposal_kind p ≡ 5) → (x : ReInit) × (proposals.ReInit x ≡ p)
+is_reinit_by_kind (proposals.Add x) p = absurd (omega arith)
+is_reinit_by_kind (proposals.Update x) p = absurd (omega arith)
+is_reinit_by_kind (proposals.Remove x) p = absurd (omega arith)
+is_reinit_by_kind (proposals.PreSharedKey x) p = absurd (omega arith)
+is_reinit_by_kind (proposals.ReInit x) p = (x, refl)
+is_reinit_by_kind (proposals.ExternalInit x) p = absurd (omega arith)
+is_reinit_by_kind (proposals.ContextExtensions x) p = absurd (omega arith)
 
-is_init : (p : Proposal) → Unit {0} × (proposal_kind p ≡ 6) → (x : List ℕ) × (proposals.ExternalInit x ≡ p)
-is_init (proposals.Add x) p = absurd (omega arith)
-is_init (proposals.Update x) p = absurd (omega arith)
-is_init (proposals.Remove x) p = absurd (omega arith)
-is_init (proposals.PreSharedKey x) p = absurd (omega arith)
-is_init (proposals.ReInit x) p = absurd (omega arith)
-is_init (proposals.ExternalInit x) p = (x, refl)
-is_init (proposals.ContextExtensions x) p = absurd (omega arith)
+is_external_init_by_kind : (p : Proposal) → Unit {0} × (proposal_kind p ≡ 6) → (x : List ℕ) × (proposals.ExternalInit x ≡ p)
+is_external_init_by_kind (proposals.Add x) p = absurd (omega arith)
+is_external_init_by_kind (proposals.Update x) p = absurd (omega arith)
+is_external_init_by_kind (proposals.Remove x) p = absurd (omega arith)
+is_external_init_by_kind (proposals.PreSharedKey x) p = absurd (omega arith)
+is_external_init_by_kind (proposals.ReInit x) p = absurd (omega arith)
+is_external_init_by_kind (proposals.ExternalInit x) p = (x, refl)
+is_external_init_by_kind (proposals.ContextExtensions x) p = absurd (omega arith)
 
-is_extensions : (p : Proposal) → Unit {0} × (proposal_kind p ≡ 7) → (x : List Extension) × (proposals.ContextExtensions x ≡ p)
-is_extensions (proposals.Add x) p = absurd (omega arith)
-is_extensions (proposals.Update x) p = absurd (omega arith)
-is_extensions (proposals.Remove x) p = absurd (omega arith)
-is_extensions (proposals.PreSharedKey x) p = absurd (omega arith)
-is_extensions (proposals.ReInit x) p = absurd (omega arith)
-is_extensions (proposals.ExternalInit x) p = absurd (omega arith)
-is_extensions (proposals.ContextExtensions x) p = (x, refl)
+is_extensions_by_kind : (p : Proposal) → Unit {0} × (proposal_kind p ≡ 7) → (x : List Extension) × (proposals.ContextExtensions x ≡ p)
+is_extensions_by_kind (proposals.Add x) p = absurd (omega arith)
+is_extensions_by_kind (proposals.Update x) p = absurd (omega arith)
+is_extensions_by_kind (proposals.Remove x) p = absurd (omega arith)
+is_extensions_by_kind (proposals.PreSharedKey x) p = absurd (omega arith)
+is_extensions_by_kind (proposals.ReInit x) p = absurd (omega arith)
+is_extensions_by_kind (proposals.ExternalInit x) p = absurd (omega arith)
+is_extensions_by_kind (proposals.ContextExtensions x) p = (x, refl)
 
 no_proposal : (n : ℕ) → n ≢ 1 → n ≢ 2 → n ≢ 3 → n ≢ 4 → n ≢ 5 → n ≢ 6 → n ≢ 7 → (p : Proposal) → Unit {0} × (proposal_kind p ≡ n) → ⊥
 no_proposal n a b c d e f g (proposals.Add _) p = a (sym p.1)
@@ -149,13 +149,13 @@ pub proposal_exact : IsExact proposal proposal_at
 unfolding proposal_at
 proposal_exact = encoded_as Any proposal _ proposal_at proposal_parts
     (field_then Any proposal_kind (number w16) proposal_body (number_at w16) _ (number_exact w16 wide16)
-    (λ n. tag_is proposal_kind _ _ _ n 1 (made_of _ proposals.Add key_package _ key_package_at key_package_exact (λ x. (tt, refl)) (λ x. refl) is_add)
-    (λ a. tag_is proposal_kind _ _ _ n 2 (made_of _ proposals.Update leaf _ leaf_at leaf_exact (λ x. (tt, refl)) (λ x. refl) is_update)
-    (λ b. tag_is proposal_kind _ _ _ n 3 (made_of _ proposals.Remove (number w32) _ (number_at w32) (number_exact w32 wide32) (λ x. (tt, refl)) (λ x. refl) is_remove)
-    (λ c. tag_is proposal_kind _ _ _ n 4 (made_of _ proposals.PreSharedKey psk_id _ psk_id_at psk_id_exact (λ x. (tt, refl)) (λ x. refl) is_key)
-    (λ d. tag_is proposal_kind _ _ _ n 5 (made_of _ proposals.ReInit reinit _ reinit_at reinit_exact (λ x. (tt, refl)) (λ x. refl) is_reinit)
-    (λ e. tag_is proposal_kind _ _ _ n 6 (made_of _ proposals.ExternalInit vector _ vector_at vector_exact (λ x. (tt, refl)) (λ x. refl) is_init)
-    (λ f. tag_is proposal_kind _ _ _ n 7 (made_of _ proposals.ContextExtensions (list extension) _ (list_at extension_at) extensions_exact (λ x. (tt, refl)) (λ x. refl) is_extensions)
+    (λ n. tag_is proposal_kind _ _ _ n 1 (made_of _ proposals.Add key_package _ key_package_at key_package_exact (λ x. (tt, refl)) (λ x. refl) is_add_by_kind)
+    (λ a. tag_is proposal_kind _ _ _ n 2 (made_of _ proposals.Update leaf _ leaf_node_at leaf_exact (λ x. (tt, refl)) (λ x. refl) is_update_by_kind)
+    (λ b. tag_is proposal_kind _ _ _ n 3 (made_of _ proposals.Remove (number w32) _ (number_at w32) (number_exact w32 wide32) (λ x. (tt, refl)) (λ x. refl) is_remove_by_kind)
+    (λ c. tag_is proposal_kind _ _ _ n 4 (made_of _ proposals.PreSharedKey psk_id _ psk_id_at psk_id_exact (λ x. (tt, refl)) (λ x. refl) is_psk_by_kind)
+    (λ d. tag_is proposal_kind _ _ _ n 5 (made_of _ proposals.ReInit reinit _ reinit_at reinit_exact (λ x. (tt, refl)) (λ x. refl) is_reinit_by_kind)
+    (λ e. tag_is proposal_kind _ _ _ n 6 (made_of _ proposals.ExternalInit vector _ vector_at vector_exact (λ x. (tt, refl)) (λ x. refl) is_external_init_by_kind)
+    (λ f. tag_is proposal_kind _ _ _ n 7 (made_of _ proposals.ContextExtensions (list extension) _ (list_at extension_at) extensions_exact (λ x. (tt, refl)) (λ x. refl) is_extensions_by_kind)
     (λ g. never _ _ (no_proposal n a b c d e f g))))))))))
 
 pub proposal_long : IsLong proposal
@@ -185,13 +185,13 @@ unfolding proposal_or_ref
 entry_parts (entries.Proposal p) = refl
 entry_parts (entries.Reference r) = refl
 
-is_proposal : (e : ProposalOrRef) → Unit {0} × (entry_kind e ≡ 1) → (x : Proposal) × (entries.Proposal x ≡ e)
-is_proposal (entries.Proposal x) p = (x, refl)
-is_proposal (entries.Reference x) p = absurd (omega arith)
+is_by_value_by_kind : (e : ProposalOrRef) → Unit {0} × (entry_kind e ≡ 1) → (x : Proposal) × (entries.Proposal x ≡ e)
+is_by_value_by_kind (entries.Proposal x) p = (x, refl)
+is_by_value_by_kind (entries.Reference x) p = absurd (omega arith)
 
-is_reference : (e : ProposalOrRef) → Unit {0} × (entry_kind e ≡ 2) → (x : List ℕ) × (entries.Reference x ≡ e)
-is_reference (entries.Proposal x) p = absurd (omega arith)
-is_reference (entries.Reference x) p = (x, refl)
+is_by_reference_by_kind : (e : ProposalOrRef) → Unit {0} × (entry_kind e ≡ 2) → (x : List ℕ) × (entries.Reference x ≡ e)
+is_by_reference_by_kind (entries.Proposal x) p = absurd (omega arith)
+is_by_reference_by_kind (entries.Reference x) p = (x, refl)
 
 no_entry : (n : ℕ) → n ≢ 1 → n ≢ 2 → (e : ProposalOrRef) → Unit {0} × (entry_kind e ≡ n) → ⊥
 no_entry n x y (entries.Proposal _) p = x (sym p.1)
@@ -201,8 +201,8 @@ pub proposal_or_ref_exact : IsExact proposal_or_ref proposal_or_ref_at
 unfolding proposal_or_ref_at
 proposal_or_ref_exact = encoded_as Any proposal_or_ref _ proposal_or_ref_at entry_parts
     (field_then Any entry_kind (number w8) entry_body (number_at w8) _ (number_exact w8 wide8)
-    (λ n. tag_is entry_kind _ _ _ n 1 (made_of _ entries.Proposal proposal _ proposal_at proposal_exact (λ x. (tt, refl)) (λ x. refl) is_proposal)
-    (λ x. tag_is entry_kind _ _ _ n 2 (made_of _ entries.Reference vector _ vector_at vector_exact (λ x. (tt, refl)) (λ x. refl) is_reference)
+    (λ n. tag_is entry_kind _ _ _ n 1 (made_of _ entries.Proposal proposal _ proposal_at proposal_exact (λ x. (tt, refl)) (λ x. refl) is_by_value_by_kind)
+    (λ x. tag_is entry_kind _ _ _ n 2 (made_of _ entries.Reference vector _ vector_at vector_exact (λ x. (tt, refl)) (λ x. refl) is_by_reference_by_kind)
     (λ y. never _ _ (no_entry n x y)))))
 
 pub proposal_or_ref_long : IsLong proposal_or_ref

@@ -37,20 +37,20 @@ usage_parts Application = refl
 usage_parts ReInit = refl
 usage_parts Branch = refl
 
-is_application : (u : PskUsage) → Unit {0} × (usage_kind u ≡ 1) → Application ≡ u
-is_application Application p = refl
-is_application ReInit p = absurd (omega arith)
-is_application Branch p = absurd (omega arith)
+is_application_usage_by_kind : (u : PskUsage) → Unit {0} × (usage_kind u ≡ 1) → Application ≡ u
+is_application_usage_by_kind Application p = refl
+is_application_usage_by_kind ReInit p = absurd (omega arith)
+is_application_usage_by_kind Branch p = absurd (omega arith)
 
-is_reinit : (u : PskUsage) → Unit {0} × (usage_kind u ≡ 2) → ReInit ≡ u
-is_reinit Application p = absurd (omega arith)
-is_reinit ReInit p = refl
-is_reinit Branch p = absurd (omega arith)
+is_reinit_usage_by_kind : (u : PskUsage) → Unit {0} × (usage_kind u ≡ 2) → ReInit ≡ u
+is_reinit_usage_by_kind Application p = absurd (omega arith)
+is_reinit_usage_by_kind ReInit p = refl
+is_reinit_usage_by_kind Branch p = absurd (omega arith)
 
-is_branch : (u : PskUsage) → Unit {0} × (usage_kind u ≡ 3) → Branch ≡ u
-is_branch Application p = absurd (omega arith)
-is_branch ReInit p = absurd (omega arith)
-is_branch Branch p = refl
+is_branch_usage_by_kind : (u : PskUsage) → Unit {0} × (usage_kind u ≡ 3) → Branch ≡ u
+is_branch_usage_by_kind Application p = absurd (omega arith)
+is_branch_usage_by_kind ReInit p = absurd (omega arith)
+is_branch_usage_by_kind Branch p = refl
 
 no_usage : (n : ℕ) → n ≢ 1 → n ≢ 2 → n ≢ 3 → (u : PskUsage) → Unit {0} × (usage_kind u ≡ n) → ⊥
 no_usage n x y z Application p = x (sym p.1)
@@ -61,9 +61,9 @@ pub psk_usage_exact : IsExact psk_usage psk_usage_at
 unfolding psk_usage_at
 psk_usage_exact = encoded_as Any psk_usage _ psk_usage_at usage_parts
     (field_then Any usage_kind (number w8) usage_body (number_at w8) _ (number_exact w8 wide8)
-    (λ n. tag_is usage_kind _ _ _ n 1 (known _ _ Application (tt, refl) refl is_application)
-    (λ x. tag_is usage_kind _ _ _ n 2 (known _ _ ReInit (tt, refl) refl is_reinit)
-    (λ y. tag_is usage_kind _ _ _ n 3 (known _ _ Branch (tt, refl) refl is_branch)
+    (λ n. tag_is usage_kind _ _ _ n 1 (known _ _ Application (tt, refl) refl is_application_usage_by_kind)
+    (λ x. tag_is usage_kind _ _ _ n 2 (known _ _ ReInit (tt, refl) refl is_reinit_usage_by_kind)
+    (λ y. tag_is usage_kind _ _ _ n 3 (known _ _ Branch (tt, refl) refl is_branch_usage_by_kind)
     (λ z. never _ _ (no_usage n x y z))))))
 
 pub psk_usage_long : IsLong psk_usage
@@ -89,9 +89,9 @@ unfolding psk_kind
 psk_parts (External id) = refl
 psk_parts (Resumption usage group_id epoch) = refl
 
-is_external : (p : PskKind) → Unit {0} × (psk_type p ≡ 1) → (x : List ℕ) × (External x ≡ p)
-is_external (External x) p = (x, refl)
-is_external (Resumption u g e) p = absurd (omega arith)
+is_external_psk_by_kind : (p : PskKind) → Unit {0} × (psk_type p ≡ 1) → (x : List ℕ) × (External x ≡ p)
+is_external_psk_by_kind (External x) p = (x, refl)
+is_external_psk_by_kind (Resumption u g e) p = absurd (omega arith)
 
 -- The fields of a resumption PSK. For another kind, any values.
 abbrev usage_of : PskKind → PskUsage
@@ -106,13 +106,13 @@ abbrev epoch_of : PskKind → ℕ
 epoch_of (External id) = 0
 epoch_of (Resumption usage group_id epoch) = epoch
 
-is_resumption : (p : PskKind) → Unit {0} × (psk_type p ≡ 2) → Resumption (usage_of p) (group_of p) (epoch_of p) ≡ p
-is_resumption (External x) p = absurd (omega arith)
-is_resumption (Resumption u g e) p = refl
+is_resumption_psk_by_kind : (p : PskKind) → Unit {0} × (psk_type p ≡ 2) → Resumption (usage_of p) (group_of p) (epoch_of p) ≡ p
+is_resumption_psk_by_kind (External x) p = absurd (omega arith)
+is_resumption_psk_by_kind (Resumption u g e) p = refl
 
 -- A resumption PSK is made of its fields.
 made : (u : PskUsage) (g : List ℕ) (p : PskKind) → ((Unit {0} × (psk_type p ≡ 2)) × (usage_of p ≡ u)) × (group_of p ≡ g) → (e : ℕ) × (Resumption u g e ≡ p)
-made u g p h = (epoch_of p, rw (← h.0.1, ← h.1) (is_resumption p h.0.0))
+made u g p h = (epoch_of p, rw (← h.0.1, ← h.1) (is_resumption_psk_by_kind p h.0.0))
 
 -- What follows its type.
 resumption_parts : (p : PskKind) → Unit {0} × (psk_type p ≡ 2) → psk_usage (usage_of p) ⊕ (vector (group_of p) ⊕ number w64 (epoch_of p)) ≡ psk_body p
@@ -143,7 +143,7 @@ pub psk_kind_exact : IsExact psk_kind psk_kind_at
 unfolding psk_kind_at
 psk_kind_exact = encoded_as Any psk_kind _ psk_kind_at psk_parts
     (field_then Any psk_type (number w8) psk_body (number_at w8) _ (number_exact w8 wide8)
-    (λ n. tag_is psk_type _ _ _ n 1 (made_of _ External vector _ vector_at vector_exact (λ x. (tt, refl)) (λ x. refl) is_external)
+    (λ n. tag_is psk_type _ _ _ n 1 (made_of _ External vector _ vector_at vector_exact (λ x. (tt, refl)) (λ x. refl) is_external_psk_by_kind)
     (λ x. tag_is psk_type _ _ _ n 2 resumption_exact
     (λ y. never _ _ (no_kind n x y)))))
 

@@ -243,7 +243,7 @@ impl Decode for Authenticated {
 
 impl Authenticated {
     /// Returns the encoded length of a FramedContent and its authentication.
-    #[tactic(auto, using(mls_nodes::specs::TagSizes::sizes), unfolding(crate::specs::Authenticated::signed_frame, crate::specs::Authenticated::frame_auth))]
+    #[tactic(auto, using(mls_nodes::specs::TagSizes::tag_sizes), unfolding(crate::specs::Authenticated::signed_frame, crate::specs::Authenticated::frame_auth))]
     pub(crate) fn size_of_signed_frame(&self) -> Option<usize>
         ensures { result ≡ size (signed_frame self.now) }
     {
@@ -270,7 +270,7 @@ impl Authenticated {
 }
 
 impl Encode for Authenticated {
-    #[tactic(auto, using(mls_nodes::specs::TagSizes::sizes, crate::proofs::PartLemmas::frame_format_fits), unfolding(crate::specs::Authenticated::authenticated_content))]
+    #[tactic(auto, using(mls_nodes::specs::TagSizes::tag_sizes, crate::proofs::PartLemmas::frame_format_fits), unfolding(crate::specs::Authenticated::authenticated_content))]
     fn size(&self) -> Option<usize> {
         add_sizes(self.wire_format().size(), self.size_of_signed_frame())
     }

@@ -77,7 +77,7 @@ impl Decode for Ciphertext {
 }
 
 impl Encode for Ciphertext {
-    #[tactic(auto, using(mls_nodes::specs::TagSizes::sizes), unfolding(crate::specs::Layout::ciphertext))]
+    #[tactic(auto, using(mls_nodes::specs::TagSizes::tag_sizes), unfolding(crate::specs::Layout::ciphertext))]
     fn size(&self) -> Option<usize> {
         add_sizes(self.kem_output.size(), self.ciphertext.size())
     }
@@ -116,7 +116,7 @@ impl Decode for PathNode {
 }
 
 impl Encode for PathNode {
-    #[tactic(auto, using(mls_nodes::specs::TagSizes::sizes), unfolding(crate::specs::Layout::path_node))]
+    #[tactic(auto, using(mls_nodes::specs::TagSizes::tag_sizes), unfolding(crate::specs::Layout::path_node))]
     fn size(&self) -> Option<usize> {
         add_sizes(self.encryption_key.size(), self.ciphertexts.size())
     }
@@ -152,7 +152,7 @@ impl Decode for UpdatePath {
 }
 
 impl Encode for UpdatePath {
-    #[tactic(auto, using(mls_nodes::specs::TagSizes::sizes), unfolding(crate::specs::Layout::update_path))]
+    #[tactic(auto, using(mls_nodes::specs::TagSizes::tag_sizes), unfolding(crate::specs::Layout::update_path))]
     fn size(&self) -> Option<usize> {
         add_sizes(self.leaf_node.size(), self.nodes.size())
     }
@@ -188,7 +188,7 @@ impl Decode for Commit {
 }
 
 impl Encode for Commit {
-    #[tactic(auto, using(mls_nodes::specs::TagSizes::sizes), unfolding(crate::specs::Layout::commit))]
+    #[tactic(auto, using(mls_nodes::specs::TagSizes::tag_sizes), unfolding(crate::specs::Layout::commit))]
     fn size(&self) -> Option<usize> {
         add_sizes(self.proposals.size(), self.path.size())
     }

@@ -117,7 +117,7 @@ impl Decode for Sender {
 }
 
 impl Encode for Sender {
-    #[tactic(auto, using(mls_nodes::specs::TagSizes::sizes), unfolding(crate::specs::Layout::sender))]
+    #[tactic(auto, using(mls_nodes::specs::TagSizes::tag_sizes), unfolding(crate::specs::Layout::sender))]
     fn size(&self) -> Option<usize> {
         match self {
             Sender::Member(leaf_index) => add_sizes(Some(1), leaf_index.size()),
@@ -171,7 +171,7 @@ impl Decode for Content {
 }
 
 impl Encode for Content {
-    #[tactic(auto, using(mls_nodes::specs::TagSizes::sizes), unfolding(crate::specs::Layout::content))]
+    #[tactic(auto, using(mls_nodes::specs::TagSizes::tag_sizes), unfolding(crate::specs::Layout::content))]
     fn size(&self) -> Option<usize> {
         match self {
             Content::Application(data) => add_sizes(Some(1), data.size()),
@@ -232,7 +232,7 @@ impl Decode for FramedContent {
 }
 
 impl Encode for FramedContent {
-    #[tactic(auto, using(mls_nodes::specs::TagSizes::sizes), unfolding(crate::specs::Layout::framed_content))]
+    #[tactic(auto, using(mls_nodes::specs::TagSizes::tag_sizes), unfolding(crate::specs::Layout::framed_content))]
     fn size(&self) -> Option<usize> {
         add_sizes(
             self.group_id.size(),

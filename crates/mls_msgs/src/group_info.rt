@@ -58,7 +58,7 @@ impl GroupInfo {
     ghost use Rattle.mls_msgs.specs.Tbs.{info_tbs};
 
     /// Returns the encoded length of the GroupInfoTBS.
-    #[tactic(auto, using(mls_nodes::specs::TagSizes::sizes), unfolding(crate::specs::Tbs::info_tbs))]
+    #[tactic(auto, using(mls_nodes::specs::TagSizes::tag_sizes), unfolding(crate::specs::Tbs::info_tbs))]
     pub(crate) fn size_unsigned(&self) -> Option<usize>
         ensures { result ≡ size (info_tbs self.now) }
     {
@@ -84,7 +84,7 @@ impl GroupInfo {
 }
 
 impl Encode for GroupInfo {
-    #[tactic(auto, using(mls_nodes::specs::TagSizes::sizes, crate::proofs::Unsigned::info_signed))]
+    #[tactic(auto, using(mls_nodes::specs::TagSizes::tag_sizes, crate::proofs::Unsigned::info_signed))]
     fn size(&self) -> Option<usize> {
         add_sizes(self.size_unsigned(), self.signature.size())
     }

@@ -62,7 +62,7 @@ impl KeyPackage {
     ghost use Rattle.mls_msgs.specs.Tbs.{package_tbs};
 
     /// Returns the encoded length of the KeyPackageTBS.
-    #[tactic(auto, using(mls_nodes::specs::TagSizes::sizes), unfolding(crate::specs::Tbs::package_tbs))]
+    #[tactic(auto, using(mls_nodes::specs::TagSizes::tag_sizes), unfolding(crate::specs::Tbs::package_tbs))]
     pub(crate) fn size_unsigned(&self) -> Option<usize>
         ensures { result ≡ size (package_tbs self.now) }
     {
@@ -92,7 +92,7 @@ impl KeyPackage {
 }
 
 impl Encode for KeyPackage {
-    #[tactic(auto, using(mls_nodes::specs::TagSizes::sizes, crate::proofs::Unsigned::package_signed))]
+    #[tactic(auto, using(mls_nodes::specs::TagSizes::tag_sizes, crate::proofs::Unsigned::package_signed))]
     fn size(&self) -> Option<usize> {
         add_sizes(self.size_unsigned(), self.signature.size())
     }

@@ -165,7 +165,7 @@ pub fn decode_message(alloc: Global, bytes: &[u8]) -> Result<Message, CodecFault
 }
 
 /// Returns the encoded length of the protocol version and the wire format.
-#[tactic(auto, using(mls_nodes::specs::TagSizes::sizes), unfolding(crate::specs::Message::header))]
+#[tactic(auto, using(mls_nodes::specs::TagSizes::tag_sizes), unfolding(crate::specs::Message::header))]
 fn size_of_header(wire_format: u16) -> Option<usize>
     ensures { result ≡ size (header wire_format) }
 {

@@ -72,7 +72,7 @@ impl Decode for PskUsage {
 }
 
 impl Encode for PskUsage {
-    #[tactic(auto, using(mls_nodes::specs::TagSizes::sizes), unfolding(crate::specs::Layout::psk_usage))]
+    #[tactic(auto, using(mls_nodes::specs::TagSizes::tag_sizes), unfolding(crate::specs::Layout::psk_usage))]
     fn size(&self) -> Option<usize> {
         match self {
             PskUsage::Application | PskUsage::ReInit | PskUsage::Branch => Some(1),
@@ -133,7 +133,7 @@ impl Decode for PskKind {
 }
 
 impl Encode for PskKind {
-    #[tactic(auto, using(mls_nodes::specs::TagSizes::sizes), unfolding(crate::specs::Layout::psk_kind))]
+    #[tactic(auto, using(mls_nodes::specs::TagSizes::tag_sizes), unfolding(crate::specs::Layout::psk_kind))]
     fn size(&self) -> Option<usize> {
         match self {
             PskKind::External(id) => add_sizes(Some(1), id.size()),
@@ -193,7 +193,7 @@ impl Decode for PreSharedKeyId {
 }
 
 impl Encode for PreSharedKeyId {
-    #[tactic(auto, using(mls_nodes::specs::TagSizes::sizes), unfolding(crate::specs::Layout::psk_id))]
+    #[tactic(auto, using(mls_nodes::specs::TagSizes::tag_sizes), unfolding(crate::specs::Layout::psk_id))]
     fn size(&self) -> Option<usize> {
         add_sizes(self.kind.size(), self.nonce.size())
     }

@@ -81,7 +81,7 @@ impl Decode for Proposal {
 }
 
 impl Encode for Proposal {
-    #[tactic(auto, using(mls_nodes::specs::TagSizes::sizes), unfolding(crate::specs::Layout::proposal))]
+    #[tactic(auto, using(mls_nodes::specs::TagSizes::tag_sizes), unfolding(crate::specs::Layout::proposal))]
     fn size(&self) -> Option<usize> {
         match self {
             Proposal::Add(key_package) => add_sizes(Some(2), key_package.size()),
@@ -156,7 +156,7 @@ impl Decode for ProposalOrRef {
 }
 
 impl Encode for ProposalOrRef {
-    #[tactic(auto, using(mls_nodes::specs::TagSizes::sizes), unfolding(crate::specs::Layout::proposal_or_ref))]
+    #[tactic(auto, using(mls_nodes::specs::TagSizes::tag_sizes), unfolding(crate::specs::Layout::proposal_or_ref))]
     fn size(&self) -> Option<usize> {
         match self {
             ProposalOrRef::Proposal(proposal) => add_sizes(Some(1), proposal.size()),

@@ -98,7 +98,7 @@ impl Decode for PublicMessage {
 }
 
 impl Encode for PublicMessage {
-    #[tactic(auto, using(mls_nodes::specs::TagSizes::sizes), unfolding(crate::specs::PublicMessage::public_message, crate::specs::PublicMessage::public_frame))]
+    #[tactic(auto, using(mls_nodes::specs::TagSizes::tag_sizes), unfolding(crate::specs::PublicMessage::public_message, crate::specs::PublicMessage::public_frame))]
     fn size(&self) -> Option<usize> {
         let tag = size_of_tag(&self.parts.membership_tag);
         add_sizes(self.parts.auth.size_of_signed_frame(), tag)

@@ -49,7 +49,7 @@ impl Decode for ReInit {
 }
 
 impl Encode for ReInit {
-    #[tactic(auto, using(mls_nodes::specs::TagSizes::sizes), unfolding(crate::specs::Layout::reinit))]
+    #[tactic(auto, using(mls_nodes::specs::TagSizes::tag_sizes), unfolding(crate::specs::Layout::reinit))]
     fn size(&self) -> Option<usize> {
         add_sizes(
             self.group_id.size(),

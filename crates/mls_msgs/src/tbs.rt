@@ -55,7 +55,7 @@ fn put_context(
 }
 
 /// Returns the encoded length of a FramedContentTBS.
-#[tactic(auto, using(mls_nodes::specs::TagSizes::sizes), unfolding(crate::specs::Tbs::content_tbs))]
+#[tactic(auto, using(mls_nodes::specs::TagSizes::tag_sizes), unfolding(crate::specs::Tbs::content_tbs))]
 fn size_of_content_tbs(auth: &Authenticated, context: Option<&GroupContext>) -> Option<usize>
     ensures { result ≡ size (content_tbs auth.now (option_map (λ c. c.now) context.entry)) }
 {
@@ -82,7 +82,7 @@ fn put_content_tbs(
 }
 
 /// Returns the encoded length of a ConfirmedTranscriptHashInput.
-#[tactic(auto, using(mls_nodes::specs::TagSizes::sizes), unfolding(crate::specs::Tbs::confirmed_input))]
+#[tactic(auto, using(mls_nodes::specs::TagSizes::tag_sizes), unfolding(crate::specs::Tbs::confirmed_input))]
 fn size_of_confirmed_input(auth: &Authenticated) -> Option<usize>
     ensures { result ≡ size (confirmed_input auth.now) }
 {

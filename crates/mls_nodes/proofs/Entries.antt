@@ -14,14 +14,14 @@ use Rattle.mls_wire.specs.VectorsExact.{body_takes, body_again}
 use Rattle.mls_nodes.specs.NodesExact.{node_exact}
 use Rattle.mls_nodes.specs.NodeModel.{NodeValue, leaf_node, parent_node, entry_value}
 use Rattle.mls_nodes.specs.Layout.{node}
-use Rattle.mls_nodes.specs.RatchetTreeEncoding.{fits_at, fit_from, has_valid_layout, ends_set, ratchet_tree}
+use Rattle.mls_nodes.specs.RatchetTreeEncoding.{fits_at, fit_from, has_valid_layout, ends_non_blank, ratchet_tree}
 use Rattle.std.specs.Prelude.{IfOk, IfErr}
 use Rattle.std.proofs.Common.{Vec, Global, zero, replicate, ◌*◌}
 use Rattle.std.proofs.lemmas.List.{map_push}
 use Rattle.mls_wire.specs.ReadContracts.{seen}
 use Rattle.mls_nodes.specs.RatchetTreeEncoding.{full_from, full_size, filled}
 use Rattle.mls_nodes.specs.FilledTree.{full_from-doubles}
-use Rattle.mls_nodes.specs.Parsing.{node_at, node_in, leaf_at, parent_at, well_laid_out, tree_at, FindsNodes, GivesNode}
+use Rattle.mls_nodes.specs.Parsing.{node_model_at, node_in, leaf_node_at, parent_node_at, well_laid_out, tree_at, FindsNodes, GivesNode}
 use Rattle.mls_nodes.specs.RatchetTreeContracts.{DecodesTree}
 use Rattle.mls_nodes.specs.declared.leaf.LeafNode.{LeafNode}
 use Rattle.mls_nodes.specs.declared.parent.ParentNode.{ParentNode}
@@ -52,8 +52,8 @@ wrong_node_index xs x (Some more) total h e =
     let same : (xs ++ x ∷ []) ++ more ≡ xs ++ x ∷ more = append_assoc xs (x ∷ []) more in
     ap well_laid_out (sym e) ∙ refused ((xs ++ x ∷ []) ++ more) (ap (fit_from 0) same ∙ bad)
 
-pub entry_short : Shortens (optional_at node_at)
-entry_short = shortens (optional node) (optional_at node_at) (optional_exact node node_at node_exact) (optional_long node)
+pub entry_short : Shortens (optional_at node_model_at)
+entry_short = shortens (optional node) (optional_at node_model_at) (optional_exact node node_model_at node_exact) (optional_long node)
 
 crowded : (ns : List (Option NodeValue)) → 2097151 < length ns → well_laid_out (Some ns) ≡ None
 crowded ns lt = rw (and_right (fit_from 0 ns) _ (lt-leb (length ns) 2097151 lt)) refl
@@ -61,13 +61,13 @@ crowded ns lt = rw (and_right (fit_from 0 ns) _ (lt-leb (length ns) 2097151 lt))
 pub too_many : (xs ys : List (Option NodeValue)) (total : Option (List (Option NodeValue))) → 2097151 ≤ length xs → 0 < length ys → with_front xs (Some ys) ≡ total → well_laid_out total ≡ None
 too_many xs ys total le some e = ap well_laid_out (sym e) ∙ crowded (xs ++ ys) (omega (arith, length-append xs ys))
 
-too_many_of : (i : Input) (xs : List (Option NodeValue)) (o total : Option (List (Option NodeValue))) → items_at (optional_at node_at) (length i.left) i ≡ o → 2097151 ≤ length xs → (i.left ≡ [] → ⊥) → with_front xs o ≡ total → well_laid_out total ≡ None
+too_many_of : (i : Input) (xs : List (Option NodeValue)) (o total : Option (List (Option NodeValue))) → items_at (optional_at node_model_at) (length i.left) i ≡ o → 2097151 ≤ length xs → (i.left ≡ [] → ⊥) → with_front xs o ≡ total → well_laid_out total ≡ None
 too_many_of i xs None total r le some e = ap well_laid_out (sym e)
-too_many_of i xs (Some ys) total r le some e = too_many xs ys total le (items_some (optional node) (optional_at node_at) (optional_exact node node_at node_exact) i ys some r) e
+too_many_of i xs (Some ys) total r le some e = too_many xs ys total le (items_some (optional node) (optional_at node_model_at) (optional_exact node node_model_at node_exact) i ys some r) e
 
 pub too_many_entries : (i : Input) (xs : List (Option NodeValue)) (total : Option (List (Option NodeValue))) → 2097151 ≤ length xs → (i.left ≡ [] → ⊥)
-    → with_front xs (items_at (optional_at node_at) (length i.left) i) ≡ total → well_laid_out total ≡ None
-too_many_entries i xs total le some e = too_many_of i xs (items_at (optional_at node_at) (length i.left) i) total refl le some e
+    → with_front xs (items_at (optional_at node_model_at) (length i.left) i) ≡ total → well_laid_out total ≡ None
+too_many_entries i xs total le some e = too_many_of i xs (items_at (optional_at node_model_at) (length i.left) i) total refl le some e
 
 pub stand_more : (xs : List (Option NodeValue)) (x : Option NodeValue) → fit_from 0 xs ≡ true → fits_at (length xs) x ≡ true → fit_from 0 (xs ++ x ∷ []) ≡ true
 stand_more xs x p q =
@@ -106,13 +106,13 @@ checked node_index k false true p q l (Some x) = refl
 checked node_index k false false p q l o = refl
 
 checked_of : (node_index : ℕ) (o : Option (ℕ × Input))
-    → (o >>= λ kind. cond (eqb kind.0 1 && eqb (node_index % 2) 0) (leaf_at kind.1 >>= λ x. Some (leaf_node x.0, x.1)) (cond (eqb kind.0 2 && eqb (node_index % 2) 1) (parent_at kind.1 >>= λ x. Some (parent_node x.0, x.1)) None))
-    ≡ kept node_index (o >>= λ kind. cond (eqb kind.0 1) (leaf_at kind.1 >>= λ x. Some (leaf_node x.0, x.1)) (cond (eqb kind.0 2) (parent_at kind.1 >>= λ x. Some (parent_node x.0, x.1)) None))
+    → (o >>= λ kind. cond (eqb kind.0 1 && eqb (node_index % 2) 0) (leaf_node_at kind.1 >>= λ x. Some (leaf_node x.0, x.1)) (cond (eqb kind.0 2 && eqb (node_index % 2) 1) (parent_node_at kind.1 >>= λ x. Some (parent_node x.0, x.1)) None))
+    ≡ kept node_index (o >>= λ kind. cond (eqb kind.0 1) (leaf_node_at kind.1 >>= λ x. Some (leaf_node x.0, x.1)) (cond (eqb kind.0 2) (parent_node_at kind.1 >>= λ x. Some (parent_node x.0, x.1)) None))
 checked_of node_index None = refl
-checked_of node_index (Some kind) = checked node_index kind.0 (eqb kind.0 1) (eqb kind.0 2) refl refl (leaf_at kind.1) (parent_at kind.1)
+checked_of node_index (Some kind) = checked node_index kind.0 (eqb kind.0 1) (eqb kind.0 2) refl refl (leaf_node_at kind.1) (parent_node_at kind.1)
 
-node_in-kept : (node_index : ℕ) (i : Input) → node_in node_index i ≡ kept node_index (node_at i)
-unfolding node_in node_at
+node_in-kept : (node_index : ℕ) (i : Input) → node_in node_index i ≡ kept node_index (node_model_at i)
+unfolding node_in node_model_at
 node_in-kept node_index i = checked_of node_index (number_at w8 i)
 
 abbrev set : Option (NodeValue × Input) → Option (Option NodeValue × Input)
@@ -126,17 +126,17 @@ set_kept : (node_index : ℕ) (o : Option (NodeValue × Input)) → set (kept no
 set_kept node_index None = refl
 set_kept node_index (Some n) = set_test (fits_at node_index (Some n.0)) n
 
-there_kept : (node_index : ℕ) (b : Bool) (i : Input) → cond b (set (node_in node_index i)) (Some (None, i)) ≡ entry_kept node_index (cond b (set (node_at i)) (Some (None, i)))
-there_kept node_index true i = ap set (node_in-kept node_index i) ∙ set_kept node_index (node_at i)
+there_kept : (node_index : ℕ) (b : Bool) (i : Input) → cond b (set (node_in node_index i)) (Some (None, i)) ≡ entry_kept node_index (cond b (set (node_model_at i)) (Some (None, i)))
+there_kept node_index true i = ap set (node_in-kept node_index i) ∙ set_kept node_index (node_model_at i)
 there_kept node_index false i = refl
 
 entry_of : (node_index : ℕ) (o : Option (Bool × Input))
     → (o >>= λ there. cond there.0 (set (node_in node_index there.1)) (Some (None, there.1)))
-    ≡ entry_kept node_index (o >>= λ there. cond there.0 (set (node_at there.1)) (Some (None, there.1)))
+    ≡ entry_kept node_index (o >>= λ there. cond there.0 (set (node_model_at there.1)) (Some (None, there.1)))
 entry_of node_index None = refl
 entry_of node_index (Some there) = there_kept node_index there.0 there.1
 
-entry_in-kept : (node_index : ℕ) (i : Input) → optional_at (node_in node_index) i ≡ entry_kept node_index (optional_at node_at i)
+entry_in-kept : (node_index : ℕ) (i : Input) → optional_at (node_in node_index) i ≡ entry_kept node_index (optional_at node_model_at i)
 unfolding optional_at
 entry_in-kept node_index i = entry_of node_index (flag_at i)
 
@@ -147,26 +147,26 @@ kept_is node_index (Some y) x j e =
     (a.1, subst (λ (z : Option NodeValue × Input). fits_at node_index z.0 ≡ true) (some_is y (x, j) a.1) a.0)
 
 -- an entry that was read is one, and may stand at its place
-pub entry_found : (node_index : ℕ) (i : Input) (x : Option NodeValue) (j : Input) → optional_at (node_in node_index) i ≡ Some (x, j) → (optional_at node_at i ≡ Some (x, j)) × (fits_at node_index x ≡ true)
-entry_found node_index i x j e = kept_is node_index (optional_at node_at i) x j (sym (entry_in-kept node_index i) ∙ e)
+pub entry_found : (node_index : ℕ) (i : Input) (x : Option NodeValue) (j : Input) → optional_at (node_in node_index) i ≡ Some (x, j) → (optional_at node_model_at i ≡ Some (x, j)) × (fits_at node_index x ≡ true)
+entry_found node_index i x j e = kept_is node_index (optional_at node_model_at i) x j (sym (entry_in-kept node_index i) ∙ e)
 
 refused_test : {A : Type 0} (b : Bool) (x : A) → cond b (Some x) None ≡ None → b ≡ false
 refused_test true x e = absurd cc
 refused_test false x e = refl
 
-entry_lost : (xs : List (Option NodeValue)) (i : Input) (o : Option (Option NodeValue × Input)) (total : Option (List (Option NodeValue))) → (i.left ≡ [] → ⊥) → optional_at node_at i ≡ o → entry_kept (length xs) o ≡ None
-    → with_front xs (items_at (optional_at node_at) (length i.left) i) ≡ total → well_laid_out total ≡ None
-entry_lost xs i None total some read none e = ap well_laid_out (items_stop (optional_at node_at) entry_short xs i total some read e)
+entry_lost : (xs : List (Option NodeValue)) (i : Input) (o : Option (Option NodeValue × Input)) (total : Option (List (Option NodeValue))) → (i.left ≡ [] → ⊥) → optional_at node_model_at i ≡ o → entry_kept (length xs) o ≡ None
+    → with_front xs (items_at (optional_at node_model_at) (length i.left) i) ≡ total → well_laid_out total ≡ None
+entry_lost xs i None total some read none e = ap well_laid_out (items_stop (optional_at node_model_at) entry_short xs i total some read e)
 entry_lost xs i (Some y) total some read none e =
-    wrong_node_index xs y.0 _ total (refused_test (fits_at (length xs) y.0) y none) (items_go_on (optional_at node_at) entry_short xs i y.0 y.1 total some read e)
+    wrong_node_index xs y.0 _ total (refused_test (fits_at (length xs) y.0) y none) (items_go_on (optional_at node_model_at) entry_short xs i y.0 y.1 total some read e)
 
 -- where no entry was read there is no tree
 pub entry_refused : (i : Input) (xs : List (Option NodeValue)) (total : Option (List (Option NodeValue))) → (i.left ≡ [] → ⊥) → optional_at (node_in (length xs)) i ≡ None
-    → with_front xs (items_at (optional_at node_at) (length i.left) i) ≡ total → well_laid_out total ≡ None
-entry_refused i xs total some none e = entry_lost xs i (optional_at node_at i) total some refl (sym (entry_in-kept (length xs) i) ∙ none) e
+    → with_front xs (items_at (optional_at node_model_at) (length i.left) i) ≡ total → well_laid_out total ≡ None
+entry_refused i xs total some none e = entry_lost xs i (optional_at node_model_at i) total some refl (sym (entry_in-kept (length xs) i) ∙ none) e
 
 pub entry_fault : (e : NodeFault) (node_index : ℕ) (i new : Input) (xs : List (Option NodeValue)) (total : Option (List (Option NodeValue))) → (i.left ≡ [] → ⊥) → node_index ≡ length xs
-    → GivesNode (optional_at (node_in node_index)) i new (Err e) → with_front xs (items_at (optional_at node_at) (length i.left) i) ≡ total → FindsNodes {A = List (Option NodeValue)} (well_laid_out total) (Err e)
+    → GivesNode (optional_at (node_in node_index)) i new (Err e) → with_front xs (items_at (optional_at node_model_at) (length i.left) i) ≡ total → FindsNodes {A = List (Option NodeValue)} (well_laid_out total) (Err e)
 entry_fault nodes.OutOfMemory node_index i new xs total some p h e = tt
 entry_fault (nodes.Wire f) node_index i new xs total some p h e = entry_refused i xs total some (subst (λ (n : ℕ). optional_at (node_in n) i ≡ None) p h) e
 entry_fault (nodes.WrongNodeKind f) node_index i new xs total some p h e = entry_refused i xs total some (subst (λ (n : ℕ). optional_at (node_in n) i ≡ None) p h) e
@@ -183,18 +183,18 @@ well_laid_out_is (Some xs) ns e =
     let same = some_is xs ns a.1 in
     (ap (λ (x : List (Option NodeValue)). Some x) same, subst (λ (x : List (Option NodeValue)). (fit_from 0 x && nat_le (length x) 2097151) ≡ true) same a.0)
 
-entries_exact : IsExact (optional node) (optional_at node_at)
-entries_exact = optional_exact node node_at node_exact
+entries_exact : IsExact (optional node) (optional_at node_model_at)
+entries_exact = optional_exact node node_model_at node_exact
 
 pub tree_takes : (bytes : List ℕ) (ns : List (Option NodeValue)) → tree_at bytes ≡ Some ns → ratchet_tree ns ≡ Some bytes
 unfolding tree_at ratchet_tree list
 tree_takes bytes ns e =
-    let f = optional_at node_at in
-    let a = bind_some (body_at (at 0 bytes)) (λ body. well_laid_out (items_at f (length body.0.left) body.0) >>= λ xs. cond (ends_set xs) (cond (eqb (length body.1.left) 0) (Some xs) None) None) ns e in
+    let f = optional_at node_model_at in
+    let a = bind_some (body_at (at 0 bytes)) (λ body. well_laid_out (items_at f (length body.0.left) body.0) >>= λ xs. cond (ends_non_blank xs) (cond (eqb (length body.1.left) 0) (Some xs) None) None) ns e in
     let body = a.0.0 in
     let rest = a.0.1 in
-    let b = bind_some (well_laid_out (items_at f (length body.left) body)) (λ xs. cond (ends_set xs) (cond (eqb (length rest.left) 0) (Some xs) None) None) ns a.2 in
-    let c = allowed (ends_set b.0) (cond (eqb (length rest.left) 0) (Some b.0) None) ns b.2 in
+    let b = bind_some (well_laid_out (items_at f (length body.left) body)) (λ xs. cond (ends_non_blank xs) (cond (eqb (length rest.left) 0) (Some xs) None) None) ns a.2 in
+    let c = allowed (ends_non_blank b.0) (cond (eqb (length rest.left) 0) (Some b.0) None) ns b.2 in
     let d = allowed (eqb (length rest.left) 0) (Some b.0) ns c.1 in
     let p = well_laid_out_is _ b.0 b.1 in
     let t = (body_takes (at 0 bytes) body rest a.1).0 in
@@ -202,14 +202,14 @@ tree_takes bytes ns e =
     let all : bytes ≡ t.0 = t.2 ∙ ap (λ (r : List ℕ). t.0 ++ r) none ∙ append-nil t.0 in
     let text : items (optional node) b.0 ≡ Some body.left = items_take (optional node) f entries_exact (length body.left) body b.0 p.0 in
     let whole : sized (items (optional node) b.0) ≡ Some bytes = sized_of _ body.left text ∙ t.1 ∙ ap (λ (r : List ℕ). Some r) (sym all) in
-    subst (λ (x : List (Option NodeValue)). cond (has_valid_layout x && ends_set x) (sized (items (optional node) x)) None ≡ Some bytes) (some_is b.0 ns d.1) (rw (p.1, c.0) whole)
+    subst (λ (x : List (Option NodeValue)). cond (has_valid_layout x && ends_non_blank x) (sized (items (optional node) x)) None ≡ Some bytes) (some_is b.0 ns d.1) (rw (p.1, c.0) whole)
 
 pub tree_again : (bytes : List ℕ) (ns : List (Option NodeValue)) → ratchet_tree ns ≡ Some bytes → tree_at bytes ≡ Some ns
 unfolding tree_at ratchet_tree list
 tree_again bytes ns e =
-    let f = optional_at node_at in
-    let a = allowed (has_valid_layout ns && ends_set ns) (sized (items (optional node) ns)) bytes e in
-    let p = and_parts (fit_from 0 ns && nat_le (length ns) 2097151) (ends_set ns) a.0 in
+    let f = optional_at node_model_at in
+    let a = allowed (has_valid_layout ns && ends_non_blank ns) (sized (items (optional node) ns)) bytes e in
+    let p = and_parts (fit_from 0 ns && nat_le (length ns) 2097151) (ends_non_blank ns) a.0 in
     let b = sized_parts (items (optional node) ns) bytes a.1 in
     let c = body_again b.0 bytes [] 0 b.2 in
     let read : body_at (at 0 bytes) ≡ Some (at c.0 b.0, at (0 + length bytes) []) = ap (λ (r : List ℕ). body_at (at 0 r)) (sym (append-nil bytes)) ∙ c.1 in
@@ -221,8 +221,8 @@ tree_again bytes ns e =
 pub tree_few : (bytes : List ℕ) (nodes : List (Option NodeValue)) → tree_at bytes ≡ Some nodes → length nodes ≤ 2097151
 unfolding ratchet_tree
 tree_few bytes nodes e =
-    let a = allowed (has_valid_layout nodes && ends_set nodes) (list (optional node) nodes) bytes (tree_takes bytes nodes e) in
-    let b = and_parts (has_valid_layout nodes) (ends_set nodes) a.0 in
+    let a = allowed (has_valid_layout nodes && ends_non_blank nodes) (list (optional node) nodes) bytes (tree_takes bytes nodes e) in
+    let b = and_parts (has_valid_layout nodes) (ends_non_blank nodes) a.0 in
     leb-true (length nodes) 2097151 (and_parts (fit_from 0 nodes) _ b.0).1
 
 pub is_refused : (e : NodeFault) (bytes : List ℕ) → FindsNodes {A = List (Option NodeValue)} (tree_at bytes) (Err e) → DecodesTree bytes (Err e)

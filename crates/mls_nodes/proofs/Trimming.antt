@@ -20,7 +20,7 @@ use Rattle.mls_wire.specs.ListsExact.{list_exact}
 use Rattle.mls_wire.specs.OptionalsExact.{optional_exact, optional_long}
 use Rattle.mls_nodes.specs.FilledTree.{ends_more, trimmed-filled}
 use Rattle.mls_wire.specs.Encoding.{IsUniquelyDecodable}
-use Rattle.mls_nodes.specs.Parsing.{node_at}
+use Rattle.mls_nodes.specs.Parsing.{node_model_at}
 use Rattle.mls_nodes.specs.NodesExact.{node_exact, tested_unambiguous}
 use Rattle.mls_nodes.specs.RatchetTreeWriting.{FitsNodeIndices, WritesTree}
 use Rattle.mls_nodes.proofs.Entries.{both_none, stand_push, stand_more}
@@ -29,22 +29,22 @@ use Rattle.mls_nodes.specs.declared.fault.NodeFault.{NodeFault}
 use Rattle.mls_nodes.specs.declared.fault.NodeFault.TheVariants as nodes
 use Rattle.mls_nodes.specs.NodeModel.{NodeValue, node_value, entry_value}
 use Rattle.mls_nodes.specs.Layout.{node}
-use Rattle.mls_nodes.specs.RatchetTreeEncoding.{fits_at, fit_from, IsFirstMisplaced, ends_set, has_valid_layout, ratchet_tree, before, trimmed, filled}
+use Rattle.mls_nodes.specs.RatchetTreeEncoding.{fits_at, fit_from, IsFirstMisplaced, ends_non_blank, has_valid_layout, ratchet_tree, prepend_trimmed, trimmed, filled}
 
 pub trimmed-blank : (xs : List (Option NodeValue)) → trimmed (xs ++ None ∷ []) ≡ trimmed xs
 trimmed-blank [] = refl
-trimmed-blank (x ∷ xs) = ap (before x) (trimmed-blank xs)
+trimmed-blank (x ∷ xs) = ap (prepend_trimmed x) (trimmed-blank xs)
 
-before_some : (x : Option NodeValue) (xs : List (Option NodeValue)) (n : NodeValue) → before x (xs ++ Some n ∷ []) ≡ x ∷ xs ++ Some n ∷ []
+before_some : (x : Option NodeValue) (xs : List (Option NodeValue)) (n : NodeValue) → prepend_trimmed x (xs ++ Some n ∷ []) ≡ x ∷ xs ++ Some n ∷ []
 before_some (Some m) xs n = refl
 before_some None [] n = refl
 before_some None (y ∷ ys) n = refl
 
 pub trimmed-set : (xs : List (Option NodeValue)) (n : NodeValue) → trimmed (xs ++ Some n ∷ []) ≡ xs ++ Some n ∷ []
 trimmed-set [] n = refl
-trimmed-set (x ∷ xs) n = ap (before x) (trimmed-set xs n) ∙ before_some x xs n
+trimmed-set (x ∷ xs) n = ap (prepend_trimmed x) (trimmed-set xs n) ∙ before_some x xs n
 
-before_ends : (x : Option NodeValue) (ys : List (Option NodeValue)) → (ys ≡ []) ⊎ (ends_set ys ≡ true) → (before x ys ≡ []) ⊎ (ends_set (before x ys) ≡ true)
+before_ends : (x : Option NodeValue) (ys : List (Option NodeValue)) → (ys ≡ []) ⊎ (ends_non_blank ys ≡ true) → (prepend_trimmed x ys ≡ []) ⊎ (ends_non_blank (prepend_trimmed x ys) ≡ true)
 before_ends None [] h = inl refl
 before_ends (Some n) [] h = inr refl
 before_ends None (y ∷ ys) (inl e) = absurd cc
@@ -52,7 +52,7 @@ before_ends (Some n) (y ∷ ys) (inl e) = absurd cc
 before_ends None (y ∷ ys) (inr e) = inr (ends_more None y ys ∙ e)
 before_ends (Some n) (y ∷ ys) (inr e) = inr (ends_more (Some n) y ys ∙ e)
 
-pub trimmed-ends : (xs : List (Option NodeValue)) → (trimmed xs ≡ []) ⊎ (ends_set (trimmed xs) ≡ true)
+pub trimmed-ends : (xs : List (Option NodeValue)) → (trimmed xs ≡ []) ⊎ (ends_non_blank (trimmed xs) ≡ true)
 trimmed-ends [] = inl refl
 trimmed-ends (x ∷ xs) = before_ends x (trimmed xs) (trimmed-ends xs)
 
@@ -84,13 +84,13 @@ no_end es count e = rw e refl
 
 -- one entry more that may stand at its place
 pub stand_next : (es : List (Option Node)) (node_index : ℕ) (x : Option Node) → node_index < length es → x ≡ get_or es node_index x → fit_from 0 (take node_index (map entry_value es)) ≡ true → fits_at node_index (entry_value x) ≡ true → fit_from 0 (take (node_index + 1) (map entry_value es)) ≡ true
-stand_next es node_index x lt is before here =
+stand_next es node_index x lt is prepend_trimmed here =
     let xs = map entry_value es in
     let lt2 : node_index < length xs = omega (arith, length-map es entry_value) in
     let at : entry_value x ≡ get_or xs node_index (entry_value x) = entry_at es node_index x lt is in
     let more : take (node_index + 1) xs ≡ take node_index xs ++ entry_value x ∷ [] = rw (take_more xs node_index (entry_value x) lt2, ← at) refl in
     let len : length (take node_index xs) ≡ node_index = omega (arith, length-take node_index xs) in
-    rw more (stand_more (take node_index xs) (entry_value x) before (ap (λ (n : ℕ). fits_at n (entry_value x)) len ∙ here))
+    rw more (stand_more (take node_index xs) (entry_value x) prepend_trimmed (ap (λ (n : ℕ). fits_at n (entry_value x)) len ∙ here))
 
 -- ---- what was written
 
@@ -137,13 +137,13 @@ not_well_laid_out ns e = rw e refl
 
 not_encoded : (ns : List (Option NodeValue)) → list (optional node) ns ≡ None → ratchet_tree ns ≡ None
 unfolding ratchet_tree
-not_encoded ns e = rw e (both_none (has_valid_layout ns && ends_set ns))
+not_encoded ns e = rw e (both_none (has_valid_layout ns && ends_non_blank ns))
 
 no_tree : ratchet_tree [] ≡ None
 unfolding ratchet_tree
 no_tree = refl
 
-is_tree : (ns : List (Option NodeValue)) (bytes : List ℕ) → has_valid_layout ns ≡ true → ends_set ns ≡ true → list (optional node) ns ≡ Some bytes → ratchet_tree ns ≡ Some bytes
+is_tree : (ns : List (Option NodeValue)) (bytes : List ℕ) → has_valid_layout ns ≡ true → ends_non_blank ns ≡ true → list (optional node) ns ≡ Some bytes → ratchet_tree ns ≡ Some bytes
 unfolding ratchet_tree
 is_tree ns bytes p q e = rw (p, q) e
 
@@ -196,9 +196,9 @@ module _ {A : Type 0} (view : A → List ℕ) where
 
 pub ratchet_tree_unambiguous : IsUniquelyDecodable ratchet_tree
 unfolding ratchet_tree
-ratchet_tree_unambiguous = tested_unambiguous (λ ns. has_valid_layout ns && ends_set ns) (list (optional node))
-    (unambiguous (list (optional node)) (list_at (optional_at node_at)) (list_exact (optional node) (optional_at node_at) (optional_exact node node_at node_exact) (optional_long node)))
+ratchet_tree_unambiguous = tested_unambiguous (λ ns. has_valid_layout ns && ends_non_blank ns) (list (optional node))
+    (unambiguous (list (optional node)) (list_at (optional_at node_model_at)) (list_exact (optional node) (optional_at node_model_at) (optional_exact node node_model_at node_exact) (optional_long node)))
 
 pub tree_again_trimmed : (ns : List (Option NodeValue)) (bytes : List ℕ) → ratchet_tree ns ≡ Some bytes → trimmed (filled ns) ≡ ns
 unfolding ratchet_tree
-tree_again_trimmed ns bytes e = trimmed-filled ns (and_parts (has_valid_layout ns) (ends_set ns) (allowed (has_valid_layout ns && ends_set ns) (list (optional node) ns) bytes e).0).1
+tree_again_trimmed ns bytes e = trimmed-filled ns (and_parts (has_valid_layout ns) (ends_non_blank ns) (allowed (has_valid_layout ns && ends_non_blank ns) (list (optional node) ns) bytes e).0).1

@@ -7,7 +7,7 @@ use Rattle.std.proofs.lemmas.List.Elements.{All-replicate}
 use Rattle.std.proofs.Math.Nat.{pow-suc}
 use Rattle.std.proofs.Math.Pow.{pow_mono}
 use Rattle.mls_nodes.specs.NodeModel.{NodeValue}
-use Rattle.mls_nodes.specs.RatchetTreeEncoding.{full_from, full_size, filled, is_set, ends_set, before, trimmed}
+use Rattle.mls_nodes.specs.RatchetTreeEncoding.{full_from, full_size, filled, is_non_blank, ends_non_blank, prepend_trimmed, trimmed}
 
 -- A size with capacity is taken.
 pub full_from-stops : (steps size count : ℕ) → count ≤ size → full_from steps size count ≡ size
@@ -103,30 +103,30 @@ filled-back nodes =
 -- Trimming blank nodes leaves nothing.
 trimmed-blanks : (n : ℕ) → trimmed (replicate n None) ≡ []
 trimmed-blanks zero = refl
-trimmed-blanks (suc n) = ap (before None) (trimmed-blanks n)
+trimmed-blanks (suc n) = ap (prepend_trimmed None) (trimmed-blanks n)
 
 trimmed-more : (xs : List (Option NodeValue)) (n : ℕ) → trimmed (xs ++ replicate n None) ≡ trimmed xs
 trimmed-more [] n = trimmed-blanks n
-trimmed-more (x ∷ xs) n = ap (before x) (trimmed-more xs n)
+trimmed-more (x ∷ xs) n = ap (prepend_trimmed x) (trimmed-more xs n)
 
 -- The last entry of a longer list is that of the shorter one.
-pub ends_more : (x y : Option NodeValue) (ys : List (Option NodeValue)) → ends_set (x ∷ y ∷ ys) ≡ ends_set (y ∷ ys)
+pub ends_more : (x y : Option NodeValue) (ys : List (Option NodeValue)) → ends_non_blank (x ∷ y ∷ ys) ≡ ends_non_blank (y ∷ ys)
 ends_more x y ys =
     let e : length (x ∷ y ∷ ys) - 1 ≡ suc (length ys) = omega arith in
     let d : length (y ∷ ys) - 1 ≡ length ys = omega arith in
-    ap (λ (k : ℕ). is_set (slice_get (x ∷ y ∷ ys) k)) e ∙ ap (λ (k : ℕ). is_set (slice_get (y ∷ ys) k)) (sym d)
+    ap (λ (k : ℕ). is_non_blank (slice_get (x ∷ y ∷ ys) k)) e ∙ ap (λ (k : ℕ). is_non_blank (slice_get (y ∷ ys) k)) (sym d)
 
-before_more : (x y : Option NodeValue) (ys : List (Option NodeValue)) → before x (y ∷ ys) ≡ x ∷ y ∷ ys
+before_more : (x y : Option NodeValue) (ys : List (Option NodeValue)) → prepend_trimmed x (y ∷ ys) ≡ x ∷ y ∷ ys
 before_more None y ys = refl
 before_more (Some n) y ys = refl
 
 -- Trimming changes no list whose last entry is non-blank.
-pub trimmed-ends_set : (xs : List (Option NodeValue)) → ends_set xs ≡ true → trimmed xs ≡ xs
-trimmed-ends_set [] e = refl
-trimmed-ends_set (None ∷ []) e = absurd cc
-trimmed-ends_set (Some n ∷ []) e = refl
-trimmed-ends_set (x ∷ y ∷ ys) e = ap (before x) (trimmed-ends_set (y ∷ ys) (sym (ends_more x y ys) ∙ e)) ∙ before_more x y ys
+pub trimmed-ends_non_blank : (xs : List (Option NodeValue)) → ends_non_blank xs ≡ true → trimmed xs ≡ xs
+trimmed-ends_non_blank [] e = refl
+trimmed-ends_non_blank (None ∷ []) e = absurd cc
+trimmed-ends_non_blank (Some n ∷ []) e = refl
+trimmed-ends_non_blank (x ∷ y ∷ ys) e = ap (prepend_trimmed x) (trimmed-ends_non_blank (y ∷ ys) (sym (ends_more x y ys) ∙ e)) ∙ before_more x y ys
 
 -- Trimming undoes filling.
-pub trimmed-filled : (nodes : List (Option NodeValue)) → ends_set nodes ≡ true → trimmed (filled nodes) ≡ nodes
-trimmed-filled nodes e = trimmed-more nodes (full_size (length nodes) - length nodes) ∙ trimmed-ends_set nodes e
+pub trimmed-filled : (nodes : List (Option NodeValue)) → ends_non_blank nodes ≡ true → trimmed (filled nodes) ≡ nodes
+trimmed-filled nodes e = trimmed-more nodes (full_size (length nodes) - length nodes) ∙ trimmed-ends_non_blank nodes e

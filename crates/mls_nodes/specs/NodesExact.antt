@@ -16,7 +16,7 @@ use Rattle.mls_wire.specs.Encoding.{IsUniquelyDecodable}
 use Rattle.mls_nodes.specs.Limits.{leaf_limit}
 use Rattle.mls_nodes.specs.Extension.{extension}
 use Rattle.mls_nodes.specs.Layout.{credential, codes, capabilities, lifetime, source, leaf, unsigned_leaf, unmerged, parent, node, required_capabilities, external_sender, group_context}
-use Rattle.mls_nodes.specs.Parsing.{extension_at, credential_at, codes_at, capabilities_at, lifetime_at, source_at, leaf_at, unmerged_at, parent_at, node_at, required_capabilities_at, external_sender_at, group_context_at}
+use Rattle.mls_nodes.specs.Parsing.{extension_at, credential_at, codes_at, capabilities_at, lifetime_at, source_at, leaf_node_at, unmerged_at, parent_node_at, node_model_at, required_capabilities_at, external_sender_at, group_context_at}
 use Rattle.mls_nodes.specs.declared.credential.Credential.{Credential}
 use Rattle.mls_nodes.specs.declared.credential.Credential.TheVariants.{Basic, X509}
 use Rattle.mls_nodes.specs.declared.leaf_source.LeafSource.{LeafSource}
@@ -109,9 +109,9 @@ unfolding credential
 credential_parts (Basic identity) = refl
 credential_parts (X509 chain) = refl
 
-is_basic : (c : Credential) → Unit {0} × (credential_kind c ≡ 1) → (x : List ℕ) × (Basic x ≡ c)
-is_basic (Basic x) p = (x, refl)
-is_basic (X509 chain) p = absurd (omega arith)
+is_basic_by_kind : (c : Credential) → Unit {0} × (credential_kind c ≡ 1) → (x : List ℕ) × (Basic x ≡ c)
+is_basic_by_kind (Basic x) p = (x, refl)
+is_basic_by_kind (X509 chain) p = absurd (omega arith)
 
 is_x509 : (c : Credential) → Unit {0} × (credential_kind c ≡ 2) → (x : List (List ℕ)) × (X509 x ≡ c)
 is_x509 (Basic x) p = absurd (omega arith)
@@ -125,7 +125,7 @@ pub credential_exact : IsExact credential credential_at
 unfolding credential_at
 credential_exact = encoded_as Any credential _ credential_at credential_parts
     (field_then Any credential_kind (number w16) credential_body (number_at w16) _ (number_exact w16 wide16)
-    (λ n. tag_is credential_kind _ _ _ n 1 (made_of _ Basic vector _ vector_at vector_exact (λ x. (tt, refl)) (λ x. refl) is_basic)
+    (λ n. tag_is credential_kind _ _ _ n 1 (made_of _ Basic vector _ vector_at vector_exact (λ x. (tt, refl)) (λ x. refl) is_basic_by_kind)
     (λ x. tag_is credential_kind _ _ _ n 2 (made_of _ X509 (list vector) _ (list_at vector_at) chain_exact (λ x. (tt, refl)) (λ x. refl) is_x509)
     (λ y. never _ _ (no_credential n x y)))))
 
@@ -147,20 +147,20 @@ source_parts (KeyPackage l) = refl
 source_parts Update = refl
 source_parts (Commit h) = refl
 
-is_key_package : (s : LeafSource) → Unit {0} × (source_kind s ≡ 1) → (x : Lifetime) × (KeyPackage x ≡ s)
-is_key_package (KeyPackage x) p = (x, refl)
-is_key_package Update p = absurd (omega arith)
-is_key_package (Commit x) p = absurd (omega arith)
+is_key_package_source_by_kind : (s : LeafSource) → Unit {0} × (source_kind s ≡ 1) → (x : Lifetime) × (KeyPackage x ≡ s)
+is_key_package_source_by_kind (KeyPackage x) p = (x, refl)
+is_key_package_source_by_kind Update p = absurd (omega arith)
+is_key_package_source_by_kind (Commit x) p = absurd (omega arith)
 
-is_update : (s : LeafSource) → Unit {0} × (source_kind s ≡ 2) → Update ≡ s
-is_update (KeyPackage x) p = absurd (omega arith)
-is_update Update p = refl
-is_update (Commit x) p = absurd (omega arith)
+is_update_source_by_kind : (s : LeafSource) → Unit {0} × (source_kind s ≡ 2) → Update ≡ s
+is_update_source_by_kind (KeyPackage x) p = absurd (omega arith)
+is_update_source_by_kind Update p = refl
+is_update_source_by_kind (Commit x) p = absurd (omega arith)
 
-is_commit : (s : LeafSource) → Unit {0} × (source_kind s ≡ 3) → (x : List ℕ) × (Commit x ≡ s)
-is_commit (KeyPackage x) p = absurd (omega arith)
-is_commit Update p = absurd (omega arith)
-is_commit (Commit x) p = (x, refl)
+is_commit_source_by_kind : (s : LeafSource) → Unit {0} × (source_kind s ≡ 3) → (x : List ℕ) × (Commit x ≡ s)
+is_commit_source_by_kind (KeyPackage x) p = absurd (omega arith)
+is_commit_source_by_kind Update p = absurd (omega arith)
+is_commit_source_by_kind (Commit x) p = (x, refl)
 
 no_source : (n : ℕ) → n ≢ 1 → n ≢ 2 → n ≢ 3 → (s : LeafSource) → Unit {0} × (source_kind s ≡ n) → ⊥
 no_source n x y z (KeyPackage _) p = x (sym p.1)
@@ -171,9 +171,9 @@ pub source_exact : IsExact source source_at
 unfolding source_at
 source_exact = encoded_as Any source _ source_at source_parts
     (field_then Any source_kind (number w8) source_body (number_at w8) _ (number_exact w8 wide8)
-    (λ n. tag_is source_kind _ _ _ n 1 (made_of _ KeyPackage lifetime _ lifetime_at lifetime_exact (λ x. (tt, refl)) (λ x. refl) is_key_package)
-    (λ x. tag_is source_kind _ _ _ n 2 (known _ _ Update (tt, refl) refl is_update)
-    (λ y. tag_is source_kind _ _ _ n 3 (made_of _ Commit vector _ vector_at vector_exact (λ x. (tt, refl)) (λ x. refl) is_commit)
+    (λ n. tag_is source_kind _ _ _ n 1 (made_of _ KeyPackage lifetime _ lifetime_at lifetime_exact (λ x. (tt, refl)) (λ x. refl) is_key_package_source_by_kind)
+    (λ x. tag_is source_kind _ _ _ n 2 (known _ _ Update (tt, refl) refl is_update_source_by_kind)
+    (λ y. tag_is source_kind _ _ _ n 3 (made_of _ Commit vector _ vector_at vector_exact (λ x. (tt, refl)) (λ x. refl) is_commit_source_by_kind)
     (λ z. never _ _ (no_source n x y z))))))
 
 pub codes_long : IsLong codes
@@ -202,8 +202,8 @@ pub leaf_long : IsLong leaf
 unfolding leaf
 leaf_long n front h = long_left (vector n.encryption_key) _ front (vector_long n.encryption_key) h
 
-pub leaf_exact : IsExact leaf leaf_at
-unfolding leaf leaf_at
+pub leaf_exact : IsExact leaf leaf_node_at
+unfolding leaf leaf_node_at
 leaf_exact =
     field_then Any (λ n. n.encryption_key) vector _ vector_at _ vector_exact
     (λ a. field_then _ (λ n. n.signature_key) vector _ vector_at _ vector_exact
@@ -215,8 +215,8 @@ leaf_exact =
     (λ x. ((((((tt, refl), refl), refl), refl), refl), refl)) (λ x. refl)
     (λ n p. (n.signature, rw (← p.0.0.0.0.0.1, ← p.0.0.0.0.1, ← p.0.0.0.1, ← p.0.0.1, ← p.0.1, ← p.1) refl))))))))
 
-pub parent_exact : IsExact parent parent_at
-unfolding parent parent_at
+pub parent_exact : IsExact parent parent_node_at
+unfolding parent parent_node_at
 parent_exact =
     field_then Any (λ n. n.encryption_key) vector _ vector_at _ vector_exact
     (λ a. field_then _ (λ n. n.parent_hash) vector _ vector_at _ vector_exact
@@ -243,24 +243,24 @@ unfolding node
 node_parts (leaf_node l) = refl
 node_parts (parent_node p) = refl
 
-is_leaf : (n : NodeValue) → Unit {0} × (node_kind n ≡ 1) → (x : LeafNode) × (leaf_node x ≡ n)
-is_leaf (leaf_node l) p = (l, refl)
-is_leaf (parent_node l) p = absurd (omega arith)
+is_leaf_by_kind : (n : NodeValue) → Unit {0} × (node_kind n ≡ 1) → (x : LeafNode) × (leaf_node x ≡ n)
+is_leaf_by_kind (leaf_node l) p = (l, refl)
+is_leaf_by_kind (parent_node l) p = absurd (omega arith)
 
-is_parent : (n : NodeValue) → Unit {0} × (node_kind n ≡ 2) → (x : ParentNode) × (parent_node x ≡ n)
-is_parent (leaf_node l) p = absurd (omega arith)
-is_parent (parent_node l) p = (l, refl)
+is_parent_by_kind : (n : NodeValue) → Unit {0} × (node_kind n ≡ 2) → (x : ParentNode) × (parent_node x ≡ n)
+is_parent_by_kind (leaf_node l) p = absurd (omega arith)
+is_parent_by_kind (parent_node l) p = (l, refl)
 
 no_node : (k : ℕ) → k ≢ 1 → k ≢ 2 → (n : NodeValue) → Unit {0} × (node_kind n ≡ k) → ⊥
 no_node k x y (leaf_node _) p = x (sym p.1)
 no_node k x y (parent_node _) p = y (sym p.1)
 
-pub node_exact : IsExact node node_at
-unfolding node_at
-node_exact = encoded_as Any node _ node_at node_parts
+pub node_exact : IsExact node node_model_at
+unfolding node_model_at
+node_exact = encoded_as Any node _ node_model_at node_parts
     (field_then Any node_kind (number w8) node_body (number_at w8) _ (number_exact w8 wide8)
-    (λ k. tag_is node_kind _ _ _ k 1 (made_of _ leaf_node leaf _ leaf_at leaf_exact (λ x. (tt, refl)) (λ x. refl) is_leaf)
-    (λ x. tag_is node_kind _ _ _ k 2 (made_of _ parent_node parent _ parent_at parent_exact (λ x. (tt, refl)) (λ x. refl) is_parent)
+    (λ k. tag_is node_kind _ _ _ k 1 (made_of _ leaf_node leaf _ leaf_node_at leaf_exact (λ x. (tt, refl)) (λ x. refl) is_leaf_by_kind)
+    (λ x. tag_is node_kind _ _ _ k 2 (made_of _ parent_node parent _ parent_node_at parent_exact (λ x. (tt, refl)) (λ x. refl) is_parent_by_kind)
     (λ y. never _ _ (no_node k x y)))))
 
 -- ---- group contexts

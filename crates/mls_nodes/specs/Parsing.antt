@@ -6,7 +6,7 @@ use Rattle.mls_wire.specs.Input.{Input, at}
 use Rattle.mls_wire.specs.Parsing.{◌>>=◌, number_at, vector_at, list_at, body_at, items_at, optional_at}
 use Rattle.mls_nodes.specs.Limits.{leaf_limit}
 use Rattle.mls_nodes.specs.NodeModel.{NodeValue, leaf_node, parent_node}
-use Rattle.mls_nodes.specs.RatchetTreeEncoding.{has_valid_layout, ends_set}
+use Rattle.mls_nodes.specs.RatchetTreeEncoding.{has_valid_layout, ends_non_blank}
 use Rattle.mls_nodes.specs.declared.credential.Credential.{Credential}
 use Rattle.mls_nodes.specs.declared.credential.Credential.TheVariants.{Basic, X509}
 use Rattle.mls_nodes.specs.declared.leaf_source.LeafSource.{LeafSource}
@@ -67,9 +67,9 @@ source_at i = do
       else if nat_eq kind.0 3 then (vector_at kind.1 >>= λ x. Some (Commit x.0, x.1))
       else None
 
--- `leaf_at i` is the leaf node at the front.
-unfoldable pub leaf_at : Input → Option (LeafNode × Input)
-leaf_at i = do
+-- `leaf_node_at i` is the leaf node at the front.
+unfoldable pub leaf_node_at : Input → Option (LeafNode × Input)
+leaf_node_at i = do
   encryption_key ← vector_at i
   signature_key ← vector_at encryption_key.1
   credential ← credential_at signature_key.1
@@ -96,20 +96,20 @@ unmerged_at i = do
   leaves ← list_at (number_at w32) i
   if nat_le (length leaves.0) leaf_limit then Some (leaves.0, leaves.1) else None
 
--- `parent_at i` is the parent node at the front.
-unfoldable pub parent_at : Input → Option (ParentNode × Input)
-parent_at i = do
+-- `parent_node_at i` is the parent node at the front.
+unfoldable pub parent_node_at : Input → Option (ParentNode × Input)
+parent_node_at i = do
   encryption_key ← vector_at i
   parent_hash ← vector_at encryption_key.1
   unmerged ← unmerged_at parent_hash.1
   Some (record { encryption_key = encryption_key.0; parent_hash = parent_hash.0; unmerged = unmerged.0 }, unmerged.1)
 
--- `node_at i` is the node at the front.
-unfoldable pub node_at : Input → Option (NodeValue × Input)
-node_at i = do
+-- `node_model_at i` is the node at the front.
+unfoldable pub node_model_at : Input → Option (NodeValue × Input)
+node_model_at i = do
   kind ← number_at w8 i
-  if nat_eq kind.0 1 then (leaf_at kind.1 >>= λ x. Some (leaf_node x.0, x.1))
-      else if nat_eq kind.0 2 then (parent_at kind.1 >>= λ x. Some (parent_node x.0, x.1))
+  if nat_eq kind.0 1 then (leaf_node_at kind.1 >>= λ x. Some (leaf_node x.0, x.1))
+      else if nat_eq kind.0 2 then (parent_node_at kind.1 >>= λ x. Some (parent_node x.0, x.1))
       else None
 
 -- `node_in node_index i` is the node at the front, which may be at this node index. Its type is checked before its
@@ -117,8 +117,8 @@ node_at i = do
 unfoldable pub node_in : ℕ → Input → Option (NodeValue × Input)
 node_in node_index i = do
   kind ← number_at w8 i
-  if nat_eq kind.0 1 && nat_eq (node_index % 2) 0 then (leaf_at kind.1 >>= λ x. Some (leaf_node x.0, x.1))
-      else if nat_eq kind.0 2 && nat_eq (node_index % 2) 1 then (parent_at kind.1 >>= λ x. Some (parent_node x.0, x.1))
+  if nat_eq kind.0 1 && nat_eq (node_index % 2) 0 then (leaf_node_at kind.1 >>= λ x. Some (leaf_node x.0, x.1))
+      else if nat_eq kind.0 2 && nat_eq (node_index % 2) 1 then (parent_node_at kind.1 >>= λ x. Some (parent_node x.0, x.1))
       else None
 
 -- `required_capabilities_at i` is the required capabilities at the front (RFC 9420, 11.1).
@@ -168,8 +168,8 @@ well_laid_out (Some nodes) = if has_valid_layout nodes then Some nodes else None
 unfoldable pub tree_at : List ℕ → Option (List (Option NodeValue))
 tree_at bytes = do
   body ← body_at (at 0 bytes)
-  nodes ← well_laid_out (items_at (optional_at node_at) (length body.0.left) body.0)
-  if ends_set nodes then (if nat_eq (length body.1.left) 0 then Some nodes else None) else None
+  nodes ← well_laid_out (items_at (optional_at node_model_at) (length body.0.left) body.0)
+  if ends_non_blank nodes then (if nat_eq (length body.1.left) 0 then Some nodes else None) else None
 
 -- `FindsNodes found result`: a call returned what was found. On error nothing was, or the call ran out of memory.
 abbrev pub FindsNodes : {A : Type 0} → Option A → Result A NodeFault → Type 0

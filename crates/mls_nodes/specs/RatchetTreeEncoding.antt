@@ -18,15 +18,15 @@ abbrev pub fit_from : ℕ → List (Option NodeValue) → Bool
 fit_from node_index [] = true
 fit_from node_index (x ∷ xs) = fits_at node_index x && fit_from (node_index + 1) xs
 
--- `is_set n`: there is an entry, and it is non-blank.
-abbrev pub is_set : Option (Option NodeValue) → Bool
-is_set (Some (Some n)) = true
-is_set (Some None) = false
-is_set None = false
+-- `is_non_blank n`: there is an entry, and it is non-blank.
+abbrev pub is_non_blank : Option (Option NodeValue) → Bool
+is_non_blank (Some (Some n)) = true
+is_non_blank (Some None) = false
+is_non_blank None = false
 
--- `ends_set nodes`: there is a last entry, and it is non-blank (RFC 9420, 12.4.3.3).
-abbrev pub ends_set : List (Option NodeValue) → Bool
-ends_set nodes = is_set (slice_get nodes (length nodes - 1))
+-- `ends_non_blank nodes`: there is a last entry, and it is non-blank (RFC 9420, 12.4.3.3).
+abbrev pub ends_non_blank : List (Option NodeValue) → Bool
+ends_non_blank nodes = is_non_blank (slice_get nodes (length nodes - 1))
 
 -- `has_valid_layout nodes`: each entry may be at its node index, and there are no more than a tree of 1,048,576 leaves
 -- has.
@@ -36,22 +36,22 @@ has_valid_layout nodes = fit_from 0 nodes && nat_le (length nodes) entry_limit
 -- `ratchet_tree nodes` is the encoding of the entries of a tree up to the last non-blank one, each at a node index of
 -- its kind (RFC 9420, 12.4.3.3).
 unfoldable pub ratchet_tree : List (Option NodeValue) → Option (List ℕ)
-ratchet_tree nodes = if has_valid_layout nodes && ends_set nodes then list (optional node) nodes else None
+ratchet_tree nodes = if has_valid_layout nodes && ends_non_blank nodes then list (optional node) nodes else None
 
 -- `IsFirstMisplaced nodes node_index`: `node_index` is the first node index whose entry may not be there.
 abbrev pub IsFirstMisplaced : List (Option NodeValue) → ℕ → Type 0
 IsFirstMisplaced nodes node_index = (fit_from 0 (take node_index nodes) ≡ true) × (x : Option NodeValue) × (slice_get nodes node_index ≡ Some x) × (fits_at node_index x ≡ false)
 
--- `before x xs` is `xs` with `x` in front. A blank entry in front of nothing is left out.
-abbrev pub before : Option NodeValue → List (Option NodeValue) → List (Option NodeValue)
-before (Some n) xs = Some n ∷ xs
-before None (x ∷ xs) = None ∷ x ∷ xs
-before None [] = []
+-- `prepend_trimmed x xs` is `xs` with `x` in front. A blank entry in front of nothing is left out.
+abbrev pub prepend_trimmed : Option NodeValue → List (Option NodeValue) → List (Option NodeValue)
+prepend_trimmed (Some n) xs = Some n ∷ xs
+prepend_trimmed None (x ∷ xs) = None ∷ x ∷ xs
+prepend_trimmed None [] = []
 
 -- `trimmed nodes` is the entries without the blank ones at the end (RFC 9420, 12.4.3.3).
 abbrev pub trimmed : List (Option NodeValue) → List (Option NodeValue)
 trimmed [] = []
-trimmed (x ∷ xs) = before x (trimmed xs)
+trimmed (x ∷ xs) = prepend_trimmed x (trimmed xs)
 
 -- `full_from steps size count` is the first of size, 2 * size + 1, .. that is not below `count`, in at most this many
 -- steps.

@@ -15,4 +15,4 @@ pub tag_w16 : (n : ℕ) → n < 2 ^ 16 → size (number w16 n) ≡ Some 2
 tag_w16 n lt = sym (size_number w16 wide16 n lt (omega arith))
 
 -- The rules for sizes of fields put together.
-pub ruleset sizes = (size_joined, tag_w8, tag_w16)
+pub ruleset tag_sizes = (size_joined, tag_w8, tag_w16)

@@ -65,7 +65,7 @@ impl Decode for Capabilities {
 }
 
 impl Encode for Capabilities {
-    #[tactic(auto, using(crate::specs::TagSizes::sizes), unfolding(crate::specs::Layout::capabilities))]
+    #[tactic(auto, using(crate::specs::TagSizes::tag_sizes), unfolding(crate::specs::Layout::capabilities))]
     fn size(&self) -> Option<usize> {
         add_sizes(
             self.versions.size(),

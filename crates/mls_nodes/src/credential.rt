@@ -59,7 +59,7 @@ impl Decode for Credential {
 }
 
 impl Encode for Credential {
-    #[tactic(auto, using(crate::specs::TagSizes::sizes), unfolding(crate::specs::Layout::credential))]
+    #[tactic(auto, using(crate::specs::TagSizes::tag_sizes), unfolding(crate::specs::Layout::credential))]
     fn size(&self) -> Option<usize> {
         match self {
             Credential::Basic(identity) => add_sizes(Some(2), identity.size()),

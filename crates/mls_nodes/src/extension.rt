@@ -44,7 +44,7 @@ impl Decode for Extension {
 }
 
 impl Encode for Extension {
-    #[tactic(auto, using(crate::specs::TagSizes::sizes), unfolding(crate::specs::Extension::extension))]
+    #[tactic(auto, using(crate::specs::TagSizes::tag_sizes), unfolding(crate::specs::Extension::extension))]
     fn size(&self) -> Option<usize> {
         add_sizes(self.kind.size(), self.body.size())
     }

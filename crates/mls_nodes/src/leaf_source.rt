@@ -101,7 +101,7 @@ impl Decode for LeafSource {
 }
 
 impl Encode for Lifetime {
-    #[tactic(auto, using(crate::specs::TagSizes::sizes), unfolding(crate::specs::Layout::lifetime))]
+    #[tactic(auto, using(crate::specs::TagSizes::tag_sizes), unfolding(crate::specs::Layout::lifetime))]
     fn size(&self) -> Option<usize> {
         add_sizes(self.not_before.size(), self.not_after.size())
     }
@@ -114,7 +114,7 @@ impl Encode for Lifetime {
 }
 
 impl Encode for LeafSource {
-    #[tactic(auto, using(crate::specs::TagSizes::sizes), unfolding(crate::specs::Layout::source))]
+    #[tactic(auto, using(crate::specs::TagSizes::tag_sizes), unfolding(crate::specs::Layout::source))]
     fn size(&self) -> Option<usize> {
         match self {
             LeafSource::KeyPackage(lifetime) => add_sizes(Some(1), lifetime.size()),

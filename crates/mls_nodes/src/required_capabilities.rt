@@ -65,7 +65,7 @@ impl Decode for RequiredCapabilities {
 }
 
 impl Encode for RequiredCapabilities {
-    #[tactic(auto, using(crate::specs::TagSizes::sizes), unfolding(crate::specs::Layout::required_capabilities))]
+    #[tactic(auto, using(crate::specs::TagSizes::tag_sizes), unfolding(crate::specs::Layout::required_capabilities))]
     fn size(&self) -> Option<usize> {
         add_sizes(
             self.extensions.size(),

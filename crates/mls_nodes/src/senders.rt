@@ -61,7 +61,7 @@ impl Decode for ExternalSender {
 }
 
 impl Encode for ExternalSender {
-    #[tactic(auto, using(crate::specs::TagSizes::sizes), unfolding(crate::specs::Layout::external_sender))]
+    #[tactic(auto, using(crate::specs::TagSizes::tag_sizes), unfolding(crate::specs::Layout::external_sender))]
     fn size(&self) -> Option<usize> {
         add_sizes(self.signature_key.size(), self.credential.size())
     }

@@ -11,7 +11,7 @@ use Rattle.mls_follow.specs.Start.{IsStart}
 use Rattle.mls_follow.specs.State.{State}
 use Rattle.mls_follow.specs.Validity.{IsValidState}
 use Rattle.mls_signatures.specs.SignaturesToVerify.{start_signatures}
-use Rattle.mls_follow.specs.MessageSignatures.{message_signatures}
+use Rattle.mls_follow.specs.MessageSignatures.{message_signatures_in_state}
 use Rattle.mls_signatures.specs.declared.signature_to_verify.SignatureToVerify.{SignatureToVerify}
 use Rattle.mls_follow.proofs.Answering.{one_message}
 use Rattle.mls_follow.proofs.CoveredLogs.{covered_answers, covered_starts}
@@ -28,7 +28,7 @@ module _ (R : VerifyFn) where
   message_covered s bytes None none covers needed these = absurd (none these.message these.encoded)
   message_covered s bytes (Some qs) has_signatures covers needed these =
       let same : m ≡ n = one_message m n bytes has_signatures.encoded these.encoded in
-      subst (Covers R) (has_signatures.same ∙ (ap (message_signatures s) same ∙ sym these.same)) covers
+      subst (Covers R) (has_signatures.same ∙ (ap (message_signatures_in_state s) same ∙ sym these.same)) covers
     where
       m : Message
       m = has_signatures.message

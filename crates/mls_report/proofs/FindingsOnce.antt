@@ -14,7 +14,7 @@ use Rattle.mls_tree.specs.RatchetTree.{RatchetTree}
 use Rattle.mls_hash.specs.SuiteHash.{hash_of}
 use Rattle.mls_hash.specs.Suites.{IsSupported}
 use Rattle.mls_check.proofs.Faulted.{fault-not_valid, fault-unique}
-use Rattle.mls_check.specs.GroupTree.{IsSupportedContext, HasTree, IsReadable, HasValidTree}
+use Rattle.mls_check.specs.GroupTree.{IsSupportedContext, HasTree, HasReadableRequirements, HasValidTree}
 use Rattle.mls_check.specs.LeafValidation.{LeavesAreValid}
 use Rattle.mls_check.specs.Signatures.{VerifyFn}
 use Rattle.mls_check.specs.ValidTree.{Valid, IsFirstTreeFault}
@@ -121,13 +121,13 @@ module _ (G : VerifyFn) (context_bytes tree_bytes : List ℕ) where
   fails (TreeRefused x) a m =
       let ec = same_context m.0 a.0 m.2 a.1 in
       let et = same_tree m.1 a.2.tree m.3 a.2.readable.has_tree.uses in
-      fault-not_valid (hash_of a.0.cipher_suite) a.0.tree_hash a.2.tree.tree x a.2.own a.2.first
+      fault-not_valid (hash_of a.0.cipher_suite) a.0.tree_hash a.2.tree.tree x a.2.not_out_of_memory a.2.first
       (subst (λ (t : RatchetTree). IsValid a.0 t) et (subst (λ (c : GroupContext). IsValid c m.1) ec m.4))
   fails (MembersRefused x) a m =
       let ec = same_context a.0 m.0 a.1 m.3 in
       let h = a.2.valid_tree.readable in
       no_members_fault G a.0 m.0 a.2.required m.2 a.2.tree m.1 x ec (same_required a.0 m.0 a.2.required m.2 ec h.requires m.5)
-      (same_tree a.2.tree m.1 h.has_tree.uses m.4) a.2.own a.2.first m.6
+      (same_tree a.2.tree m.1 h.has_tree.uses m.4) a.2.not_out_of_memory a.2.first m.6
   fails (TreeValid x) a m = absurd m
   fails _ a m = absurd a
 
@@ -143,9 +143,9 @@ module _ (G : VerifyFn) (context_bytes tree_bytes : List ℕ) where
   met_followed c h followed = below_more Met 2 (met_suite c h followed.version) (c, h, followed.suite)
 
   met_tree : (c : GroupContext) (t : RatchetTree) → IsGiven c → HasTree c (IsTreeOf tree_bytes) t → MetBefore Met 4
-  met_tree c t h x = below_more Met 3 (met_followed c h x.followed) (t, x.uses)
+  met_tree c t h x = below_more Met 3 (met_followed c h x.supported) (t, x.uses)
 
-  met_readable : (c : GroupContext) (t : RatchetTree) (r : RequiredCapabilities) → IsGiven c → IsReadable c (IsTreeOf tree_bytes) t r → MetBefore Met 5
+  met_readable : (c : GroupContext) (t : RatchetTree) (r : RequiredCapabilities) → IsGiven c → HasReadableRequirements c (IsTreeOf tree_bytes) t r → MetBefore Met 5
   met_readable c t r h x = below_more Met 4 (met_tree c t h x.has_tree) (c, r, h, x.requires)
 
   met_valid : (c : GroupContext) (t : RatchetTree) (r : RequiredCapabilities) → IsGiven c → HasValidTree c (IsTreeOf tree_bytes) t r → MetBefore Met 6
@@ -174,7 +174,7 @@ module _ (G : VerifyFn) (context_bytes tree_bytes : List ℕ) where
   alike (TreeRefused x) (TreeRefused y) e a b =
       let ec = same_context a.0 b.0 a.1 b.1 in
       let et = same_tree a.2.tree b.2.tree a.2.readable.has_tree.uses b.2.readable.has_tree.uses in
-      ap TreeRefused (fault-unique (hash_of b.0.cipher_suite) b.0.tree_hash b.2.tree.tree x y a.2.own b.2.own
+      ap TreeRefused (fault-unique (hash_of b.0.cipher_suite) b.0.tree_hash b.2.tree.tree x y a.2.not_out_of_memory b.2.not_out_of_memory
       (subst (λ (t : RatchetTree). IsFirstTreeFault (hash_of b.0.cipher_suite) b.0.tree_hash t.tree x) et
       (subst (λ (c : GroupContext). IsFirstTreeFault (hash_of c.cipher_suite) c.tree_hash a.2.tree.tree x) ec a.2.first)) b.2.first)
   alike (MembersRefused x) (MembersRefused y) e a b =
@@ -183,7 +183,7 @@ module _ (G : VerifyFn) (context_bytes tree_bytes : List ℕ) where
       let k = b.2.valid_tree.readable in
       ap MembersRefused (one_members_fault G a.0 b.0 a.2.required b.2.required a.2.tree b.2.tree x y ec
       (same_required a.0 b.0 a.2.required b.2.required ec h.requires k.requires)
-      (same_tree a.2.tree b.2.tree h.has_tree.uses k.has_tree.uses) a.2.own b.2.own a.2.first b.2.first)
+      (same_tree a.2.tree b.2.tree h.has_tree.uses k.has_tree.uses) a.2.not_out_of_memory b.2.not_out_of_memory a.2.first b.2.first)
   alike (TreeValid x) (TreeValid y) e a b =
       let ec = same_context a.0 b.0 a.3 b.3 in
       ap TreeValid (a.5 ∙ ap (λ (c : GroupContext). c.tree_hash) ec ∙ sym b.5)

@@ -13,8 +13,8 @@ use Rattle.mls_report.specs.declared.verdict.RunFault.{RunFault}
 use Rattle.mls_report.specs.declared.verdict.RunFault.TheVariants.{Read, Write, Memory}
 use Rattle.mls_report.specs.declared.verdict.Verdict.{Verdict}
 use Rattle.mls_report.specs.declared.verdict.Verdict.TheVariants.{No}
-use Rattle.mls_report.specs.Replay.{ProcessedMessage, AreProcessed, state_after, processed_line, processed_lines, one_if, accepted_count, refused_count, message_limit, still_to_come, AreRecords, Follows, ReportsPart, IsVerdict, last_lines, ending, ReplaysFrom, ReplaysTo, ReplaysPartFrom}
-use Rattle.mls_report.specs.ReplaySteps.{ReadsUndecided, ReportsMessage, StopsAt, FollowsLog, ReplaysLog, ReturnsAfter, WritesDecline, WritesDeclinePart}
+use Rattle.mls_report.specs.Replay.{ProcessedMessage, AreProcessed, state_after, processed_line, processed_lines, one_if, accepted_count, refused_count, message_limit, messages_to_come, AreRecords, Follows, ReportsPart, IsVerdict, last_lines, ending, ReplaysFrom, ReplaysTo, ReplaysPartFrom}
+use Rattle.mls_report.specs.ReplaySteps.{ReadsUndecided, ReportsMessage, StopsAtMessage, FollowsLog, ReplaysLog, ReturnsAfter, WritesDecline, WritesDeclinePart}
 use Rattle.mls_report.specs.Finding.{finding_verdict}
 use Rattle.mls_report.specs.StartSteps.{Says}
 use Rattle.mls_report.specs.declared.finding.Finding.{Finding}
@@ -112,7 +112,7 @@ accepted-more ts t old new b p q e = e ∙ ap (λ k. k + one_if b) p ∙ ap (λ 
 -- ---- where it stops
 
 -- so many may still come
-pub still : (ts : List ProcessedMessage) (most : ℕ) → most + length ts ≡ message_limit → most ≡ still_to_come ts
+pub still : (ts : List ProcessedMessage) (most : ℕ) → most + length ts ≡ message_limit → most ≡ messages_to_come ts
 still ts most e = omega arith
 
 pub part-read : (G : VerifyFn) (s : State) (l0 l1 l2 w0 w1 : Option (List ℕ)) (ts : List ProcessedMessage) (now : State) (most : ℕ) (e : RunFault)
@@ -135,7 +135,7 @@ part-read G s l0 l1 l2 w0 w1 ts now most Memory f count u other = record {
 
 pub part-turn : (G : VerifyFn) (s : State) (l0 l1 l2 w0 w1 w2 : Option (List ℕ)) (ts : List ProcessedMessage) (now : State) (n : ℕ) (body read : List ℕ) (e : RunFault)
     → SoFar G s l0 l1 w0 w1 ts now → n ≡ 1 + length ts → length ts < message_limit → IsRecord read body → Consumes l1 l2 read
-    → StopsAt G now n body w1 w2 e → ReportsPart G s l0 l2 w0 w2 e
+    → StopsAtMessage G now n body w1 w2 e → ReportsPart G s l0 l2 w0 w2 e
 part-turn G s l0 l1 l2 w0 w1 w2 ts now n body read Read f count below r taken stops = absurd stops
 part-turn G s l0 l1 l2 w0 w1 w2 ts now n body read Write f count below r taken stops =
     let t : ProcessedMessage = record { bytes = body; answer = stops.answer; state = stops.new } in

@@ -12,7 +12,7 @@ use Rattle.mls_follow.specs.State.{State}
 use Rattle.mls_follow.specs.declared.refusal.Refusal.{Refusal}
 use Rattle.mls_follow.specs.declared.taken.Taken.{Taken}
 use Rattle.mls_signatures.specs.declared.signature_to_verify.SignatureToVerify.{SignatureToVerify}
-use Rattle.mls_report.specs.Replay.{ProcessedMessage, Follows, IsLogEnd, message_limit, state_after, still_to_come}
+use Rattle.mls_report.specs.Replay.{ProcessedMessage, Follows, IsLogEnd, message_limit, state_after, messages_to_come}
 use Rattle.mls_report.specs.ReplaySteps.{ReadsUndecided}
 use Rattle.mls_follow.specs.CoveredLogs.{all_good}
 use Rattle.mls_report.specs.SignaturesReport.{HasSignatures, LoggedMessage, turns_of, HaveSignatures, signature_lines, log_lines, all_read, break_line, log_verdict, ProcessesLog, ReportsSignatureLog, SignatureLogPart}
@@ -130,7 +130,7 @@ module _ (R : VerifyFn) (s : State) (l0 l1 l2 w0 w1 : Option (List ℕ)) (ms : L
 
 -- ---- where it stops
 
-still : (ms : List LoggedMessage) (most : ℕ) → most + length ms ≡ message_limit → most ≡ still_to_come (turns_of ms)
+still : (ms : List LoggedMessage) (most : ℕ) → most + length ms ≡ message_limit → most ≡ messages_to_come (turns_of ms)
 still ms most e = omega (arith, turns-length ms)
 
 module _ (R : VerifyFn) (s : State) (l0 l1 l2 w0 w1 : Option (List ℕ)) (ms : List LoggedMessage) (now : State) (f : SignatureLogSoFar R s l0 l1 w0 w1 ms now) where
@@ -169,7 +169,7 @@ module _ (R : VerifyFn) (s : State) (l0 l1 l2 w0 w1 : Option (List ℕ)) (ms : L
         let same : n ≡ length ms + 1 = omega arith in
         ap (λ k. decimal k ++ codes " broken\n") same
 
-    log_end-is : IsLogEnd (still_to_come (turns_of ms)) read l2 true
+    log_end-is : IsLogEnd (messages_to_come (turns_of ms)) read l2 true
     log_end-is = subst (λ k. IsBrokenAt k read l2) (still ms most count) broken
 
     pub printed-break : (verdict : Verdict) → verdict ≡ No → Appends w1 w2 (decimal n ++ codes " broken\n") → ReportsSignatureLog R s l0 l2 w0 w2 verdict

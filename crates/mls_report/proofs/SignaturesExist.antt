@@ -7,7 +7,7 @@ use Rattle.mls_follow.proofs.Holding.{run_answered}
 use Rattle.mls_follow.proofs.ResumedOrNot.{some_resumption}
 use Rattle.mls_follow.proofs.StoredRuns.{resumed_answered}
 use Rattle.mls_follow.specs.CoveredLogs.{all_good}
-use Rattle.mls_follow.specs.MessageSignatures.{message_signatures}
+use Rattle.mls_follow.specs.MessageSignatures.{message_signatures_in_state}
 use Rattle.mls_follow.specs.Runs.{IsAnswer}
 use Rattle.mls_follow.specs.State.{State}
 use Rattle.mls_follow.specs.declared.refusal.Refusal.{Refusal}
@@ -41,11 +41,11 @@ some_needed : (s : State) (bytes : List ℕ) (answer : Result Taken Refusal) (ne
     → (needed : Option (List SignatureToVerify)) × HasSignatures s bytes needed
 some_needed s bytes (Ok taken) new h =
     let message = h.takes.0 in
-    (Some (message_signatures s message.message), record { message = message.message; encoded = message.encoded; same = refl })
+    (Some (message_signatures_in_state s message.message), record { message = message.message; encoded = message.encoded; same = refl })
 some_needed s bytes (Err e) new h =
     elim (h.takes.1 (own e h.memory)) [
       | inl none ↦ (None, none.1)
-      | inr message ↦ (Some (message_signatures s message.message), record { message = message.message; encoded = message.encoded; same = refl })
+      | inr message ↦ (Some (message_signatures_in_state s message.message), record { message = message.message; encoded = message.encoded; same = refl })
     ]
 
 -- so have those of a log

@@ -6,7 +6,7 @@ use Rattle.mls_check.specs.Signatures.{VerifyFn}
 use Rattle.mls_msgs.specs.declared.profile.Profile.{Profile}
 use Rattle.mls_follow.proofs.Answering.{one_message}
 use Rattle.mls_follow.specs.CoveredLogs.{all_good}
-use Rattle.mls_follow.specs.MessageSignatures.{message_signatures}
+use Rattle.mls_follow.specs.MessageSignatures.{message_signatures_in_state}
 use Rattle.mls_follow.specs.State.{State}
 use Rattle.mls_signatures.specs.SignaturesToVerify.{start_signatures}
 use Rattle.mls_signatures.specs.declared.signature_to_verify.SignatureToVerify.{SignatureToVerify}
@@ -32,7 +32,7 @@ one_needed s bytes None (Some v) a b = absurd (a b.message b.encoded)
 one_needed s bytes (Some w) None a b = absurd (b a.message a.encoded)
 one_needed s bytes (Some w) (Some v) a b =
     ap (λ (x : List SignatureToVerify). Some x)
-    (a.same ∙ ap (message_signatures s) (one_message a.message b.message bytes a.encoded b.encoded) ∙ sym b.same)
+    (a.same ∙ ap (message_signatures_in_state s) (one_message a.message b.message bytes a.encoded b.encoded) ∙ sym b.same)
 
 head_is : (x y : ProcessedMessage) (xs ys : List ProcessedMessage) → x ∷ xs ≡ y ∷ ys → x ≡ y
 head_is x y xs ys e = cc

@@ -59,7 +59,7 @@ start-has profile info supplied s signatures start of_info =
     let first : State = initial_state profile info start.tree start.interim in
     let whole : start_signatures info first.tree ≡ info_signatures info (leaf_at 0 start.tree.tree info.signer) ++ state_signatures first =
     start_signatures_are_distinct info start.tree.tree (own_keys all_good info.context.cipher_suite info.context.group_id start.has_signer.required start.tree.tree members.members)
-    ∙ all_if (is_supported info) (info_signatures info (leaf_at 0 start.tree.tree info.signer) ++ state_signatures first) (supported info members.valid_tree.readable.has_tree.followed) in
+    ∙ all_if (is_supported info) (info_signatures info (leaf_at 0 start.tree.tree info.signer) ++ state_signatures first) (supported info members.valid_tree.readable.has_tree.supported) in
     let here : signatures ++ state_signatures first ≡ start_signatures info first.tree =
     ap (λ (ws : List SignatureToVerify). ws ++ state_signatures first) (of_info start.tree members.valid_tree.readable.has_tree.uses) ∙ sym whole in
     record { start = start; needed_is = subst (λ (z : State). signatures ++ state_signatures z ≡ start_signatures info z.tree) (sym start.state) here }

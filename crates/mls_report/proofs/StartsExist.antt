@@ -97,7 +97,7 @@ module _ (profile : Profile) (G : VerifyFn) (info : GroupInfo) (supplied : Optio
   by_use followed =
       elim (uses_or_not supplied) [
         | inl u ↦ by_tree followed u.0 u.1
-        | inr none ↦ inr (NoTree, λ own. cc, record { followed = followed; none = none })
+        | inr none ↦ inr (NoTree, λ own. cc, record { supported = followed; none = none })
       ]
 
   by_suite : info.context.version ≡ 1 → IsSupported info.context.cipher_suite ⊎ (¬ IsSupported info.context.cipher_suite) → StartsOrNot

@@ -19,7 +19,7 @@ use Rattle.mls_hash.specs.SuiteHash.{hash_of}
 use Rattle.mls_hash.specs.Suites.{IsSupported}
 use Rattle.mls_check.proofs.Faulted.{fault-not_valid, fault-unique}
 use Rattle.mls_check.proofs.FirstFault.{fault-first, members-faultless}
-use Rattle.mls_check.specs.GroupTree.{IsSupportedContext, HasTree, IsReadable, HasValidTree, HasMembers}
+use Rattle.mls_check.specs.GroupTree.{IsSupportedContext, HasTree, HasReadableRequirements, HasValidTree, HasMembers}
 use Rattle.mls_check.specs.LeafValidation.{LeavesAreValid, IsMemberFault, member_fault}
 use Rattle.mls_check.specs.Signatures.{VerifyFn}
 use Rattle.mls_check.specs.ValidTree.{Valid, IsFirstTreeFault}
@@ -119,11 +119,11 @@ module _ (G : VerifyFn) (info : GroupInfo) (supplied : Option RatchetTree) where
   fails RequirementsUnreadable (own, a) m = a.none m.0 m.1
   fails (Tree f) (own, a) m =
       let e = same_tree m.0 a.tree m.1 a.readable.has_tree.uses in
-      fault-not_valid H info.context.tree_hash a.tree.tree f a.own a.first (subst (λ (v : RatchetTree). Valid H info.context.tree_hash v.tree) e m.2)
+      fault-not_valid H info.context.tree_hash a.tree.tree f a.not_out_of_memory a.first (subst (λ (v : RatchetTree). Valid H info.context.tree_hash v.tree) e m.2)
   fails (Member f) (own, a) m =
       no_members_fault G info.context info.context a.required m.1 a.tree m.0 f refl
       (Requires-one info.context a.required m.1 a.valid_tree.readable.requires m.3)
-      (same_tree a.tree m.0 a.valid_tree.readable.has_tree.uses m.2) a.own a.first m.4
+      (same_tree a.tree m.0 a.valid_tree.readable.has_tree.uses m.2) a.not_out_of_memory a.first m.4
   fails SignerNotMember (own, a) m =
       none-some m.1 (sym a.blank ∙ ap (λ (v : RatchetTree). leaf_at 0 v.tree info.signer) (same_tree a.tree m.0 a.has_members.valid_tree.readable.has_tree.uses m.2) ∙ m.3)
   fails InfoSignature (own, a) m =
@@ -140,9 +140,9 @@ module _ (G : VerifyFn) (info : GroupInfo) (supplied : Option RatchetTree) where
   met_followed h = below_more Met 1 (met_version h.version) h.suite
 
   met_tree : (t : RatchetTree) → HasTree info.context (UsesTree supplied info.extensions) t → MetBefore Met 3
-  met_tree t h = below_more Met 2 (met_followed h.followed) (t, h.uses)
+  met_tree t h = below_more Met 2 (met_followed h.supported) (t, h.uses)
 
-  met_readable : (t : RatchetTree) (r : RequiredCapabilities) → IsReadable info.context (UsesTree supplied info.extensions) t r → MetBefore Met 4
+  met_readable : (t : RatchetTree) (r : RequiredCapabilities) → HasReadableRequirements info.context (UsesTree supplied info.extensions) t r → MetBefore Met 4
   met_readable t r h = below_more Met 3 (met_tree t h.has_tree) (r, h.requires)
 
   met_valid : (t : RatchetTree) (r : RequiredCapabilities) → HasValidTree info.context (UsesTree supplied info.extensions) t r → MetBefore Met 5
@@ -165,7 +165,7 @@ module _ (G : VerifyFn) (info : GroupInfo) (supplied : Option RatchetTree) where
   met_before : (f : StartFault) → Refuses f → MetBefore Met (position f)
   met_before UnsupportedVersion (own, a) = below_none Met
   met_before UnsupportedSuite (own, a) = met_version a.version
-  met_before NoTree (own, a) = met_followed a.followed
+  met_before NoTree (own, a) = met_followed a.supported
   met_before RequirementsUnreadable (own, a) = met_tree a.tree a.has_tree
   met_before (Tree x) (own, a) = met_readable a.tree a.required a.readable
   met_before (Member x) (own, a) = met_valid a.tree a.required a.valid_tree
@@ -187,12 +187,12 @@ module _ (G : VerifyFn) (info : GroupInfo) (supplied : Option RatchetTree) where
   same_fault NoTree NoTree e a b = refl
   same_fault RequirementsUnreadable RequirementsUnreadable e a b = refl
   same_fault (Tree x) (Tree y) e (_, a) (_, b) =
-      ap Tree (fault-unique H info.context.tree_hash a.tree.tree x y a.own b.own a.first
+      ap Tree (fault-unique H info.context.tree_hash a.tree.tree x y a.not_out_of_memory b.not_out_of_memory a.first
       (subst (λ (v : RatchetTree). IsFirstTreeFault H info.context.tree_hash v.tree y) (same_tree b.tree a.tree b.readable.has_tree.uses a.readable.has_tree.uses) b.first))
   same_fault (Member x) (Member y) e (_, a) (_, b) =
       ap Member (one_members_fault G info.context info.context a.required b.required a.tree b.tree x y refl
       (Requires-one info.context a.required b.required a.valid_tree.readable.requires b.valid_tree.readable.requires)
-      (same_tree a.tree b.tree a.valid_tree.readable.has_tree.uses b.valid_tree.readable.has_tree.uses) a.own b.own a.first b.first)
+      (same_tree a.tree b.tree a.valid_tree.readable.has_tree.uses b.valid_tree.readable.has_tree.uses) a.not_out_of_memory b.not_out_of_memory a.first b.first)
   same_fault SignerNotMember SignerNotMember e a b = refl
   same_fault InfoSignature InfoSignature e a b = refl
   same_fault OutOfMemory OutOfMemory e a b = refl

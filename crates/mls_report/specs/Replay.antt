@@ -93,9 +93,9 @@ accepted_count (turn ∷ turns) = one_if (is_ok turn.answer) + accepted_count tu
 abbrev pub refused_count : List ProcessedMessage → ℕ
 refused_count turns = length turns - accepted_count turns
 
--- `counts_line accepted refused broken epoch` is the last line: the counts, and the epoch at the end.
-abbrev pub counts_line : ℕ → ℕ → ℕ → ℕ → List ℕ
-counts_line accepted refused broken epoch =
+-- `log_counts_line accepted refused broken epoch` is the last line: the counts, and the epoch at the end.
+abbrev pub log_counts_line : ℕ → ℕ → ℕ → ℕ → List ℕ
+log_counts_line accepted refused broken epoch =
     codes "accepted " ++ (decimal accepted
     ++ (codes " refused " ++ (decimal refused
     ++ (codes " broken " ++ (decimal broken
@@ -104,9 +104,9 @@ counts_line accepted refused broken epoch =
 -- `last_lines broken accepted refused epoch` is the last lines after these numbers of messages: that the next one is
 -- broken, if it is, and the counts.
 abbrev pub last_lines : Bool → ℕ → ℕ → ℕ → List ℕ
-last_lines false accepted refused epoch = counts_line accepted refused 0 epoch
+last_lines false accepted refused epoch = log_counts_line accepted refused 0 epoch
 last_lines true accepted refused epoch =
-    decimal (accepted + refused + 1) ++ (codes " broken\n" ++ counts_line accepted refused 1 epoch)
+    decimal (accepted + refused + 1) ++ (codes " broken\n" ++ log_counts_line accepted refused 1 epoch)
 
 -- `ending broken s turns` is the last lines after these messages.
 abbrev pub ending : Bool → State → List ProcessedMessage → List ℕ
@@ -127,9 +127,9 @@ AreRecords (body ∷ bodies) bytes =
     (front : List ℕ) × (rest : List ℕ) × IsRecord front body × AreRecords bodies rest
     × (bytes ≡ front ++ rest)
 
--- `still_to_come turns` is how many messages may still come.
-abbrev pub still_to_come : List ProcessedMessage → ℕ
-still_to_come turns = message_limit - length turns
+-- `messages_to_come turns` is how many messages may still come.
+abbrev pub messages_to_come : List ProcessedMessage → ℕ
+messages_to_come turns = message_limit - length turns
 
 -- `IsLogEnd most rest left broken`: a log of which `most` messages may still come is broken, as the bytes `rest` show,
 -- or has ended.
@@ -157,7 +157,7 @@ pub record ReportsLog (G : VerifyFn) (s : State) (log0 log1 written0 written1 : 
   pub rest : List ℕ
   pub broken : Bool
   pub follows : Follows G s log0 log1 turns rest
-  pub log_end : IsLogEnd (still_to_come turns) rest log1 broken
+  pub log_end : IsLogEnd (messages_to_come turns) rest log1 broken
   pub wrote : Appends written0 written1 (processed_lines 1 turns ++ ending broken s turns)
   pub verdict_is : IsVerdict broken (refused_count turns) verdict
 
@@ -168,7 +168,7 @@ pub record StopsReading (G : VerifyFn) (s : State) (log0 log1 written0 written1 
   pub turns : List ProcessedMessage
   pub rest : List ℕ
   pub follows : Follows G s log0 log1 turns rest
-  pub undecided : IsIncomplete (still_to_come turns) rest
+  pub undecided : IsIncomplete (messages_to_come turns) rest
   pub wrote : Appends written0 written1 (processed_lines 1 turns)
 
 -- `StopsInLine G s log0 log1 written0 written1`: the output failed in the line of the last message that was read.
@@ -190,7 +190,7 @@ pub record StopsInEnding (G : VerifyFn) (s : State) (log0 log1 written0 written1
   pub rest : List ℕ
   pub broken : Bool
   pub follows : Follows G s log0 log1 turns rest
-  pub log_end : IsLogEnd (still_to_come turns) rest log1 broken
+  pub log_end : IsLogEnd (messages_to_come turns) rest log1 broken
   pub part : List ℕ
   pub more : List ℕ
   pub ending_is : ending broken s turns ≡ part ++ more
@@ -210,7 +210,7 @@ pub record StopsWithoutMemory (G : VerifyFn) (s : State) (log0 log1 written0 wri
   pub turns : List ProcessedMessage
   pub rest : List ℕ
   pub follows : Follows G s log0 log1 turns rest
-  pub left_over : IsLeftOver (still_to_come turns) rest log1
+  pub left_over : IsLeftOver (messages_to_come turns) rest log1
   pub wrote : Appends written0 written1 (processed_lines 1 turns)
 
 -- `ReportsPart G s log0 log1 written0 written1 fault`: what was written if the report of the log was not written whole,

@@ -10,7 +10,7 @@ use Rattle.mls_follow.specs.State.{State}
 use Rattle.mls_follow.specs.declared.refusal.Refusal.{Refusal}
 use Rattle.mls_follow.specs.declared.taken.Taken.{Taken}
 use Rattle.mls_report.specs.Finding.{finding_line, finding_verdict}
-use Rattle.mls_report.specs.Replay.{ProcessedMessage, Follows, IsLogEnd, ReportsLog, accepted_count, answer_text, state_after, still_to_come, processed_lines}
+use Rattle.mls_report.specs.Replay.{ProcessedMessage, Follows, IsLogEnd, ReportsLog, accepted_count, answer_text, state_after, messages_to_come, processed_lines}
 use Rattle.mls_report.specs.declared.finding.Finding.{Finding}
 use Rattle.mls_report.specs.declared.read_inputs.StartFailure.{StartFailure}
 use Rattle.mls_report.specs.declared.read_inputs.StartFailure.TheVariants.{Found}
@@ -45,10 +45,10 @@ pub record StopsTurn (G : VerifyFn) (s : State) (n : ℕ) (bytes : List ℕ)
   pub wrote : AppendsPrefix written0 written1 (answer_line n answer new)
 
 -- Message n was not reported, with this fault.
-abbrev pub StopsAt : VerifyFn → State → ℕ → List ℕ → Option (List ℕ) → Option (List ℕ) → RunFault → Type 0
-StopsAt G s n bytes written0 written1 Read = ⊥
-StopsAt G s n bytes written0 written1 Write = StopsTurn G s n bytes written0 written1
-StopsAt G s n bytes written0 written1 Memory = Appends written0 written1 []
+abbrev pub StopsAtMessage : VerifyFn → State → ℕ → List ℕ → Option (List ℕ) → Option (List ℕ) → RunFault → Type 0
+StopsAtMessage G s n bytes written0 written1 Read = ⊥
+StopsAtMessage G s n bytes written0 written1 Write = StopsTurn G s n bytes written0 written1
+StopsAtMessage G s n bytes written0 written1 Memory = Appends written0 written1 []
 
 -- Each message of a log was reported, these numbers were accepted and refused, and the log has ended or is broken.
 pub record FollowsLog (G : VerifyFn) (s : State) (log0 log1 written0 written1 : Option (List ℕ))
@@ -56,7 +56,7 @@ pub record FollowsLog (G : VerifyFn) (s : State) (log0 log1 written0 written1 : 
   pub turns : List ProcessedMessage
   pub rest : List ℕ
   pub follows : Follows G s log0 log1 turns rest
-  pub log_end : IsLogEnd (still_to_come turns) rest log1 broken
+  pub log_end : IsLogEnd (messages_to_come turns) rest log1 broken
   pub wrote : Appends written0 written1 (processed_lines 1 turns)
   pub state : now ≡ state_after s turns
   pub taken : accepted ≡ accepted_count turns

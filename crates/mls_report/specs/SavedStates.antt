@@ -4,7 +4,7 @@ use Rattle.std.specs.Prelude.{List, ℕ, ◌++◌}
 use Rattle.mls_check.specs.Signatures.{VerifyFn}
 use Rattle.mls_follow.specs.State.{State}
 use Rattle.mls_follow.specs.Resumption.{IsResumed}
-use Rattle.mls_follow.specs.StoredRuns.{IsFirst}
+use Rattle.mls_follow.specs.StoredRuns.{IsInitialState}
 use Rattle.mls_follow.specs.StoredState.{EncodesState}
 use Rattle.mls_report.specs.Replay.{ProcessedMessage, AreProcessed, state_after}
 
@@ -12,7 +12,7 @@ use Rattle.mls_report.specs.Replay.{ProcessedMessage, AreProcessed, state_after}
 -- in this state.
 abbrev pub SavedStatesResume : Type 0
 SavedStatesResume =
-    (G : VerifyFn) (s : State) (turns : List ProcessedMessage) (bytes : List ℕ) → IsFirst G s → AreProcessed G s turns
+    (G : VerifyFn) (s : State) (turns : List ProcessedMessage) (bytes : List ℕ) → IsInitialState G s → AreProcessed G s turns
     → EncodesState (state_after s turns) bytes → IsResumed G bytes (state_after s turns)
 
 -- If messages are processed one after the other, those after the first ones are processed from the state after these,

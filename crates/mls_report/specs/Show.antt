@@ -19,8 +19,8 @@ use Rattle.mls_report.specs.declared.verdict.Verdict.TheVariants.{Yes, No}
 use Rattle.mls_report.specs.declared.show.ShowKind.{ShowKind}
 use Rattle.mls_report.specs.declared.show.ShowKind.TheVariants as kind
 
--- `IsUnreadable text verdict`: the report of an input that cannot be read, one line that names the fault.
-pub record IsUnreadable (text : List ℕ) (verdict : Verdict) : Type 0 where
+-- `IsUnreadableReport text verdict`: the report of an input that cannot be read, one line that names the fault.
+pub record IsUnreadableReport (text : List ℕ) (verdict : Verdict) : Type 0 where
   pub fault : List ℕ
   pub one_line : IsOneLine fault
   pub text_is : text ≡ codes "unreadable " ++ (fault ++ codes "\n")
@@ -36,7 +36,7 @@ pub record IsTreeReport (bytes text : List ℕ) (verdict : Verdict) : Type 0 whe
 -- `IsNoTreeReport bytes text verdict`: the bytes are no ratchet_tree, and the report says so.
 pub record IsNoTreeReport (bytes text : List ℕ) (verdict : Verdict) : Type 0 where
   pub no_tree : IsNoTree bytes
-  pub unreadable : IsUnreadable text verdict
+  pub unreadable : IsUnreadableReport text verdict
 
 -- `IsMessageIn profile bytes m`: the bytes are the encoding of the message, which is in `profile`, within the limit of an
 -- input (RFC 9420, 6).
@@ -71,7 +71,7 @@ pub record IsInfoReport (bytes text : List ℕ) (verdict : Verdict) : Type 0 whe
 -- `IsNoMessageReport profile bytes text verdict`: the bytes are no message in `profile`, and the report says so.
 pub record IsNoMessageReport (profile : Profile) (bytes text : List ℕ) (verdict : Verdict) : Type 0 where
   pub no_message : (m : Message) → IsMessageIn profile bytes m → ⊥
-  pub unreadable : IsUnreadable text verdict
+  pub unreadable : IsUnreadableReport text verdict
 
 -- `IsShowReport profile k bytes text verdict`: `text` is the report of `bytes` that are shown as the kind `k`, and
 -- `verdict` its verdict. Messages are decoded in `profile`, infos in the members' profile.

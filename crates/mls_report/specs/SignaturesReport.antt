@@ -19,7 +19,7 @@ use Rattle.mls_signatures.specs.SignaturesToVerify.{start_signatures, resumption
 use Rattle.mls_follow.specs.MessageSignatures.{AreSignaturesOf}
 use Rattle.mls_signatures.specs.declared.signature_to_verify.SignatureToVerify.{SignatureToVerify}
 use Rattle.mls_report.specs.Finding.{finding_line}
-use Rattle.mls_report.specs.Replay.{ProcessedMessage, Follows, IsLogEnd, IsLeftOver, still_to_come}
+use Rattle.mls_report.specs.Replay.{ProcessedMessage, Follows, IsLogEnd, IsLeftOver, messages_to_come}
 use Rattle.mls_report.specs.StartInputs.{IsReadAs, ReadsBoth, ReadsAndDeclines}
 use Rattle.mls_report.specs.StateInputs.{ReadsAndResumes, ReadsAndDeclinesState}
 use Rattle.mls_report.specs.ValueTexts.{hex_text}
@@ -123,7 +123,7 @@ pub record ReportsSignatureLog (R : VerifyFn) (s : State) (log0 log1 written0 wr
   pub rest : List ℕ
   pub broken : Bool
   pub processes : ProcessesLog s log0 log1 logged rest
-  pub log_end : IsLogEnd (still_to_come (turns_of logged)) rest log1 broken
+  pub log_end : IsLogEnd (messages_to_come (turns_of logged)) rest log1 broken
   pub wrote : Appends written0 written1 (log_lines R 1 logged ++ break_line broken (length logged))
   pub verdict_is : verdict ≡ log_verdict broken (all_read logged)
 
@@ -134,7 +134,7 @@ pub record SignatureLogReading (R : VerifyFn) (s : State) (log0 log1 written0 wr
   pub logged : List LoggedMessage
   pub rest : List ℕ
   pub processes : ProcessesLog s log0 log1 logged rest
-  pub undecided : IsIncomplete (still_to_come (turns_of logged)) rest
+  pub undecided : IsIncomplete (messages_to_come (turns_of logged)) rest
   pub wrote : Appends written0 written1 (log_lines R 1 logged)
 
 -- `SignatureLogInLines R s log0 log1 written0 written1`: the output failed in the lines of the last message that was
@@ -155,7 +155,7 @@ pub record SignatureLogInBreak (R : VerifyFn) (s : State) (log0 log1 written0 wr
   pub logged : List LoggedMessage
   pub rest : List ℕ
   pub processes : ProcessesLog s log0 log1 logged rest
-  pub log_end : IsLogEnd (still_to_come (turns_of logged)) rest log1 true
+  pub log_end : IsLogEnd (messages_to_come (turns_of logged)) rest log1 true
   pub part : List ℕ
   pub more : List ℕ
   pub line_is : break_line true (length logged) ≡ part ++ more
@@ -168,7 +168,7 @@ pub record SignatureLogWithoutMemory (R : VerifyFn) (s : State) (log0 log1 writt
   pub logged : List LoggedMessage
   pub rest : List ℕ
   pub processes : ProcessesLog s log0 log1 logged rest
-  pub left_over : IsLeftOver (still_to_come (turns_of logged)) rest log1
+  pub left_over : IsLeftOver (messages_to_come (turns_of logged)) rest log1
   pub wrote : Appends written0 written1 (log_lines R 1 logged)
 
 -- `SignatureLogPart R s log0 log1 written0 written1 fault`: what was written if the report of the log was not written

@@ -45,12 +45,12 @@ abbrev pub node_lines : ℕ → List (Option NodeValue) → List ℕ
 node_lines node_index [] = []
 node_lines node_index (node ∷ nodes) = node_line node_index node ++ node_lines (node_index + 1) nodes
 
--- `count_line leaves members` is the last line: how many leaves the tree has, blank ones included, and how many
+-- `tree_counts_line leaves members` is the last line: how many leaves the tree has, blank ones included, and how many
 -- members.
-abbrev pub count_line : ℕ → ℕ → List ℕ
-count_line leaves members =
+abbrev pub tree_counts_line : ℕ → ℕ → List ℕ
+tree_counts_line leaves members =
     codes "leaves " ++ (decimal leaves ++ (codes " members " ++ (decimal members ++ codes "\n")))
 
 -- `tree_text nodes` is the report of a tree: a line for each node, and the counts.
 abbrev pub tree_text : List (Option NodeValue) → List ℕ
-tree_text nodes = node_lines 0 nodes ++ count_line ((length nodes + 1) / 2) (leaves_among nodes)
+tree_text nodes = node_lines 0 nodes ++ tree_counts_line ((length nodes + 1) / 2) (leaves_among nodes)

@@ -6,7 +6,7 @@ use Rattle.mls_msgs.specs.declared.profile.Profile.{Profile}
 use Rattle.mls_follow.specs.State.{State}
 use Rattle.mls_follow.specs.StoredRuns.{is_unreadable}
 use Rattle.mls_report.specs.Finding.{finding_line}
-use Rattle.mls_report.specs.Replay.{ProcessedMessage, Follows, IsLogEnd, Replays, ReplaysState, still_to_come}
+use Rattle.mls_report.specs.Replay.{ProcessedMessage, Follows, IsLogEnd, Replays, ReplaysState, messages_to_come}
 use Rattle.mls_report.specs.SignaturesReport.{HasSignatures, Signatures, SignaturesState}
 use Rattle.mls_report.specs.StartInputs.{IsStarted, IsStartFinding}
 use Rattle.mls_report.specs.StateInputs.{IsStateFinding}
@@ -61,7 +61,7 @@ pub record EndsLog (G : VerifyFn) (s : State) (log left : Option (List ℕ)) (tu
     (broken : Bool) : Type 0 where
   pub rest : List ℕ
   pub follows : Follows G s log left turns rest
-  pub log_end : IsLogEnd (still_to_come turns) rest left broken
+  pub log_end : IsLogEnd (messages_to_come turns) rest left broken
 
 -- The bytes of a log determine which messages are processed, the result of each, and whether the log is broken.
 abbrev pub LogIsUnique : Type 0

@@ -17,6 +17,6 @@ receipts_line faults.OutOfMemory = []
 -- `ReportsReceipts fault written0 written1 verdict`: the line of the fault was written whole, and the verdict is No.
 pub record ReportsReceipts (fault : ReceiptsFault) (written0 written1 : Option (List ℕ))
     (verdict : Verdict) : Type 0 where
-  pub own : fault ≢ faults.OutOfMemory
+  pub not_out_of_memory : fault ≢ faults.OutOfMemory
   pub wrote : Appends written0 written1 (receipts_line fault)
   pub verdict_is : verdict ≡ No

@@ -167,7 +167,7 @@ pub fn report_finding<K: Sink>(
     ensures printed { IfOk result
         (λ verdict. Appends (K.written out.old) (K.written out.new)
         (findings.finding_line finding.now) × (verdict ≡ findings.finding_verdict finding.now)) }
-    ensures part { OnErr result
+    ensures effect_on_error { OnErr result
         (AppendsPrefix (K.written out.old) (K.written out.new)
         (findings.finding_line finding.now)) }
     ensures memory { result ≡ Err RunFault.Memory

@@ -37,7 +37,7 @@ pub fn read_all<S: Source>(alloc: Global, source: &mut S) -> Result<Vec<u8>, Run
     requires { S.is_failed source.old ≡ false }
     ensures all { IfOk result
         (λ bytes. ReadsAll (S.left source.old) (S.left source.new) bytes.items) }
-    ensures part { OnErr result (ReadsSome (S.left source.old) (S.left source.new)) }
+    ensures effect_on_error { OnErr result (ReadsSome (S.left source.old) (S.left source.new)) }
     ensures read { (result ≡ Err RunFault.Read) ↔ (S.is_failed source.new ≡ true) }
     ensures fault { IfErr result (λ e. e ≢ RunFault.Write) }
 {

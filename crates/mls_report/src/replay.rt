@@ -8,7 +8,7 @@ ghost use Rattle.mls_msgs.specs.declared.profile.Profile.TheVariants.{Members};
 ghost use Rattle.mls_follow.specs.FollowerModel.{checker_of, state_of};
 ghost use Rattle.mls_report.specs.StartInputs.{has_failed};
 ghost use Rattle.mls_report.specs.Replay.{message_limit, one_if, IsVerdict, ReportsPart, Replays, ReplaysGroupTo, ReplaysPart, ReplaysState, ReplaysStateTo, ReplaysStatePart};
-ghost use Rattle.mls_report.specs.ReplaySteps.{ReadsUndecided, ReportsMessage, StopsAt, FollowsLog, ReplaysLog, ReturnsAfter, WritesDecline, WritesDeclinePart};
+ghost use Rattle.mls_report.specs.ReplaySteps.{ReadsUndecided, ReportsMessage, StopsAtMessage, FollowsLog, ReplaysLog, ReturnsAfter, WritesDecline, WritesDeclinePart};
 ghost use Rattle.mls_report.specs.StartSteps.{Says};
 
 use crate::finding::report_finding;
@@ -54,7 +54,7 @@ impl Tally {
 pub(crate) fn next_record<L: Source>(reader: &mut Records, log: &mut L) -> Result<LogStep, RunFault>
     requires going { reader.old.is_over ≡ false }
     requires log { L.is_failed log.old ≡ false }
-    ensures meets { IfOk result (λ step.
+    ensures record_read { IfOk result (λ step.
         ReadsRecord (L.left log.old) (L.left log.new) reader.old.most reader.new.body (Ok step)) }
     ensures goes_on { IfOk result (λ step. ReaderAfter reader.old reader.new (Ok step)) }
     ensures undecided { OnErr result
@@ -82,8 +82,8 @@ fn write_message_line<K: Sink, C: SignatureCheck>(
     ensures printed { IfOk result
         (ReportsMessage (C.meaning (checker_of follower.old)) (state_of follower.old) n body.now
         (state_of follower.new) (K.written out.old) (K.written out.new)) }
-    ensures part { IfErr result
-        (StopsAt (C.meaning (checker_of follower.old)) (state_of follower.old) n body.now
+    ensures effect_on_error { IfErr result
+        (StopsAtMessage (C.meaning (checker_of follower.old)) (state_of follower.old) n body.now
         (K.written out.old) (K.written out.new)) }
     ensures write { (result ≡ Err RunFault.Write) ↔ (K.is_failed out.new ≡ true) }
     ensures checker { C.meaning (checker_of follower.new)
@@ -114,7 +114,7 @@ fn follow_log<L: Source, K: Sink, C: SignatureCheck>(
         (FollowsLog (C.meaning (checker_of follower.old)) (state_of follower.old)
         (L.left log.old) (L.left log.new) (K.written out.old) (K.written out.new)
         (state_of follower.new) tally.new.accepted tally.new.refused) }
-    ensures part { IfErr result
+    ensures effect_on_error { IfErr result
         (ReportsPart (C.meaning (checker_of follower.old)) (state_of follower.old)
         (L.left log.old) (L.left log.new) (K.written out.old) (K.written out.new)) }
     ensures checker { C.meaning (checker_of follower.new)
@@ -164,7 +164,7 @@ fn write_log_report<L: Source, K: Sink, C: SignatureCheck>(
         ReplaysLog (C.meaning (checker_of follower.old)) (state_of follower.old)
         (L.left log.old) (L.left log.new) (K.written out.old) (K.written out.new)
         verdict (state_of follower.new)) }
-    ensures part { IfErr result
+    ensures effect_on_error { IfErr result
         (ReportsPart (C.meaning (checker_of follower.old)) (state_of follower.old)
         (L.left log.old) (L.left log.new) (K.written out.old) (K.written out.new)) }
     ensures checker { C.meaning (checker_of follower.new)
@@ -206,7 +206,7 @@ fn replay_log<L: Source, K: Sink, C: SignatureCheck>(
         ReturnsAfter (C.meaning (checker_of follower)) (state_of follower)
         (L.left log.old) (L.left log.new) (K.written out.old) (K.written out.new)
         r.verdict (option_map (λ f. state_of f) r.follower)) }
-    ensures part { IfErr result
+    ensures effect_on_error { IfErr result
         (ReportsPart (C.meaning (checker_of follower)) (state_of follower)
         (L.left log.old) (L.left log.new) (K.written out.old) (K.written out.new)) }
     ensures checker { IfOk result (λ r. IfSome r.follower
@@ -236,7 +236,7 @@ pub(crate) fn decline<K: Sink>(
     requires own { Says (λ finding. Unit {0}) failure }
     requires out { K.is_failed out.old ≡ false }
     ensures printed { IfOk result (WritesDecline failure (K.written out.old) (K.written out.new)) }
-    ensures part { IfErr result
+    ensures effect_on_error { IfErr result
         (WritesDeclinePart failure (K.written out.old) (K.written out.new)) }
     ensures fault { IfErr result (λ e. e ≢ RunFault.Read) }
     ensures write { (result ≡ Err RunFault.Write) ↔ (K.is_failed out.new ≡ true) }
@@ -258,7 +258,7 @@ fn replay_nothing<K: Sink, C: SignatureCheck>(
     ensures printed { IfOk result (λ r.
         WritesDecline failure (K.written out.old) (K.written out.new) r.verdict) }
     ensures none { IfOk result (λ r. r.follower ≡ None) }
-    ensures part { IfErr result
+    ensures effect_on_error { IfErr result
         (WritesDeclinePart failure (K.written out.old) (K.written out.new)) }
     ensures fault { IfErr result (λ e. e ≢ RunFault.Read) }
     ensures write { (result ≡ Err RunFault.Write) ↔ (K.is_failed out.new ≡ true) }
@@ -311,7 +311,7 @@ pub fn replay_group_in<I: Source, T: Source, L: Source, K: Sink, C: SignatureChe
         r.verdict (option_map (λ f. state_of f) r.follower)) }
     ensures checker { IfOk result (λ r. IfSome r.follower
         (λ f. C.meaning (checker_of f) ≡ C.meaning checker)) }
-    ensures part { IfErr result
+    ensures effect_on_error { IfErr result
         (ReplaysPart profile (C.meaning checker) (I.left info.old) (I.left info.new)
         (option_map T.left tree.old) (option_map T.left tree.new)
         (L.left log.old) (L.left log.new) (K.written out.old) (K.written out.new)) }
@@ -352,7 +352,7 @@ pub fn replay_group<I: Source, T: Source, L: Source, K: Sink, C: SignatureCheck>
         r.verdict (option_map (λ f. state_of f) r.follower)) }
     ensures checker { IfOk result (λ r. IfSome r.follower
         (λ f. C.meaning (checker_of f) ≡ C.meaning checker)) }
-    ensures part { IfErr result
+    ensures effect_on_error { IfErr result
         (ReplaysPart Members (C.meaning checker) (I.left info.old) (I.left info.new)
         (option_map T.left tree.old) (option_map T.left tree.new)
         (L.left log.old) (L.left log.new) (K.written out.old) (K.written out.new)) }
@@ -388,7 +388,7 @@ pub fn replay_state<S: Source, L: Source, K: Sink, C: SignatureCheck>(
         r.verdict (option_map (λ f. state_of f) r.follower)) }
     ensures checker { IfOk result (λ r. IfSome r.follower
         (λ f. C.meaning (checker_of f) ≡ C.meaning checker)) }
-    ensures part { IfErr result
+    ensures effect_on_error { IfErr result
         (ReplaysStatePart (C.meaning checker) (S.left state.old) (S.left state.new)
         (L.left log.old) (L.left log.new) (K.written out.old) (K.written out.new)) }
     ensures read { (result ≡ Err RunFault.Read)
@@ -436,7 +436,7 @@ pub fn run_replay_in<I: Source, T: Source, L: Source, K: Sink, C: SignatureCheck
         (Replays profile (C.meaning checker) (I.left info.old) (I.left info.new)
         (option_map T.left tree.old) (option_map T.left tree.new)
         (L.left log.old) (L.left log.new) (K.written out.old) (K.written out.new)) }
-    ensures part { IfErr result
+    ensures effect_on_error { IfErr result
         (ReplaysPart profile (C.meaning checker) (I.left info.old) (I.left info.new)
         (option_map T.left tree.old) (option_map T.left tree.new)
         (L.left log.old) (L.left log.new) (K.written out.old) (K.written out.new)) }
@@ -470,7 +470,7 @@ pub fn run_replay<I: Source, T: Source, L: Source, K: Sink, C: SignatureCheck>(
         (Replays Members (C.meaning checker) (I.left info.old) (I.left info.new)
         (option_map T.left tree.old) (option_map T.left tree.new)
         (L.left log.old) (L.left log.new) (K.written out.old) (K.written out.new)) }
-    ensures part { IfErr result
+    ensures effect_on_error { IfErr result
         (ReplaysPart Members (C.meaning checker) (I.left info.old) (I.left info.new)
         (option_map T.left tree.old) (option_map T.left tree.new)
         (L.left log.old) (L.left log.new) (K.written out.old) (K.written out.new)) }
@@ -501,7 +501,7 @@ pub fn run_replay_state<S: Source, L: Source, K: Sink, C: SignatureCheck>(
     ensures replayed { IfOk result
         (ReplaysState (C.meaning checker) (S.left state.old) (S.left state.new)
         (L.left log.old) (L.left log.new) (K.written out.old) (K.written out.new)) }
-    ensures part { IfErr result
+    ensures effect_on_error { IfErr result
         (ReplaysStatePart (C.meaning checker) (S.left state.old) (S.left state.new)
         (L.left log.old) (L.left log.new) (K.written out.old) (K.written out.new)) }
     ensures read { (result ≡ Err RunFault.Read)

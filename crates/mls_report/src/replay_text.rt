@@ -108,7 +108,7 @@ pub(crate) fn processed_line<C: SignatureCheck>(
 }
 
 /// Returns the line of the counts.
-fn counts_line(
+fn log_counts_line(
     alloc: Global,
     accepted: u32,
     refused: u32,
@@ -116,7 +116,7 @@ fn counts_line(
     epoch: u64,
 ) -> Result<String, AllocError>
     ensures { IfOk result
-        (λ text. string_bytes text ≡ lines.counts_line accepted refused broken epoch) }
+        (λ text. string_bytes text ≡ lines.log_counts_line accepted refused broken epoch) }
 {
     format!(in alloc; "accepted {accepted} refused {refused} broken {broken} epoch {epoch}\n")
 }
@@ -141,9 +141,9 @@ pub(crate) fn last_lines(
         (λ text. string_bytes text ≡ lines.last_lines is_broken accepted refused epoch) }
 {
     if !is_broken {
-        return counts_line(alloc, accepted, refused, 0, epoch);
+        return log_counts_line(alloc, accepted, refused, 0, epoch);
     }
-    let counts = counts_line(alloc, accepted, refused, 1, epoch)?;
+    let counts = log_counts_line(alloc, accepted, refused, 1, epoch)?;
     let mut text = broken_line(alloc, accepted + refused + 1)?;
     text.push_str(counts.as_str())?;
     Ok(text)

@@ -1,7 +1,7 @@
 //! Reports that are made whole before they are written.
 
 ghost use Rattle.std.specs.Prelude.{◌≡◌, ◌++◌, codes, IfOk, string_bytes};
-ghost use Rattle.mls_report.specs.Show.{IsUnreadable};
+ghost use Rattle.mls_report.specs.Show.{IsUnreadableReport};
 ghost use Rattle.mls_report.specs.ValueTexts.{IsOneLine};
 
 use crate::verdict::Verdict;
@@ -40,7 +40,7 @@ fn unreadable_line(alloc: Global, fault: &str) -> Result<String, AllocError>
 /// Returns the report of an input that is not decodable.
 pub(crate) fn unreadable_report(alloc: Global, fault: &str) -> Result<Report, AllocError>
     requires { IsOneLine fault.now }
-    ensures { IfOk result (λ r. IsUnreadable r.bytes.items r.verdict) }
+    ensures { IfOk result (λ r. IsUnreadableReport r.bytes.items r.verdict) }
 {
     let line = unreadable_line(alloc, fault)?;
     Ok(Report::of_text(line, Verdict::No))

@@ -3,7 +3,7 @@
 ghost use Rattle.std.specs.Prelude.{◌≡◌, ◌≢◌, ◌↔◌, false, true, [], Err, IfOk, OnErr, IfErr};
 ghost use Rattle.std.specs.Io.KnownBytes.{Appends};
 ghost use Rattle.mls_msgs.specs.declared.profile.Profile.TheVariants.{Members};
-ghost use Rattle.mls_report.specs.Show.{InfoReport, IsShowReport, IsUnreadable, Shows, ShowsPart};
+ghost use Rattle.mls_report.specs.Show.{InfoReport, IsShowReport, IsUnreadableReport, Shows, ShowsPart};
 
 use crate::fault_text::{node_fault_text, wire_fault_text};
 use crate::info_text::info_text;
@@ -34,7 +34,7 @@ pub enum ShowKind {
 #[tactic(auto, using(crate::proofs::Lines::node_fault_is_one_line))]
 fn no_tree_report(alloc: Global, fault: NodeFault) -> Result<Report, RunFault>
     ensures report { IfOk result
-        (λ r. (fault ≢ NodeFault.OutOfMemory) × IsUnreadable r.bytes.items r.verdict) }
+        (λ r. (fault ≢ NodeFault.OutOfMemory) × IsUnreadableReport r.bytes.items r.verdict) }
     ensures memory { IfErr result (λ e. e ≡ RunFault.Memory) }
 {
     match fault {
@@ -67,7 +67,7 @@ fn tree_report(alloc: Global, bytes: Vec<u8>) -> Result<Report, RunFault>
 #[tactic(auto, using(crate::proofs::Lines::wire_fault_is_one_line))]
 fn no_message_report(alloc: Global, fault: CodecFault) -> Result<Report, RunFault>
     ensures report { IfOk result
-        (λ r. (fault ≢ CodecFault.OutOfMemory) × IsUnreadable r.bytes.items r.verdict) }
+        (λ r. (fault ≢ CodecFault.OutOfMemory) × IsUnreadableReport r.bytes.items r.verdict) }
     ensures memory { IfErr result (λ e. e ≡ RunFault.Memory) }
 {
     match fault {
@@ -165,7 +165,7 @@ pub fn run_show_in<S: Source, K: Sink>(
     requires out { K.is_failed out.old ≡ false }
     ensures shown { IfOk result
         (Shows profile kind (S.left input.old) (S.left input.new) (K.written out.old) (K.written out.new)) }
-    ensures part { OnErr result
+    ensures effect_on_error { OnErr result
         (ShowsPart profile kind (S.left input.old) (S.left input.new) (K.written out.old)
         (K.written out.new)) }
     ensures memory { result ≡ Err RunFault.Memory
@@ -190,7 +190,7 @@ pub fn run_show<S: Source, K: Sink>(
     requires out { K.is_failed out.old ≡ false }
     ensures shown { IfOk result
         (Shows Members kind (S.left input.old) (S.left input.new) (K.written out.old) (K.written out.new)) }
-    ensures part { OnErr result
+    ensures effect_on_error { OnErr result
         (ShowsPart Members kind (S.left input.old) (S.left input.new) (K.written out.old)
         (K.written out.new)) }
     ensures memory { result ≡ Err RunFault.Memory

@@ -83,7 +83,7 @@ fn write_signatures<R: SignatureCheck, K: Sink>(
     requires out { K.is_failed out.old ≡ false }
     ensures printed { IfOk result (WritesSignatures (R.meaning receipts.now) (state_of follower.old) n
         body.now (state_of follower.new) (K.written out.old) (K.written out.new)) }
-    ensures part { IfErr result (StopsInMessage (R.meaning receipts.now) (state_of follower.old) n
+    ensures effect_on_error { IfErr result (StopsInMessage (R.meaning receipts.now) (state_of follower.old) n
         body.now (K.written out.old) (K.written out.new)) }
     ensures write { (result ≡ Err RunFault.Write) ↔ (K.is_failed out.new ≡ true) }
 {
@@ -101,7 +101,7 @@ fn report_break<K: Sink>(alloc: Global, n: u32, out: &mut K) -> Result<Verdict, 
     requires { K.is_failed out.old ≡ false }
     ensures printed { IfOk result (λ verdict. (verdict ≡ Verdict.No)
         × Appends (K.written out.old) (K.written out.new) (decimal n ++ codes " broken\n")) }
-    ensures part { OnErr result
+    ensures effect_on_error { OnErr result
         (AppendsPrefix (K.written out.old) (K.written out.new) (decimal n ++ codes " broken\n")) }
     ensures memory { result ≡ Err RunFault.Memory
         → Appends (K.written out.old) (K.written out.new) [] }
@@ -132,7 +132,7 @@ pub(crate) fn write_signature_log<L: Source, R: SignatureCheck, K: Sink>(
     requires out { K.is_failed out.old ≡ false }
     ensures printed { IfOk result (ReportsSignatureLog (R.meaning receipts.now) (state_of follower.old)
         (L.left log.old) (L.left log.new) (K.written out.old) (K.written out.new)) }
-    ensures part { IfErr result (SignatureLogPart (R.meaning receipts.now) (state_of follower.old)
+    ensures effect_on_error { IfErr result (SignatureLogPart (R.meaning receipts.now) (state_of follower.old)
         (L.left log.old) (L.left log.new) (K.written out.old) (K.written out.new)) }
     ensures read { (result ≡ Err RunFault.Read) ↔ (L.is_failed log.new ≡ true) }
     ensures write { (result ≡ Err RunFault.Write) ↔ (K.is_failed out.new ≡ true) }

@@ -39,7 +39,7 @@ fn report_started<L: Source, R: SignatureCheck, K: Sink>(
         (info_signatures.items ++ state_signatures (state_of follower.old))
         (option_map L.left log.old) (option_map L.left log.new)
         (K.written out.old) (K.written out.new)) }
-    ensures part { IfErr result
+    ensures effect_on_error { IfErr result
         (BehindPart (R.meaning receipts.now) (state_of follower.old)
         (info_signatures.items ++ state_signatures (state_of follower.old))
         (option_map L.left log.old) (option_map L.left log.new)
@@ -70,7 +70,7 @@ fn report_resumed<L: Source, R: SignatureCheck, K: Sink>(
         (signatures_of_state (state_of follower.old))
         (option_map L.left log.old) (option_map L.left log.new)
         (K.written out.old) (K.written out.new)) }
-    ensures part { IfErr result
+    ensures effect_on_error { IfErr result
         (BehindPart (R.meaning receipts.now) (state_of follower.old)
         (signatures_of_state (state_of follower.old))
         (option_map L.left log.old) (option_map L.left log.new)
@@ -123,7 +123,7 @@ pub fn run_signatures_in<I: Source, T: Source, L: Source, R: SignatureCheck, K: 
         (option_map T.left tree.old) (option_map T.left tree.new)
         (option_map L.left log.old) (option_map L.left log.new)
         (K.written out.old) (K.written out.new)) }
-    ensures part { IfErr result
+    ensures effect_on_error { IfErr result
         (SignaturesPart profile (R.meaning receipts.now) (I.left info.old) (I.left info.new)
         (option_map T.left tree.old) (option_map T.left tree.new)
         (option_map L.left log.old) (option_map L.left log.new)
@@ -169,7 +169,7 @@ pub fn run_signatures<I: Source, T: Source, L: Source, R: SignatureCheck, K: Sin
         (option_map T.left tree.old) (option_map T.left tree.new)
         (option_map L.left log.old) (option_map L.left log.new)
         (K.written out.old) (K.written out.new)) }
-    ensures part { IfErr result
+    ensures effect_on_error { IfErr result
         (SignaturesPart Members (R.meaning receipts.now) (I.left info.old) (I.left info.new)
         (option_map T.left tree.old) (option_map T.left tree.new)
         (option_map L.left log.old) (option_map L.left log.new)
@@ -206,7 +206,7 @@ pub fn run_signatures_state<S: Source, L: Source, R: SignatureCheck, K: Sink>(
         (SignaturesState (R.meaning receipts.now) (S.left state.old) (S.left state.new)
         (option_map L.left log.old) (option_map L.left log.new)
         (K.written out.old) (K.written out.new)) }
-    ensures part { IfErr result
+    ensures effect_on_error { IfErr result
         (SignaturesStatePart (R.meaning receipts.now) (S.left state.old) (S.left state.new)
         (option_map L.left log.old) (option_map L.left log.new)
         (K.written out.old) (K.written out.new)) }

@@ -26,7 +26,7 @@ fn write_lines<R: SignatureCheck, K: Sink>(
     requires { K.is_failed out.old ≡ false }
     ensures all { OnOk result (Appends (K.written out.old) (K.written out.new)
         (needed_lines (R.meaning receipts.now) signatures.now)) }
-    ensures part { IfErr result (StopsInLines (needed_lines (R.meaning receipts.now)) signatures.now
+    ensures effect_on_error { IfErr result (StopsInLines (needed_lines (R.meaning receipts.now)) signatures.now
         (K.written out.old) (K.written out.new)) }
     ensures write { (result ≡ Err RunFault.Write) ↔ (K.is_failed out.new ≡ true) }
 {
@@ -45,7 +45,7 @@ fn write_leaf_lines<R: SignatureCheck, K: Sink>(
     requires { K.is_failed out.old ≡ false }
     ensures all { OnOk result (Appends (K.written out.old) (K.written out.new)
         (needed_lines (R.meaning receipts.now) (signatures_of_leaf (state_of follower.now) index))) }
-    ensures part { IfErr result (StopsInLines (needed_lines (R.meaning receipts.now))
+    ensures effect_on_error { IfErr result (StopsInLines (needed_lines (R.meaning receipts.now))
         (signatures_of_leaf (state_of follower.now) index)
         (K.written out.old) (K.written out.new)) }
     ensures write { (result ≡ Err RunFault.Write) ↔ (K.is_failed out.new ≡ true) }
@@ -69,7 +69,7 @@ pub(crate) fn write_tree_lines<R: SignatureCheck, K: Sink>(
     requires { K.is_failed out.old ≡ false }
     ensures all { OnOk result (Appends (K.written out.old) (K.written out.new)
         (needed_lines (R.meaning receipts.now) (state_signatures (state_of follower.now)))) }
-    ensures part { IfErr result (StopsInLines (needed_lines (R.meaning receipts.now))
+    ensures effect_on_error { IfErr result (StopsInLines (needed_lines (R.meaning receipts.now))
         (state_signatures (state_of follower.now)) (K.written out.old) (K.written out.new)) }
     ensures write { (result ≡ Err RunFault.Write) ↔ (K.is_failed out.new ≡ true) }
 {
@@ -91,7 +91,7 @@ pub(crate) fn write_start_lines<R: SignatureCheck, K: Sink>(
     ensures all { OnOk result (Appends (K.written out.old) (K.written out.new)
         (needed_lines (R.meaning receipts.now)
         (info_signatures.items ++ state_signatures (state_of follower.now)))) }
-    ensures part { IfErr result (StopsInLines (needed_lines (R.meaning receipts.now))
+    ensures effect_on_error { IfErr result (StopsInLines (needed_lines (R.meaning receipts.now))
         (info_signatures.items ++ state_signatures (state_of follower.now))
         (K.written out.old) (K.written out.new)) }
     ensures write { (result ≡ Err RunFault.Write) ↔ (K.is_failed out.new ≡ true) }
@@ -112,7 +112,7 @@ fn write_line<R: SignatureCheck, K: Sink>(
     requires { K.is_failed out.old ≡ false }
     ensures all { OnOk result (Appends (K.written out.old) (K.written out.new)
         (needed_lines (R.meaning receipts.now) (signature.now ∷ []))) }
-    ensures part { IfErr result (StopsInLines (needed_lines (R.meaning receipts.now))
+    ensures effect_on_error { IfErr result (StopsInLines (needed_lines (R.meaning receipts.now))
         (signature.now ∷ []) (K.written out.old) (K.written out.new)) }
     ensures write { (result ≡ Err RunFault.Write) ↔ (K.is_failed out.new ≡ true) }
 {
@@ -131,7 +131,7 @@ fn write_each_line<R: SignatureCheck, K: Sink>(
     requires { K.is_failed out.old ≡ false }
     ensures all { OnOk result (Appends (K.written out.old) (K.written out.new)
         (needed_lines (R.meaning receipts.now) signatures.now)) }
-    ensures part { IfErr result (StopsInLines (needed_lines (R.meaning receipts.now)) signatures.now
+    ensures effect_on_error { IfErr result (StopsInLines (needed_lines (R.meaning receipts.now)) signatures.now
         (K.written out.old) (K.written out.new)) }
     ensures write { (result ≡ Err RunFault.Write) ↔ (K.is_failed out.new ≡ true) }
 {
@@ -152,7 +152,7 @@ pub(crate) fn write_resumption_lines<R: SignatureCheck, K: Sink>(
     requires { K.is_failed out.old ≡ false }
     ensures all { OnOk result (Appends (K.written out.old) (K.written out.new)
         (needed_lines (R.meaning receipts.now) (signatures_of_state (state_of follower.now)))) }
-    ensures part { IfErr result (StopsInLines (needed_lines (R.meaning receipts.now))
+    ensures effect_on_error { IfErr result (StopsInLines (needed_lines (R.meaning receipts.now))
         (signatures_of_state (state_of follower.now)) (K.written out.old) (K.written out.new)) }
     ensures write { (result ≡ Err RunFault.Write) ↔ (K.is_failed out.new ≡ true) }
 {

@@ -119,7 +119,7 @@ fn leaf_count(tree: &PublicTree) -> u32
 
 /// Appends the line of the counts.
 fn put_counts(out: &mut Vec<u8>, leaves: u32, members: u32) -> Result<(), AllocError>
-    ensures { OnOk result (out.new.items ≡ out.old.items ++ lines.count_line leaves members) }
+    ensures { OnOk result (out.new.items ≡ out.old.items ++ lines.tree_counts_line leaves members) }
 {
     put_text(out, "leaves ")?;
     put_number(out, leaves as usize)?;

@@ -40,7 +40,7 @@ pub fn run_unreadable_receipts<K: Sink>(
 ) -> Result<Verdict, RunFault>
     requires { K.is_failed out.old ≡ false }
     ensures printed { IfOk result (ReportsReceipts fault (K.written out.old) (K.written out.new)) }
-    ensures part { OnErr result
+    ensures effect_on_error { OnErr result
         (AppendsPrefix (K.written out.old) (K.written out.new) (reports.receipts_line fault)) }
     ensures memory { result ≡ Err RunFault.Memory
         → Appends (K.written out.old) (K.written out.new) [] }

@@ -101,7 +101,7 @@ pub fn run_validate_in<I: Source, T: Source, K: Sink, C: SignatureCheck>(
         (Validates profile (C.meaning checker) (I.left info.old) (I.left info.new)
         (option_map T.left tree.old) (option_map T.left tree.new)
         (K.written out.old) (K.written out.new)) }
-    ensures part { OnErr result
+    ensures effect_on_error { OnErr result
         (ValidatesPart profile (C.meaning checker) (I.left info.old) (I.left info.new)
         (option_map T.left tree.old) (option_map T.left tree.new)
         (K.written out.old) (K.written out.new)) }
@@ -135,7 +135,7 @@ pub fn run_validate<I: Source, T: Source, K: Sink, C: SignatureCheck>(
         (Validates Members (C.meaning checker) (I.left info.old) (I.left info.new)
         (option_map T.left tree.old) (option_map T.left tree.new)
         (K.written out.old) (K.written out.new)) }
-    ensures part { OnErr result
+    ensures effect_on_error { OnErr result
         (ValidatesPart Members (C.meaning checker) (I.left info.old) (I.left info.new)
         (option_map T.left tree.old) (option_map T.left tree.new)
         (K.written out.old) (K.written out.new)) }
@@ -167,7 +167,7 @@ pub fn run_validate_state<S: Source, K: Sink, C: SignatureCheck>(
     ensures validated { IfOk result
         (ValidatesState (C.meaning checker) (S.left state.old) (S.left state.new)
         (K.written out.old) (K.written out.new)) }
-    ensures part { OnErr result
+    ensures effect_on_error { OnErr result
         (ValidatesStatePart (C.meaning checker) (S.left state.old) (S.left state.new)
         (K.written out.old) (K.written out.new)) }
     ensures memory { result ≡ Err RunFault.Memory

@@ -25,7 +25,7 @@ fn check_parsed_tree<C: SignatureCheck>(
     tree: &PublicTree,
     checker: &C,
 ) -> Result<Finding, RunFault>
-    requires followed { IsSupportedContext context.now }
+    requires supported { IsSupportedContext context.now }
     requires suite_of_context { suite ≡ context.now.cipher_suite }
     ensures found { (context_bytes tree_bytes : List ℕ) → IsContext context_bytes context.now
         → IsTreeOf tree_bytes (plain tree.now)
@@ -52,7 +52,7 @@ fn check_tree_bytes<C: SignatureCheck>(
     tree_bytes: Vec<u8>,
     checker: &C,
 ) -> Result<Finding, RunFault>
-    requires followed { IsSupportedContext context.now }
+    requires supported { IsSupportedContext context.now }
     requires suite_of_context { suite ≡ context.now.cipher_suite }
     ensures found { (context_bytes : List ℕ) → IsContext context_bytes context.now
         → IfOk result (IsTreeFinding (C.meaning checker.now) context_bytes tree_bytes.items) }
@@ -131,7 +131,7 @@ pub fn run_validate_tree<I: Source, T: Source, K: Sink, C: SignatureCheck>(
     ensures validated { IfOk result
         (ValidatesTree (C.meaning checker.now) (I.left context.old) (I.left context.new)
         (T.left tree.old) (T.left tree.new) (K.written out.old) (K.written out.new)) }
-    ensures part { OnErr result
+    ensures effect_on_error { OnErr result
         (ValidatesTreePart (C.meaning checker.now) (I.left context.old) (I.left context.new)
         (T.left tree.old) (T.left tree.new) (K.written out.old) (K.written out.new)) }
     ensures memory { result ≡ Err RunFault.Memory

@@ -11,7 +11,7 @@ use mls_wire::{DeviceFault, Sink, write_all};
 pub fn write_bytes<K: Sink>(out: &mut K, bytes: &[u8]) -> Result<(), RunFault>
     requires { K.is_failed out.old ≡ false }
     ensures all { OnOk result (Appends (K.written out.old) (K.written out.new) bytes.now) }
-    ensures part { OnErr result (AppendsPrefix (K.written out.old) (K.written out.new) bytes.now) }
+    ensures effect_on_error { OnErr result (AppendsPrefix (K.written out.old) (K.written out.new) bytes.now) }
     ensures fault { IfErr result (λ e. e ≡ RunFault.Write) }
     ensures write { (result ≡ Err RunFault.Write) ↔ (K.is_failed out.new ≡ true) }
 {
@@ -25,7 +25,7 @@ pub fn write_bytes<K: Sink>(out: &mut K, bytes: &[u8]) -> Result<(), RunFault>
 pub fn write_text<K: Sink>(out: &mut K, text: &str) -> Result<(), RunFault>
     requires { K.is_failed out.old ≡ false }
     ensures all { OnOk result (Appends (K.written out.old) (K.written out.new) text.now) }
-    ensures part { OnErr result (AppendsPrefix (K.written out.old) (K.written out.new) text.now) }
+    ensures effect_on_error { OnErr result (AppendsPrefix (K.written out.old) (K.written out.new) text.now) }
     ensures fault { IfErr result (λ e. e ≡ RunFault.Write) }
     ensures write { (result ≡ Err RunFault.Write) ↔ (K.is_failed out.new ≡ true) }
 {

@@ -232,7 +232,7 @@ fn receipts_name(checker: &CheckerChoice) -> &str {
     match checker {
         CheckerChoice::Trust => "-",
         CheckerChoice::Receipts(file) => file.as_str(),
-        CheckerChoice::Nobody => "none",
+        CheckerChoice::NoReceipts => "none",
     }
 }
 

@@ -31,7 +31,7 @@ use Rattle.mls_apply.specs.Outline.{IsApart, AreAt, IsOutline}
 use Rattle.mls_apply.proofs.Adding.{no_add, same_members}
 use Rattle.mls_apply.proofs.Updating.{next_item}
 use Rattle.mls_apply.proofs.AddedLeaves.{outcome_members}
-use Rattle.mls_signatures.specs.AddedLeaves.{reference_of, reference_at, leaf_of, leaf_in, NamesAre, HasNames, indices, leaf_nodes, name_of, AreAdded, IsNamedBy, AreNamedBy, AreNamedAlike, IsAfter, IsMapOf, added_signatures, is_from_key_package, IsRepeat, Extends}
+use Rattle.mls_signatures.specs.AddedLeaves.{reference_of_entry, reference_at, leaf_of_add, leaf_in, NamesAre, HasNames, indices, leaf_nodes, name_of, AreAdded, IsNamedBy, AreNamedBy, AreNamedAlike, IsAfter, IsMapOf, added_signatures, is_from_key_package, IsRepeat, AppendsSignatures}
 use Rattle.mls_signatures.specs.SignaturesToVerify.{labeled_signatures, leaf_signatures, non_blank_leaf_signatures, signatures_at}
 use Rattle.mls_signatures.specs.declared.added_leaves.AddedLeaf.{AddedLeaf}
 use Rattle.mls_signatures.specs.declared.signature_to_verify.SignatureToVerify.{SignatureToVerify}
@@ -39,9 +39,9 @@ use Rattle.mls_signatures.proofs.Repeats.{AllMet, all_front, all_behind, all_its
 
 -- ---- references
 
-pub reference_there : (es : List ProposalOrRef) (i : ℕ) (e : ProposalOrRef) → i < length es → e ≡ get_or es i e → reference_of e ≡ reference_at es i
+pub reference_there : (es : List ProposalOrRef) (i : ℕ) (e : ProposalOrRef) → i < length es → e ≡ get_or es i e → reference_of_entry e ≡ reference_at es i
 reference_there [] i e low is = absurd (omega arith)
-reference_there (x ∷ xs) zero e low is = ap reference_of is
+reference_there (x ∷ xs) zero e low is = ap reference_of_entry is
 reference_there (x ∷ xs) (suc i) e low is = reference_there xs i e (omega arith) is
 
 pub reference_past : (es : List ProposalOrRef) (i : ℕ) → length es ≤ i → None ≡ reference_at es i
@@ -51,14 +51,14 @@ reference_past (x ∷ xs) (suc i) past = reference_past xs i (omega arith)
 
 -- the leaf node that a reference stands for
 abbrev leaf_known : List KnownProposal → List ℕ → Option LeafNode
-leaf_known known r = option_and_then (λ (x : ListItem). leaf_of x.proposal) (option_map item_of (find_known known r))
+leaf_known known r = option_and_then (λ (x : ListItem). leaf_of_add x.proposal) (option_map item_of (find_known known r))
 
-entry_named : (committer : Sender) (known : List KnownProposal) (y : ProposalOrRef) (it : ListItem) (r : List ℕ) → entry_item committer known y ≡ Some it → reference_of y ≡ Some r
-    → leaf_known known r ≡ leaf_of it.proposal
+entry_named : (committer : Sender) (known : List KnownProposal) (y : ProposalOrRef) (it : ListItem) (r : List ℕ) → entry_item committer known y ≡ Some it → reference_of_entry y ≡ Some r
+    → leaf_known known r ≡ leaf_of_add it.proposal
 entry_named committer known (entries.Proposal p) it r is at = absurd (none-some r at)
 entry_named committer known (entries.Reference s) it r is at =
-    ap (λ n. option_and_then (λ (z : ListItem). leaf_of z.proposal) (option_map item_of (find_known known n))) (sym (same_Some s r at))
-    ∙ ap (option_and_then (λ (z : ListItem). leaf_of z.proposal)) is
+    ap (λ n. option_and_then (λ (z : ListItem). leaf_of_add z.proposal) (option_map item_of (find_known known n))) (sym (same_Some s r at))
+    ∙ ap (option_and_then (λ (z : ListItem). leaf_of_add z.proposal)) is
 
 names_more : (committer : Sender) (known : List KnownProposal) (x : ProposalOrRef) (xs : List ProposalOrRef) (it : ListItem) (more : List ListItem)
     → entry_item committer known x ≡ Some it → NamesAre (leaf_known known) xs more → NamesAre (leaf_known known) (x ∷ xs) (it ∷ more)
@@ -86,9 +86,9 @@ resolved_names committer known es items e = record { leaf_named = leaf_known kno
 
 -- ---- a walk along the list
 
-leaf_in-at : (items : List ListItem) (i : ℕ) (x : ListItem) → i < length items → x ≡ get_or items i x → leaf_in items i ≡ leaf_of x.proposal
+leaf_in-at : (items : List ListItem) (i : ℕ) (x : ListItem) → i < length items → x ≡ get_or items i x → leaf_in items i ≡ leaf_of_add x.proposal
 leaf_in-at [] i x low is = absurd (omega arith)
-leaf_in-at (y ∷ ys) zero x low is = ap (λ (z : ListItem). leaf_of z.proposal) (sym is)
+leaf_in-at (y ∷ ys) zero x low is = ap (λ (z : ListItem). leaf_of_add z.proposal) (sym is)
 leaf_in-at (y ∷ ys) (suc i) x low is = leaf_in-at ys i x (omega arith) is
 
 named_more : (F : List ℕ → Option LeafNode) (xs : List AddedLeaf) (y : AddedLeaf) → AreNamedBy F xs → IsNamedBy F y → AreNamedBy F (xs ++ y ∷ [])
@@ -158,7 +158,7 @@ module _ (es : List ProposalOrRef) (items : List ListItem) (added : List ℕ) wh
               ∙ k.nodes;
           named = λ F n.
               named_more F leaves y (k.named F n)
-              (λ r f. n i r (ap (reference_at es) (sym k.at) ∙ sym name ∙ f) ∙ leaf_in-at items i x low is ∙ ap leaf_of e ∙ ap Some (sym node));
+              (λ r f. n i r (ap (reference_at es) (sym k.at) ∙ sym name ∙ f) ∙ leaf_in-at items i x low is ∙ ap leaf_of_add e ∙ ap Some (sym node));
         }
 
     module _ (i position : ℕ) (leaves : List AddedLeaf) (k : Collecting i position leaves) (past : length items ≤ i) where
@@ -275,7 +275,7 @@ module _ (suite : ℕ) (group_id : List ℕ) where
 
   -- where a walk along leaf indices stands, before position i
   pub record Walked (t : Tree) (old : List SignatureToVerify) (js : List ℕ) (i : ℕ) (list : List SignatureToVerify) (seen : set.BTreeSet ℕ) : Type 0 where
-    pub same : Extends old (signatures_at suite group_id t (take i js)) list
+    pub same : AppendsSignatures old (signatures_at suite group_id t (take i js)) list
     pub met : (x : ℕ) → set.contains nat_cmp seen x ≡ true → AllMet (old ++ signatures_at suite group_id t (take i js)) (of_index t x)
 
   pub walked-start : (t : Tree) (old : List SignatureToVerify) (js : List ℕ) (seen : set.BTreeSet ℕ) → set.IsEmpty seen → Walked t old js 0 old seen
@@ -309,20 +309,20 @@ module _ (suite : ℕ) (group_id : List ℕ) where
       -- a new index
       pub walked-push : (new : List SignatureToVerify) → new ≡ list ++ of_index t (get_or js i 0) → Walked t old js (i + 1) new next
       walked-push new e = record {
-        same = subst (λ ws. Extends old ws new) (sym more) (extends-push old before list known.same (of_index t (get_or js i 0)) new e);
+        same = subst (λ ws. AppendsSignatures old ws new) (sym more) (extends-push old before list known.same (of_index t (get_or js i 0)) new e);
         met = λ x c. subst (λ ws. AllMet (old ++ ws) (of_index t x)) (sym more) (met_next x c);
       }
 
       -- an index that came before
       pub walked-skip : set.contains nat_cmp seen (get_or js i 0) ≡ true → Walked t old js (i + 1) list next
       walked-skip e = record {
-        same = subst (λ ws. Extends old ws list) (sym more) (extends-skip old before list known.same (of_index t (get_or js i 0)) (known.met (get_or js i 0) e));
+        same = subst (λ ws. AppendsSignatures old ws list) (sym more) (extends-skip old before list known.same (of_index t (get_or js i 0)) (known.met (get_or js i 0) e));
         met = λ x c. subst (λ ws. AllMet (old ++ ws) (of_index t x)) (sym more) (met_next x c);
       }
 
   pub walked-all : (t : Tree) (old : List SignatureToVerify) (js : List ℕ) (i : ℕ) (list : List SignatureToVerify) (seen : set.BTreeSet ℕ) → Walked t old js i list seen
-      → length js ≤ i → Extends old (signatures_at suite group_id t js) list
-  walked-all t old js i list seen known past = subst (λ ks. Extends old (signatures_at suite group_id t ks) list) (take_all i js past) known.same
+      → length js ≤ i → AppendsSignatures old (signatures_at suite group_id t js) list
+  walked-all t old js i list seen known past = subst (λ ks. AppendsSignatures old (signatures_at suite group_id t ks) list) (take_all i js past) known.same
 
   -- ---- those of the added leaves
 
@@ -366,18 +366,18 @@ module _ (suite : ℕ) (group_id : List ℕ) where
   named-at F (x ∷ xs) (suc k) y h is = named-at F xs k y h.1 is
 
   module _ (old : List SignatureToVerify) (xs : List AddedLeaf) (i : ℕ) (list : List SignatureToVerify)
-      (known : Extends old (added_signatures suite group_id (take i xs)) list) (x : AddedLeaf) (low : i < length xs) (is : x ≡ get_or xs i x) where
+      (known : AppendsSignatures old (added_signatures suite group_id (take i xs)) list) (x : AddedLeaf) (low : i < length xs) (is : x ≡ get_or xs i x) where
     next : added_signatures suite group_id (take (i + 1) xs) ≡ added_signatures suite group_id (take i xs) ++ of_leaf x
     next =
         ap (added_signatures suite group_id) (take_more xs i x low ∙ ap (λ (y : AddedLeaf). take i xs ++ y ∷ []) (sym is))
         ∙ added_signatures-more (take i xs) x
 
     -- one more
-    pub added-push : (new : List SignatureToVerify) → new ≡ list ++ of_leaf x → Extends old (added_signatures suite group_id (take (i + 1) xs)) new
-    added-push new e = subst (λ ws. Extends old ws new) (sym next) (extends-push old (added_signatures suite group_id (take i xs)) list known (of_leaf x) new e)
+    pub added-push : (new : List SignatureToVerify) → new ≡ list ++ of_leaf x → AppendsSignatures old (added_signatures suite group_id (take (i + 1) xs)) new
+    added-push new e = subst (λ ws. AppendsSignatures old ws new) (sym next) (extends-push old (added_signatures suite group_id (take i xs)) list known (of_leaf x) new e)
 
     -- one that came before
-    pub added-skip : AreNamedAlike xs → IsRepeat xs i → Extends old (added_signatures suite group_id (take (i + 1) xs)) list
+    pub added-skip : AreNamedAlike xs → IsRepeat xs i → AppendsSignatures old (added_signatures suite group_id (take (i + 1) xs)) list
     added-skip alike repeat =
         let here : repeat.here ≡ x = same_Some repeat.here x (sym repeat.is_here ∙ at_place xs i x low is) in
         let one = named-at alike.leaf_named xs repeat.at repeat.there alike.are repeat.is_there repeat.named.name repeat.named.first in
@@ -389,20 +389,20 @@ module _ (suite : ℕ) (group_id : List ℕ) where
         ∙ ap of_leaf here in
         let met : AllMet (added_signatures suite group_id (take i xs)) (of_leaf x) =
         subst (AllMet (added_signatures suite group_id (take i xs))) same (met-before xs i repeat.at repeat.there repeat.before repeat.is_there) in
-        subst (λ ws. Extends old ws list) (sym next)
+        subst (λ ws. AppendsSignatures old ws list) (sym next)
         (extends-skip old (added_signatures suite group_id (take i xs)) list known (of_leaf x) (all_behind old (added_signatures suite group_id (take i xs)) (of_leaf x) met))
 
   pub added-all : (old : List SignatureToVerify) (xs : List AddedLeaf) (i : ℕ) (list : List SignatureToVerify)
-      → Extends old (added_signatures suite group_id (take i xs)) list → length xs ≤ i → Extends old (added_signatures suite group_id xs) list
-  added-all old xs i list known past = subst (λ ys. Extends old (added_signatures suite group_id ys) list) (take_all i xs past) known
+      → AppendsSignatures old (added_signatures suite group_id (take i xs)) list → length xs ≤ i → AppendsSignatures old (added_signatures suite group_id xs) list
+  added-all old xs i list known past = subst (λ ys. AppendsSignatures old (added_signatures suite group_id ys) list) (take_all i xs past) known
 
   -- those of the replaced leaves, of the added ones, and others
   pub all_extends : (t : Tree) (js : List ℕ) (xs : List AddedLeaf) → AreAdded t xs → (old first next new rest : List SignatureToVerify)
-      → Extends old (signatures_at suite group_id t js) first → Extends first (added_signatures suite group_id xs) next → new ≡ next ++ rest
-      → Extends old (signatures_at suite group_id t (js ++ indices xs) ++ rest) new
+      → AppendsSignatures old (signatures_at suite group_id t js) first → AppendsSignatures first (added_signatures suite group_id xs) next → new ≡ next ++ rest
+      → AppendsSignatures old (signatures_at suite group_id t (js ++ indices xs) ++ rest) new
   all_extends t js xs added old first next new rest e f g =
       let replaced = signatures_at suite group_id t js in
       let both = extends-more old replaced first e (added_signatures suite group_id xs) next f in
-      subst (λ ws. Extends old (ws ++ rest) new)
+      subst (λ ws. AppendsSignatures old (ws ++ rest) new)
       (ap (λ ws. replaced ++ ws) (added-are t xs added) ∙ sym (signatures_at-both t js (indices xs)))
       (extends-push old (replaced ++ added_signatures suite group_id xs) next both rest new g)

@@ -8,7 +8,7 @@ use Rattle.std.proofs.lemmas.Slice.Eq.{bytes_eq-Decides}
 use Rattle.mls_check.specs.Signatures.{VerifyFn}
 use Rattle.mls_check.proofs.Elements.{and-left, and-right}
 use Rattle.mls_signatures.specs.Agreement.{Agrees, AgreeOn}
-use Rattle.mls_signatures.specs.SignaturesToVerify.{is_same, without, deduplicated}
+use Rattle.mls_signatures.specs.SignaturesToVerify.{is_same, without_signature, deduplicated}
 use Rattle.mls_signatures.specs.declared.signature_to_verify.SignatureToVerify.{SignatureToVerify}
 
 same_parts : (a b : SignatureToVerify) → a.suite ≡ b.suite → a.key ≡ b.key → a.content ≡ b.content → a.signature ≡ b.signature → a ≡ b
@@ -37,27 +37,27 @@ module _ (G K : VerifyFn) where
   back [] ys h = h
   back (x ∷ xs) ys h = back xs ys (All-tail (Agrees G K) x (xs ++ ys) h)
 
-  back_in : (a q : SignatureToVerify) (qs : List SignatureToVerify) → Agrees G K a → (AgreeOn G K (without a qs) → AgreeOn G K qs)
-      → (b : Bool) → is_same a q ≡ b → AgreeOn G K (cond (not b) (q ∷ without a qs) (without a qs)) → AgreeOn G K (q ∷ qs)
+  back_in : (a q : SignatureToVerify) (qs : List SignatureToVerify) → Agrees G K a → (AgreeOn G K (without_signature a qs) → AgreeOn G K qs)
+      → (b : Bool) → is_same a q ≡ b → AgreeOn G K (cond (not b) (q ∷ without_signature a qs) (without_signature a qs)) → AgreeOn G K (q ∷ qs)
   back_in a q qs here rest true e h = All-cons (Agrees G K) q qs (subst (λ r. Agrees G K r) (same_is a q e) here) (rest h)
   back_in a q qs here rest false e h =
-      All-cons (Agrees G K) q qs (All-head (Agrees G K) q (without a qs) h) (rest (All-tail (Agrees G K) q (without a qs) h))
+      All-cons (Agrees G K) q qs (All-head (Agrees G K) q (without_signature a qs) h) (rest (All-tail (Agrees G K) q (without_signature a qs) h))
 
   -- what is left out is the same as one that they answer alike
-  with_same : (a : SignatureToVerify) (qs : List SignatureToVerify) → Agrees G K a → AgreeOn G K (without a qs) → AgreeOn G K qs
+  with_same : (a : SignatureToVerify) (qs : List SignatureToVerify) → Agrees G K a → AgreeOn G K (without_signature a qs) → AgreeOn G K qs
   with_same a [] here h = h
   with_same a (q ∷ qs) here h = back_in a q qs here (with_same a qs here) (is_same a q) refl h
 
   pub from_deduplicated : (qs : List SignatureToVerify) → AgreeOn G K (deduplicated qs) → AgreeOn G K qs
   from_deduplicated [] h = h
   from_deduplicated (q ∷ qs) h =
-      let here = All-head (Agrees G K) q (without q (deduplicated qs)) h in
-      All-cons (Agrees G K) q qs here (from_deduplicated qs (with_same q (deduplicated qs) here (All-tail (Agrees G K) q (without q (deduplicated qs)) h)))
+      let here = All-head (Agrees G K) q (without_signature q (deduplicated qs)) h in
+      All-cons (Agrees G K) q qs here (from_deduplicated qs (with_same q (deduplicated qs) here (All-tail (Agrees G K) q (without_signature q (deduplicated qs)) h)))
 
   pub to_deduplicated : (qs : List SignatureToVerify) → AgreeOn G K qs → AgreeOn G K (deduplicated qs)
   to_deduplicated [] h = h
   to_deduplicated (q ∷ qs) h =
-      All-cons (Agrees G K) q (without q (deduplicated qs)) (All-head (Agrees G K) q qs h)
+      All-cons (Agrees G K) q (without_signature q (deduplicated qs)) (All-head (Agrees G K) q qs h)
       (All-filter (λ r. not (is_same q r)) (Agrees G K) (deduplicated qs) (to_deduplicated qs (All-tail (Agrees G K) q qs h)))
 
 pub duplicates_are_irrelevant : (G K : VerifyFn) (qs : List SignatureToVerify) → AgreeOn G K (deduplicated qs) ↔ AgreeOn G K qs

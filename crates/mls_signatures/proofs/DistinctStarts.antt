@@ -21,7 +21,7 @@ use Rattle.mls_msgs.specs.declared.group_info.GroupInfo.{GroupInfo}
 use Rattle.mls_signatures.proofs.Agreement.{same_is}
 use Rattle.mls_signatures.proofs.LeafLists.{of_leaf_in, signatures_below, tree-joined}
 use Rattle.mls_signatures.specs.DistinctStarts.{StartSignaturesAreDistinct}
-use Rattle.mls_signatures.specs.SignaturesToVerify.{sign_content_signatures, labeled_signatures, info_signatures, non_blank_leaf_signatures, tree_signatures, is_same, without, deduplicated, is_supported}
+use Rattle.mls_signatures.specs.SignaturesToVerify.{sign_content_signatures, labeled_signatures, info_signatures, non_blank_leaf_signatures, tree_signatures, is_same, without_signature, deduplicated, is_supported}
 use Rattle.mls_signatures.specs.declared.signature_to_verify.SignatureToVerify.{SignatureToVerify}
 
 -- ---- lists without duplicates
@@ -38,16 +38,16 @@ kept : (b : Bool) (r : SignatureToVerify) (rs : List SignatureToVerify) → b �
 kept true r rs e = absurd cc
 kept false r rs e = refl
 
-without_fresh : (q : SignatureToVerify) (qs : List SignatureToVerify) → IsFresh q qs → without q qs ≡ qs
+without_fresh : (q : SignatureToVerify) (qs : List SignatureToVerify) → IsFresh q qs → without_signature q qs ≡ qs
 without_fresh q [] h = refl
 without_fresh q (r ∷ rs) h =
-    kept (is_same q r) r (without q rs) (All-head (λ (r : SignatureToVerify). is_same q r ≡ false) r rs h)
+    kept (is_same q r) r (without_signature q rs) (All-head (λ (r : SignatureToVerify). is_same q r ≡ false) r rs h)
     ∙ ap (λ (ws : List SignatureToVerify). r ∷ ws) (without_fresh q rs (All-tail (λ (r : SignatureToVerify). is_same q r ≡ false) r rs h))
 
 distinct_stays : (qs : List SignatureToVerify) → HasNoDuplicates qs → deduplicated qs ≡ qs
 distinct_stays [] h = refl
 distinct_stays (q ∷ qs) h =
-    ap (λ (ws : List SignatureToVerify). q ∷ without q ws) (distinct_stays qs h.1)
+    ap (λ (ws : List SignatureToVerify). q ∷ without_signature q ws) (distinct_stays qs h.1)
     ∙ ap (λ (ws : List SignatureToVerify). q ∷ ws) (without_fresh q qs h.0)
 
 no_duplicates-both : (xs ys : List SignatureToVerify) → HasNoDuplicates xs → HasNoDuplicates ys → All (λ q. IsFresh q ys) xs → HasNoDuplicates (xs ++ ys)

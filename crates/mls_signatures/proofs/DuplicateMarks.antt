@@ -12,7 +12,7 @@ use Rattle.std.specs.BTreeSet.{BTreeSet, contains, IsEmpty}
 use Rattle.std.proofs.lemmas.List.Elements.{filter-append}
 use Rattle.std.proofs.lemmas.Map.Text.{is_eq-slice_cmp}
 use Rattle.mls_signatures.specs.Marks.{marked}
-use Rattle.mls_signatures.specs.SignaturesToVerify.{is_same, without, deduplicated}
+use Rattle.mls_signatures.specs.SignaturesToVerify.{is_same, without_signature, deduplicated}
 use Rattle.mls_signatures.specs.declared.signature_to_verify.SignatureToVerify.{SignatureToVerify}
 
 -- ---- none twice
@@ -56,16 +56,16 @@ later_one : (b : Bool) (q : SignatureToVerify) → cond (not b) (q ∷ []) [] �
 later_one true q = refl
 later_one false q = refl
 
-last_kept : (r q : SignatureToVerify) (m : Bool) → without r (cond m [] (q ∷ [])) ≡ cond (is_same r q || m) [] (q ∷ [])
+last_kept : (r q : SignatureToVerify) (m : Bool) → without_signature r (cond m [] (q ∷ [])) ≡ cond (is_same r q || m) [] (q ∷ [])
 last_kept r q true = later_none (is_same r q) q
 last_kept r q false = later_one (is_same r q) q
 
 pub deduplicated-more : (qs : List SignatureToVerify) (q : SignatureToVerify) → deduplicated (qs ++ q ∷ []) ≡ deduplicated qs ++ cond (is_met qs q) [] (q ∷ [])
 deduplicated-more [] q = refl
 deduplicated-more (r ∷ rs) q =
-    ap (λ (ws : List SignatureToVerify). r ∷ without r ws) (deduplicated-more rs q)
+    ap (λ (ws : List SignatureToVerify). r ∷ without_signature r ws) (deduplicated-more rs q)
     ∙ ap (λ (ws : List SignatureToVerify). r ∷ ws) (filter-append (λ w. not (is_same r w)) (deduplicated rs) (cond (is_met rs q) [] (q ∷ [])))
-    ∙ ap (λ (ws : List SignatureToVerify). r ∷ (without r (deduplicated rs) ++ ws)) (last_kept r q (is_met rs q))
+    ∙ ap (λ (ws : List SignatureToVerify). r ∷ (without_signature r (deduplicated rs) ++ ws)) (last_kept r q (is_met rs q))
 
 or_first : (a b c : Bool) → (a || cond b true c) ≡ cond b true (a || c)
 or_first true true c = refl

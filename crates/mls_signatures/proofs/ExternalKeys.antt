@@ -7,7 +7,7 @@ use Rattle.mls_nodes.specs.ExternalSenders.{FindsSenders, senders_by}
 use Rattle.mls_nodes.specs.Requirements.{extension_of}
 use Rattle.mls_nodes.specs.declared.extension.Extension.{Extension}
 use Rattle.mls_nodes.specs.declared.senders.ExternalSender.{ExternalSender}
-use Rattle.mls_signatures.specs.SigningKeys.{key_at}
+use Rattle.mls_signatures.specs.SigningKeys.{external_sender_key}
 
 -- a list that was read
 pub senders_read : (extensions : List Extension) (senders : List ExternalSender) → FindsSenders (extension_of 5 extensions) (Ok senders)
@@ -29,12 +29,12 @@ senders_unread extensions f h = go (senders_by extensions) refl
 
 -- ---- one of them
 
-pub key_there : (xs : List ExternalSender) (k : ℕ) (x : ExternalSender) → k < length xs → x ≡ get_or xs k x → Some x.signature_key ≡ key_at xs k
+pub key_there : (xs : List ExternalSender) (k : ℕ) (x : ExternalSender) → k < length xs → x ≡ get_or xs k x → Some x.signature_key ≡ external_sender_key xs k
 key_there [] k x low e = absurd (omega arith)
 key_there (y ∷ ys) zero x low e = ap (λ (s : ExternalSender). Some s.signature_key) e
 key_there (y ∷ ys) (suc k) x low e = key_there ys k x (omega arith) e
 
-pub key_past : (xs : List ExternalSender) (k : ℕ) → length xs ≤ k → None ≡ key_at xs k
+pub key_past : (xs : List ExternalSender) (k : ℕ) → length xs ≤ k → None ≡ external_sender_key xs k
 key_past [] k past = refl
 key_past (x ∷ xs) zero past = absurd (omega arith)
 key_past (x ∷ xs) (suc k) past = key_past xs k (omega arith)

@@ -4,8 +4,8 @@ use Rattle.std.specs.Prelude.{◌==◌, ◌&&◌, ◌||◌, ⊤}
 use Rattle.std.proofs.lemmas.Bool.{eq-eqb}
 use Rattle.std.proofs.lemmas.List.Folds.{list_any-append}
 use Rattle.std.proofs.lemmas.Slice.Eq.{bytes_eq-Decides}
-use Rattle.mls_signatures.specs.AddedLeaves.{Extends}
-use Rattle.mls_signatures.specs.SignaturesToVerify.{is_same, without, deduplicated}
+use Rattle.mls_signatures.specs.AddedLeaves.{AppendsSignatures}
+use Rattle.mls_signatures.specs.SignaturesToVerify.{is_same, without_signature, deduplicated}
 use Rattle.mls_signatures.specs.declared.signature_to_verify.SignatureToVerify.{SignatureToVerify}
 use Rattle.mls_signatures.proofs.Agreement.{same_is}
 use Rattle.mls_signatures.proofs.DuplicateMarks.{is_met, deduplicated-more}
@@ -52,13 +52,13 @@ kept_one : (r q w : SignatureToVerify) → is_same r q ≡ false → (kept ws : 
 kept_one r q w apart kept ws same true e = same ∙ ap (λ b. b || is_met ws q) (sym (ap (λ v. is_same v q) (sym (same_is r w e)) ∙ apart))
 kept_one r q w apart kept ws same false e = ap (λ b. is_same w q || b) same
 
-kept_met : (r q : SignatureToVerify) → is_same r q ≡ false → (ws : List SignatureToVerify) → is_met (without r ws) q ≡ is_met ws q
+kept_met : (r q : SignatureToVerify) → is_same r q ≡ false → (ws : List SignatureToVerify) → is_met (without_signature r ws) q ≡ is_met ws q
 kept_met r q apart [] = refl
-kept_met r q apart (w ∷ ws) = kept_one r q w apart (without r ws) ws (kept_met r q apart ws) (is_same r w) refl
+kept_met r q apart (w ∷ ws) = kept_one r q w apart (without_signature r ws) ws (kept_met r q apart ws) (is_same r w) refl
 
 -- what is in a list is in it without its duplicates
 met_behind_one : (r q : SignatureToVerify) (rs : List SignatureToVerify) → is_met (deduplicated rs) q ≡ is_met rs q → (b : Bool) → is_same r q ≡ b
-    → (b || is_met (without r (deduplicated rs)) q) ≡ (b || is_met rs q)
+    → (b || is_met (without_signature r (deduplicated rs)) q) ≡ (b || is_met rs q)
 met_behind_one r q rs same true e = refl
 met_behind_one r q rs same false e = kept_met r q e (deduplicated rs) ∙ same
 
@@ -89,18 +89,18 @@ deduplicated-met ws (q ∷ qs) m =
 
 -- ---- a list that gets longer
 
-pub extends-none : (old : List SignatureToVerify) → Extends old [] old
+pub extends-none : (old : List SignatureToVerify) → AppendsSignatures old [] old
 extends-none old = ap deduplicated (sym (append-nil old))
 
-pub extends-by : (old qs new : List SignatureToVerify) → new ≡ old ++ qs → Extends old qs new
+pub extends-by : (old qs new : List SignatureToVerify) → new ≡ old ++ qs → AppendsSignatures old qs new
 extends-by old qs new e = ap deduplicated e
 
-module _ (old ws now : List SignatureToVerify) (known : Extends old ws now) where
-  pub extends-more : (qs new : List SignatureToVerify) → Extends now qs new → Extends old (ws ++ qs) new
+module _ (old ws now : List SignatureToVerify) (known : AppendsSignatures old ws now) where
+  pub extends-more : (qs new : List SignatureToVerify) → AppendsSignatures now qs new → AppendsSignatures old (ws ++ qs) new
   extends-more qs new e = e ∙ deduplicated-behind now (old ++ ws) qs known ∙ ap deduplicated (append_assoc old ws qs)
 
-  pub extends-push : (qs new : List SignatureToVerify) → new ≡ now ++ qs → Extends old (ws ++ qs) new
+  pub extends-push : (qs new : List SignatureToVerify) → new ≡ now ++ qs → AppendsSignatures old (ws ++ qs) new
   extends-push qs new e = extends-more qs new (extends-by now qs new e)
 
-  pub extends-skip : (qs : List SignatureToVerify) → AllMet (old ++ ws) qs → Extends old (ws ++ qs) now
+  pub extends-skip : (qs : List SignatureToVerify) → AllMet (old ++ ws) qs → AppendsSignatures old (ws ++ qs) now
   extends-skip qs m = known ∙ sym (deduplicated-met (old ++ ws) qs m) ∙ ap deduplicated (append_assoc old ws qs)

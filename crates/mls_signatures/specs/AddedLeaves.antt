@@ -19,31 +19,31 @@ use Rattle.mls_signatures.specs.declared.signature_to_verify.SignatureToVerify.{
 
 -- ---- the references of a list
 
--- `reference_of e` is the reference in an entry, if the entry is one.
-abbrev pub reference_of : ProposalOrRef → Option (List ℕ)
-reference_of (entries.Proposal _) = None
-reference_of (entries.Reference r) = Some r
+-- `reference_of_entry e` is the reference in an entry, if the entry is one.
+abbrev pub reference_of_entry : ProposalOrRef → Option (List ℕ)
+reference_of_entry (entries.Proposal _) = None
+reference_of_entry (entries.Reference r) = Some r
 
 -- `reference_at es i` is the reference in the entry at position `i`, if there is one.
 abbrev pub reference_at : List ProposalOrRef → ℕ → Option (List ℕ)
 reference_at [] i = None
-reference_at (e ∷ es) zero = reference_of e
+reference_at (e ∷ es) zero = reference_of_entry e
 reference_at (e ∷ es) (suc i) = reference_at es i
 
--- `leaf_of p` is the leaf node of a proposal, if it is an Add.
-abbrev pub leaf_of : Proposal → Option LeafNode
-leaf_of (proposals.Add k) = Some k.leaf_node
-leaf_of (proposals.Update _) = None
-leaf_of (proposals.Remove _) = None
-leaf_of (proposals.ContextExtensions _) = None
-leaf_of (proposals.PreSharedKey _) = None
-leaf_of (proposals.ReInit _) = None
-leaf_of (proposals.ExternalInit _) = None
+-- `leaf_of_add p` is the leaf node of a proposal, if it is an Add.
+abbrev pub leaf_of_add : Proposal → Option LeafNode
+leaf_of_add (proposals.Add k) = Some k.leaf_node
+leaf_of_add (proposals.Update _) = None
+leaf_of_add (proposals.Remove _) = None
+leaf_of_add (proposals.ContextExtensions _) = None
+leaf_of_add (proposals.PreSharedKey _) = None
+leaf_of_add (proposals.ReInit _) = None
+leaf_of_add (proposals.ExternalInit _) = None
 
 -- `leaf_in items i` is the leaf node of the item at position `i`, if there is one and it is an Add.
 abbrev pub leaf_in : List ListItem → ℕ → Option LeafNode
 leaf_in [] i = None
-leaf_in (x ∷ xs) zero = leaf_of x.proposal
+leaf_in (x ∷ xs) zero = leaf_of_add x.proposal
 leaf_in (x ∷ xs) (suc i) = leaf_in xs i
 
 -- `NamesAre F es items`: where an entry is a reference, `F` of it is the leaf node of the item in its place.
@@ -128,6 +128,6 @@ pub record IsRepeat (xs : List AddedLeaf) (i : ℕ) : Type 0 where
   pub named : HaveOneName there here
   pub source : is_from_key_package here.leaf.now.source ≡ true
 
--- `Extends old qs new`: without duplicates, `new` is `old` followed by `qs`.
-abbrev pub Extends : List SignatureToVerify → List SignatureToVerify → List SignatureToVerify → Type 0
-Extends old qs new = deduplicated new ≡ deduplicated (old ++ qs)
+-- `AppendsSignatures old qs new`: without duplicates, `new` is `old` followed by `qs`.
+abbrev pub AppendsSignatures : List SignatureToVerify → List SignatureToVerify → List SignatureToVerify → Type 0
+AppendsSignatures old qs new = deduplicated new ≡ deduplicated (old ++ qs)

@@ -109,14 +109,14 @@ is_same a b =
     a.suite == b.suite && bytes_eq a.key b.key && bytes_eq a.content b.content
     && bytes_eq a.signature b.signature
 
--- `without a qs` is the signatures of `qs` that are not equal to `a`.
-abbrev pub without : SignatureToVerify → List SignatureToVerify → List SignatureToVerify
-without a qs = filter (λ q. not (is_same a q)) qs
+-- `without_signature a qs` is the signatures of `qs` that are not equal to `a`.
+abbrev pub without_signature : SignatureToVerify → List SignatureToVerify → List SignatureToVerify
+without_signature a qs = filter (λ q. not (is_same a q)) qs
 
 -- `deduplicated qs` is the list without the signatures that are equal to an earlier one.
 abbrev pub deduplicated : List SignatureToVerify → List SignatureToVerify
 deduplicated [] = []
-deduplicated (q ∷ qs) = q ∷ without q (deduplicated qs)
+deduplicated (q ∷ qs) = q ∷ without_signature q (deduplicated qs)
 
 -- ---- the signatures of a start (RFC 9420, 12.4.3.1)
 

@@ -24,31 +24,31 @@ signed_context context (senders.External _) = None
 signed_context context senders.NewMemberProposal = None
 signed_context context senders.NewMemberCommit = Some context
 
--- `key_at xs k` is the signature key of the k-th of these external senders. The first one is 0.
-abbrev pub key_at : List ExternalSender → ℕ → Option (List ℕ)
-key_at [] k = None
-key_at (x ∷ xs) zero = Some x.signature_key
-key_at (x ∷ xs) (suc k) = key_at xs k
+-- `external_sender_key xs k` is the signature key of the k-th of these external senders. The first one is 0.
+abbrev pub external_sender_key : List ExternalSender → ℕ → Option (List ℕ)
+external_sender_key [] k = None
+external_sender_key (x ∷ xs) zero = Some x.signature_key
+external_sender_key (x ∷ xs) (suc k) = external_sender_key xs k
 
 -- `external_key extensions k` is the signature key of the external sender with index k (12.1.8). `None` if there is none,
 -- or if the extension external_senders cannot be read (own rule).
 abbrev pub external_key : List Extension → ℕ → Option (List ℕ)
-external_key extensions k = option_and_then (λ xs. key_at xs k) (senders_by extensions)
+external_key extensions k = option_and_then (λ xs. external_sender_key xs k) (senders_by extensions)
 
--- `added_key p` is the signature key of the client that an Add adds.
-abbrev pub added_key : Proposal → Option (List ℕ)
-added_key (proposals.Add k) = Some k.leaf_node.signature_key
-added_key (proposals.Update _) = None
-added_key (proposals.Remove _) = None
-added_key (proposals.ContextExtensions _) = None
-added_key (proposals.PreSharedKey _) = None
-added_key (proposals.ReInit _) = None
-added_key (proposals.ExternalInit _) = None
+-- `added_signature_key p` is the signature key of the client that an Add adds.
+abbrev pub added_signature_key : Proposal → Option (List ℕ)
+added_signature_key (proposals.Add k) = Some k.leaf_node.signature_key
+added_signature_key (proposals.Update _) = None
+added_signature_key (proposals.Remove _) = None
+added_signature_key (proposals.ContextExtensions _) = None
+added_signature_key (proposals.PreSharedKey _) = None
+added_signature_key (proposals.ReInit _) = None
+added_signature_key (proposals.ExternalInit _) = None
 
 -- `joiner_key c` is the signature key of a client that proposes its own Add (12.1.8).
 abbrev pub joiner_key : Content → Option (List ℕ)
 joiner_key (contents.Application _) = None
-joiner_key (contents.Proposal p) = added_key p
+joiner_key (contents.Proposal p) = added_signature_key p
 joiner_key (contents.Commit _) = None
 
 -- `path_key path` is the signature key of the leaf node of a path, if there is one.
@@ -97,5 +97,5 @@ is_external_proposal (proposals.ExternalInit _) = false
 abbrev pub may_propose : Sender → Proposal → Bool
 may_propose (senders.Member _) p = true
 may_propose (senders.External _) p = is_external_proposal p
-may_propose senders.NewMemberProposal p = is_some (added_key p)
+may_propose senders.NewMemberProposal p = is_some (added_signature_key p)
 may_propose senders.NewMemberCommit p = false

@@ -4,7 +4,7 @@ ghost use Rattle.std.specs.Prelude.{◌≡◌, IfOk, List, Option, ℕ, length, 
 ghost use Rattle.mls_nodes.specs.declared.leaf.LeafNode.{LeafNode};
 ghost use Rattle.mls_tree.specs.Tree.{Tree};
 ghost use Rattle.mls_apply.specs.AppliedList.{new_members};
-ghost use Rattle.mls_signatures.specs.AddedLeaves.{AreNamedBy, IsAfter, IsMapOf, NamesAre, indices, leaf_nodes, reference_at, reference_of};
+ghost use Rattle.mls_signatures.specs.AddedLeaves.{AreNamedBy, IsAfter, IsMapOf, NamesAre, indices, leaf_nodes, reference_at, reference_of_entry};
 
 use mls_apply::ListItem;
 use mls_check::OutOfMemory;
@@ -25,8 +25,8 @@ pub(crate) struct AddedLeaf<'a> {
 }
 
 /// Returns the reference in an entry of a proposal list, if there is one.
-fn reference_of(entry: &ProposalOrRef) -> Option<&[u8]>
-    ensures { option_map (λ r. r.now) result ≡ reference_of entry.now }
+fn reference_of_entry(entry: &ProposalOrRef) -> Option<&[u8]>
+    ensures { option_map (λ r. r.now) result ≡ reference_of_entry entry.now }
 {
     match entry {
         ProposalOrRef::Proposal(_) => None,
@@ -40,7 +40,7 @@ fn reference_at(entries: &[ProposalOrRef], position: usize) -> Option<&[u8]>
     ensures { option_map (λ r. r.now) result ≡ reference_at entries.now position }
 {
     match entries.get(position) {
-        Some(entry) => reference_of(entry),
+        Some(entry) => reference_of_entry(entry),
         None => None,
     }
 }

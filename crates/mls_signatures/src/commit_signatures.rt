@@ -7,7 +7,7 @@ ghost use Rattle.mls_apply.specs.Senders.{member_index};
 ghost use Rattle.mls_apply.specs.ResolvedList.{resolved};
 ghost use Rattle.mls_apply.specs.AppliedList.{outcome};
 ghost use Rattle.mls_apply.specs.Staged.{IsSettled};
-ghost use Rattle.mls_signatures.specs.AddedLeaves.{AreNamedAlike, Extends, HasNames, IsAfter, indices};
+ghost use Rattle.mls_signatures.specs.AddedLeaves.{AreNamedAlike, AppendsSignatures, HasNames, IsAfter, indices};
 ghost use Rattle.mls_signatures.specs.SignaturesToVerify.{signatures_at, entry_signatures, entries_signatures, index_before, replaced_leaves, path_signatures, applied_list_signatures, commit_signatures};
 
 use crate::added_leaves::{AddedLeaf, added_leaves, leaves_by_index};
@@ -141,7 +141,7 @@ fn push_update_leaf_signatures(
 ) -> Result<(), OutOfMemory>
     ensures { let suite = context.now.cipher_suite in
         (t : Tree) → IsAfter t outline.now.tree.now.tree outline.now.leaves.now
-        → OnOk result (Extends list.old.items
+        → OnOk result (AppendsSignatures list.old.items
         (signatures_at suite context.now.group_id t (replaced_leaves items.now)) list.new.items) }
 {
     let mut replaced = Vec::new(alloc);
@@ -167,7 +167,7 @@ fn push_new_leaf_signatures(
     requires { AreNamedAlike outline.now.leaves.now }
     ensures { let context = commit.now.context.now in
         (t : Tree) → IsAfter t outline.now.tree.now.tree outline.now.leaves.now
-        → OnOk result (Extends list.old.items
+        → OnOk result (AppendsSignatures list.old.items
         (signatures_at context.cipher_suite context.group_id t (replaced_leaves items.now ++ indices outline.now.leaves.now)
         ++ path_signatures context commit.now.committer commit.now.commit.now.path) list.new.items) }
 {
@@ -193,7 +193,7 @@ fn apply_and_push_signatures(
 ) -> Result<(), OutOfMemory>
     requires named { HasNames commit.now.commit.now.proposals items.now }
     ensures signatures { let context = commit.now.context.now in
-        OnOk result (Extends list.old.items
+        OnOk result (AppendsSignatures list.old.items
         (applied_list_signatures context commit.now.committer commit.now.commit.now.path items.now
         (outcome items.now tree.old.tree)) list.new.items) }
     ensures base { tree.new.base ≡ tree.old.base }
@@ -230,7 +230,7 @@ fn push_applied_list_signatures(
     requires named { HasNames commit.now.commit.now.proposals items.now }
     requires settled { IsSettled tree.old }
     ensures signatures { let context = commit.now.context.now in
-        OnOk result (Extends list.old.items
+        OnOk result (AppendsSignatures list.old.items
         (applied_list_signatures context commit.now.committer commit.now.commit.now.path items.now
         (outcome items.now tree.old.tree)) list.new.items) }
     ensures base { tree.new.base ≡ tree.old.base }
@@ -252,7 +252,7 @@ fn push_list_signatures(
 ) -> Result<(), OutOfMemory>
     requires named { HasNames commit.now.commit.now.proposals items.now }
     requires settled { IsSettled tree.old }
-    ensures signatures { OnOk result (Extends list.old.items
+    ensures signatures { OnOk result (AppendsSignatures list.old.items
         (commit_signatures commit.now.context.now tree.old.tree commit.now.committer
         commit.now.commit.now (Some items.now)) list.new.items) }
     ensures base { tree.new.base ≡ tree.old.base }
@@ -293,7 +293,7 @@ pub(crate) fn push_commit_signatures(
     list: &mut Vec<SignatureToVerify>,
 ) -> Result<(), OutOfMemory>
     requires { IsSettled tree.old }
-    ensures signatures { OnOk result (Extends list.old.items
+    ensures signatures { OnOk result (AppendsSignatures list.old.items
         (commit_signatures commit.now.context.now tree.old.tree commit.now.committer
         commit.now.commit.now
         (resolved (Member commit.now.committer) known.now commit.now.commit.now.proposals)) list.new.items) }

@@ -6,7 +6,7 @@
 ghost use Rattle.std.specs.Prelude.{◌≡◌, ◌<◌, ◌++◌, OnOk, length, true};
 ghost use Rattle.std.specs.Option.{option_copied};
 ghost use Rattle.mls_tree.specs.Tree.{Tree, leaf_at};
-ghost use Rattle.mls_signatures.specs.AddedLeaves.{AreNamedAlike, Extends, HaveOneName, IsMapOf, IsRepeat, added_signatures, is_from_key_package};
+ghost use Rattle.mls_signatures.specs.AddedLeaves.{AreNamedAlike, AppendsSignatures, HaveOneName, IsMapOf, IsRepeat, added_signatures, is_from_key_package};
 ghost use Rattle.mls_signatures.specs.SignaturesToVerify.{non_blank_leaf_signatures, signatures_at};
 
 use crate::added_leaves::AddedLeaf;
@@ -66,7 +66,7 @@ pub(crate) fn push_replaced_leaf_signatures(
 ) -> Result<(), OutOfMemory>
     ensures { let suite = context.now.cipher_suite in
         (t : Tree) → IsMapOf t after.now.tree.now.tree after.now.added.now
-        → OnOk result (Extends list.old.items (signatures_at suite context.now.group_id t replaced.now) list.new.items) }
+        → OnOk result (AppendsSignatures list.old.items (signatures_at suite context.now.group_id t replaced.now) list.new.items) }
 {
     let mut seen: BTreeSet<u32> = BTreeSet::new(alloc);
     for index in replaced {
@@ -142,7 +142,7 @@ pub(crate) fn push_added_leaf_signatures(
 ) -> Result<(), OutOfMemory>
     requires { AreNamedAlike leaves.now }
     ensures { let suite = context.now.cipher_suite in
-        OnOk result (Extends list.old.items (added_signatures suite context.now.group_id leaves.now) list.new.items) }
+        OnOk result (AppendsSignatures list.old.items (added_signatures suite context.now.group_id leaves.now) list.new.items) }
 {
     let mut named: BTreeMap<&[u8], usize> = BTreeMap::new(alloc);
     let mut position = 0;

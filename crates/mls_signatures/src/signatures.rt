@@ -3,7 +3,7 @@
 ghost use Rattle.std.specs.Prelude.{◌≡◌, ◌++◌, IfOk, OnOk};
 ghost use Rattle.mls_tree.specs.Tree.{leaf_at};
 ghost use Rattle.mls_apply.specs.Staged.{IsSettled};
-ghost use Rattle.mls_signatures.specs.AddedLeaves.{Extends};
+ghost use Rattle.mls_signatures.specs.AddedLeaves.{AppendsSignatures};
 ghost use Rattle.mls_signatures.specs.SignaturesToVerify.{all_message_signatures, authenticated_signatures, info_signatures, join_content_signatures, member_signatures, message_signatures, non_blank_leaf_signatures, outside_content_signatures, outside_proposal_signatures, outside_signatures, sender_signatures, start_signatures};
 ghost use Rattle.mls_signatures.specs.SigningKeys.{outside_key};
 
@@ -126,7 +126,7 @@ fn push_member_signatures(
     list: &mut Vec<SignatureToVerify>,
 ) -> Result<(), OutOfMemory>
     requires { IsSettled tree.old }
-    ensures signatures { OnOk result (Extends list.old.items
+    ensures signatures { OnOk result (AppendsSignatures list.old.items
         (member_signatures epoch.now.context.now epoch.now.known.now tree.old.tree sent.now.auth.now
         sent.now.sender (leaf_at 0 tree.old.tree sent.now.sender)) list.new.items) }
     ensures base { tree.new.base ≡ tree.old.base }
@@ -267,7 +267,7 @@ fn push_sender_signatures(
     list: &mut Vec<SignatureToVerify>,
 ) -> Result<(), OutOfMemory>
     requires { IsSettled tree.old }
-    ensures signatures { OnOk result (Extends list.old.items
+    ensures signatures { OnOk result (AppendsSignatures list.old.items
         (sender_signatures epoch.now.profile epoch.now.context.now epoch.now.known.now tree.old.tree auth.now
         auth.now.content.sender) list.new.items) }
     ensures base { tree.new.base ≡ tree.old.base }
@@ -301,7 +301,7 @@ fn push_authenticated_signatures(
     list: &mut Vec<SignatureToVerify>,
 ) -> Result<(), OutOfMemory>
     requires { IsSettled tree.old }
-    ensures signatures { OnOk result (Extends list.old.items
+    ensures signatures { OnOk result (AppendsSignatures list.old.items
         (authenticated_signatures epoch.now.profile epoch.now.context.now epoch.now.known.now tree.old.tree
         auth.now) list.new.items) }
     ensures base { tree.new.base ≡ tree.old.base }
@@ -327,7 +327,7 @@ fn push_message_signatures(
     list: &mut Vec<SignatureToVerify>,
 ) -> Result<(), OutOfMemory>
     requires { IsSettled tree.old }
-    ensures signatures { OnOk result (Extends list.old.items
+    ensures signatures { OnOk result (AppendsSignatures list.old.items
         (all_message_signatures epoch.now.profile epoch.now.context.now epoch.now.known.now tree.old.tree
         message.now) list.new.items) }
     ensures base { tree.new.base ≡ tree.old.base }

@@ -3,7 +3,7 @@
 
 ghost use Rattle.std.specs.Prelude.{◌≡◌, IfOk, IfSome, None, OnErr, option_map};
 ghost use Rattle.mls_nodes.specs.ExternalSenders.{senders_by};
-ghost use Rattle.mls_signatures.specs.SigningKeys.{added_key, committer_key, external_key, is_external_proposal, joiner_key, key_at, may_propose, outside_key, path_key, signed_context};
+ghost use Rattle.mls_signatures.specs.SigningKeys.{added_signature_key, committer_key, external_key, is_external_proposal, joiner_key, external_sender_key, may_propose, outside_key, path_key, signed_context};
 
 use mls_check::OutOfMemory;
 use mls_msgs::{Content, Proposal, Sender, UpdatePath};
@@ -41,8 +41,8 @@ fn senders_of(
 
 /// The signature key of the external sender with this index.
 #[tactic(auto, using(crate::proofs::ExternalKeys::key_there, crate::proofs::ExternalKeys::key_past))]
-fn key_at(senders: &[ExternalSender], index: u32) -> Option<&Opaque>
-    ensures { option_map (λ key. key.now) result ≡ key_at senders.now index }
+fn external_sender_key(senders: &[ExternalSender], index: u32) -> Option<&Opaque>
+    ensures { option_map (λ key. key.now) result ≡ external_sender_key senders.now index }
 {
     match senders.get(index as usize) {
         Some(sender) => Some(&sender.signature_key),
@@ -66,7 +66,7 @@ pub fn external_key(
     let Some(senders) = senders_of(alloc, extensions)? else {
         return Ok(None);
     };
-    let key = match key_at(senders.as_slice(), index) {
+    let key = match external_sender_key(senders.as_slice(), index) {
         Some(key) => copy_of(alloc, key),
         None => return Ok(None),
     };
@@ -75,8 +75,8 @@ pub fn external_key(
 }
 
 /// The signature key of the client that an Add adds.
-fn added_key(proposal: &Proposal) -> Option<&Opaque>
-    ensures { option_map (λ key. key.now) result ≡ added_key proposal.now }
+fn added_signature_key(proposal: &Proposal) -> Option<&Opaque>
+    ensures { option_map (λ key. key.now) result ≡ added_signature_key proposal.now }
 {
     match proposal {
         Proposal::Add(key_package) => Some(&key_package.leaf_node.signature_key),
@@ -95,7 +95,7 @@ fn joiner_key(content: &Content) -> Option<&Opaque>
 {
     match content {
         Content::Application(_) => None,
-        Content::Proposal(proposal) => added_key(proposal),
+        Content::Proposal(proposal) => added_signature_key(proposal),
         Content::Commit(_) => None,
     }
 }
@@ -188,7 +188,7 @@ pub fn may_propose(sender: Sender, proposal: &Proposal) -> bool
     match sender {
         Sender::Member(_) => true,
         Sender::External(_) => is_external_proposal(proposal),
-        Sender::NewMemberProposal => added_key(proposal).is_some(),
+        Sender::NewMemberProposal => added_signature_key(proposal).is_some(),
         Sender::NewMemberCommit => false,
     }
 }

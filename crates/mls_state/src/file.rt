@@ -54,7 +54,7 @@ impl Decode for StateFile {
 }
 
 impl Encode for StateFile {
-    #[tactic(auto, using(mls_nodes::specs::TagSizes::sizes), unfolding(crate::specs::Layout::state_file))]
+    #[tactic(auto, using(mls_nodes::specs::TagSizes::tag_sizes), unfolding(crate::specs::Layout::state_file))]
     fn size(&self) -> Option<usize> {
         add_sizes(Some(2), add_sizes(self.checksum.size(), self.state.size()))
     }

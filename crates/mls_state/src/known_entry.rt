@@ -44,7 +44,7 @@ impl Decode for KnownEntry {
 }
 
 impl Encode for KnownEntry {
-    #[tactic(auto, using(mls_nodes::specs::TagSizes::sizes), unfolding(crate::specs::Layout::known_entry))]
+    #[tactic(auto, using(mls_nodes::specs::TagSizes::tag_sizes), unfolding(crate::specs::Layout::known_entry))]
     fn size(&self) -> Option<usize> {
         add_sizes(
             self.reference.size(),

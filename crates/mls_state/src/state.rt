@@ -101,7 +101,7 @@ impl Decode for GroupMode {
 }
 
 impl Encode for GroupMode {
-    #[tactic(auto, using(mls_nodes::specs::TagSizes::sizes), unfolding(crate::specs::Layout::group_mode))]
+    #[tactic(auto, using(mls_nodes::specs::TagSizes::tag_sizes), unfolding(crate::specs::Layout::group_mode))]
     fn size(&self) -> Option<usize> {
         match self {
             GroupMode::Members | GroupMode::Full | GroupMode::Ended => add_sizes(Some(1), Some(1)),
@@ -160,7 +160,7 @@ impl Decode for FollowerState {
 }
 
 impl Encode for FollowerState {
-    #[tactic(auto, using(mls_nodes::specs::TagSizes::sizes), unfolding(crate::specs::Layout::follower_state))]
+    #[tactic(auto, using(mls_nodes::specs::TagSizes::tag_sizes), unfolding(crate::specs::Layout::follower_state))]
     fn size(&self) -> Option<usize> {
         add_sizes(
             self.mode.size(),

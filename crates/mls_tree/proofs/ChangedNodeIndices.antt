@@ -17,7 +17,7 @@ use Rattle.mls_tree.specs.TreeOperations.{put_leaf, put_parent, left_subtree, wi
 use Rattle.mls_tree.specs.Journals.{undone, all_undone}
 use Rattle.mls_tree.specs.ChangedNodes.{AgreeExceptAt}
 use Rattle.mls_tree.specs.declared.journal.UndoEntry.{UndoEntry}
-use Rattle.mls_tree.specs.declared.journal.UndoEntry.TheVariants.{Leaf, Parent, AddedUnmerged, Extended, Halved}
+use Rattle.mls_tree.specs.declared.journal.UndoEntry.TheVariants.{Leaf, Parent, AddedUnmerged, Extended, Truncated}
 use Rattle.mls_tree.proofs.Arrays.{slice_get-set_other}
 use Rattle.mls_tree.proofs.Choices.{false_no_true, below, from}
 use Rattle.mls_tree.proofs.Elsewhere.{put_parent-elsewhere}
@@ -172,7 +172,7 @@ shape-before (Leaf i x) t s =
 shape-before (Parent p x) t s = shape-put_parent t p _ s
 shape-before (AddedUnmerged p i) t s = shape-put_parent t p _ s
 shape-before Extended t s = shape-left_subtree t s
-shape-before (Halved b) t s = shape-rejoined t b.value.tree s b.value.shape
+shape-before (Truncated b) t s = shape-rejoined t b.value.tree s b.value.shape
 
 -- ---- what is told of one change
 
@@ -262,10 +262,10 @@ height-up t w h k e =
           absurd (omega arith))
     ]
 
-pub lists_changes-no_whole : (old new : List ℕ) (n : ℕ) (b : Box KeptTree Global) → leaf_count b.value.tree ≢ 2 * n → new ≡ old → Lists old new n n (Halved b)
+pub lists_changes-no_whole : (old new : List ℕ) (n : ℕ) (b : Box KeptTree Global) → leaf_count b.value.tree ≢ 2 * n → new ≡ old → Lists old new n n (Truncated b)
 lists_changes-no_whole old new n b away stays =
     let w = b.value in
-    lists_changes-none old new n (Halved b) stays
+    lists_changes-none old new n (Truncated b) stays
     (λ t e. rejoined-not t.tree w.tree (λ up. away (count-up t.tree w.tree t.shape.perfect w.shape.perfect up ∙ ap (λ k. 2 * k) e)))
 
 whole-changes_listed : (t w : Tree) (n : ℕ) → IsPerfect t → IsPerfect w → leaf_count t ≡ n → leaf_count w ≡ 2 * n → height t + 1 ≡ height w
@@ -275,10 +275,10 @@ whole-changes_listed t (branch l v r) n h k e double up =
     let level = halves-count l r v k in
     (omega arith, same-right t v r (2 * n - 1) (2 * n) (omega arith) (omega arith))
 
-pub lists_changes-halved : (old new : List ℕ) (n m : ℕ) (b : Box KeptTree Global) → m ≡ leaf_count b.value.tree → m ≡ 2 * n → new ≡ old ++ range_with_len (2 * n - 1) (2 * n) → Lists old new n m (Halved b)
+pub lists_changes-halved : (old new : List ℕ) (n m : ℕ) (b : Box KeptTree Global) → m ≡ leaf_count b.value.tree → m ≡ 2 * n → new ≡ old ++ range_with_len (2 * n - 1) (2 * n) → Lists old new n m (Truncated b)
 lists_changes-halved old new n m b whole double pushed =
     let w = b.value in
-    lists_changes-added old new (range_with_len (2 * n - 1) (2 * n)) n m (Halved b) pushed
+    lists_changes-added old new (range_with_len (2 * n - 1) (2 * n)) n m (Truncated b) pushed
     (λ t e.
     let up = height-up t.tree w.tree t.shape.perfect w.shape.perfect (omega arith) in
     let changes_listed = whole-changes_listed t.tree w.tree n t.shape.perfect w.shape.perfect e (omega arith) up in

@@ -9,8 +9,8 @@ use Rattle.mls_nodes.specs.declared.node.Node.{Node}
 use Rattle.mls_tree.specs.declared.subtree_counts.Count.{Count}
 use Rattle.mls_tree.specs.Tree.{Tree, leaf, branch, leaf_count, member_count, leaves_at}
 use Rattle.mls_tree.specs.NodeArray.{parent_part, tree_in}
-use Rattle.mls_tree.specs.TreeOperations.{put_leaf, put_parent, change_above, truncate, has_set_leaf, left_subtree}
-use Rattle.mls_tree.specs.SubtreeCounts.{parent_weight, set_count, subtree_count, AreCounts, AreOutside, IsKeptOutside}
+use Rattle.mls_tree.specs.TreeOperations.{put_leaf, put_parent, change_above, truncate, has_non_blank_leaf, left_subtree}
+use Rattle.mls_tree.specs.SubtreeCounts.{parent_weight, non_blank_count, subtree_count, AreCounts, AreOutside, IsKeptOutside}
 use Rattle.mls_tree.proofs.Choices.{below, from, here, before, after}
 use Rattle.mls_tree.proofs.Trees.{leaf_count-positive}
 use Rattle.mls_tree.proofs.Arrays.{leaf_count-tree_in, slice_get-set_same, slice_get-set_other}
@@ -30,10 +30,10 @@ parent_weight-low : (n : Option ParentNode) → parent_weight n ≤ 1
 parent_weight-low None = omega arith
 parent_weight-low (Some p) = omega arith
 
-pub set_count-low : (t : Tree) → set_count t + 1 ≤ 2 * leaf_count t
-set_count-low (leaf None) = omega arith
-set_count-low (leaf (Some x)) = omega arith
-set_count-low (branch l n r) = omega (arith, set_count-low l, set_count-low r, parent_weight-low n)
+pub non_blank_count-low : (t : Tree) → non_blank_count t + 1 ≤ 2 * leaf_count t
+non_blank_count-low (leaf None) = omega arith
+non_blank_count-low (leaf (Some x)) = omega arith
+non_blank_count-low (branch l n r) = omega (arith, non_blank_count-low l, non_blank_count-low r, parent_weight-low n)
 
 -- ---- counts rest on the entries between their first and their last
 
@@ -103,8 +103,8 @@ module _ (xs : List (Option Node)) (first half level : ℕ) (deep : level ≢ 0)
       let k = ap (λ (v : Count). v.nodes) x in
       let m = ap (λ (v : Count). v.nodes) y in (
         omega (arith, member_count-low near, member_count-low far),
-        omega (arith, set_count-low near, set_count-low far),
-        omega (arith, set_count-low near, set_count-low far, parent_weight-low o),
+        omega (arith, non_blank_count-low near, non_blank_count-low far),
+        omega (arith, non_blank_count-low near, non_blank_count-low far, parent_weight-low o),
       )
 
   pub sum-subtree_count : (a b : Count) (own : ℕ) → a ≡ subtree_count near → b ≡ subtree_count far → own ≡ parent_weight node
@@ -248,7 +248,7 @@ AreCounts-left_subtree first (branch l n r) cs ok = ok.0
 
 pub AreCounts-truncate : (first : ℕ) (t : Tree) (cs : List Count) → AreCounts first t cs → AreCounts first (truncate t) cs
 AreCounts-truncate first (leaf x) cs ok = ok
-AreCounts-truncate first (branch l n r) cs ok = either (λ t. AreCounts first t cs) (has_set_leaf r) (branch l n r) (truncate l) ok (AreCounts-truncate first l cs ok.0)
+AreCounts-truncate first (branch l n r) cs ok = either (λ t. AreCounts first t cs) (has_non_blank_leaf r) (branch l n r) (truncate l) ok (AreCounts-truncate first l cs ok.0)
 
 pub AreCounts-take : (t : Tree) (cs : List Count) (k : ℕ) → k + 1 ≡ leaf_count t → AreCounts 0 t cs → AreCounts 0 t (take k cs)
 AreCounts-take t cs k e ok = AreCounts-same cs (take k cs) 0 t (λ p low high. slice_get-take cs k p (omega arith)) ok

@@ -6,9 +6,9 @@ use Rattle.mls_nodes.specs.declared.node.Node.{Node}
 use Rattle.mls_tree.specs.declared.subtree_counts.Count.{Count}
 use Rattle.mls_tree.specs.Tree.{Tree, leaf, branch, leaf_count, member_count, leaves_at, Subtree, subtree_at}
 use Rattle.mls_tree.specs.NodeArray.{tree_in}
-use Rattle.mls_tree.specs.TreeOperations.{has_set_leaf, left_subtree}
+use Rattle.mls_tree.specs.TreeOperations.{has_non_blank_leaf, left_subtree}
 use Rattle.mls_tree.specs.Paths.{resolution}
-use Rattle.mls_tree.specs.SubtreeCounts.{set_count, AreCounts}
+use Rattle.mls_tree.specs.SubtreeCounts.{non_blank_count, AreCounts}
 use Rattle.mls_tree.specs.CountsModel.{AreCountsIfAny}
 use Rattle.mls_tree.proofs.Choices.{is_less, not_less}
 use Rattle.mls_tree.proofs.Arrays.{leaf_count-tree_in}
@@ -66,14 +66,14 @@ or_positive a b =
     ]
 
 -- a leaf is set where some are
-pub has_set_leaf-subtree_count : (t : Tree) → has_set_leaf t ≡ nat_lt 0 (member_count t)
-has_set_leaf-subtree_count (leaf None) = sym (not_less 0 0 (omega arith))
-has_set_leaf-subtree_count (leaf (Some x)) = sym (is_less 0 1 (omega arith))
-has_set_leaf-subtree_count (branch l n r) =
-    (λ i. has_set_leaf-subtree_count l i || has_set_leaf-subtree_count r i) ∙ or_positive (member_count l) (member_count r)
+pub has_non_blank_leaf-subtree_count : (t : Tree) → has_non_blank_leaf t ≡ nat_lt 0 (member_count t)
+has_non_blank_leaf-subtree_count (leaf None) = sym (not_less 0 0 (omega arith))
+has_non_blank_leaf-subtree_count (leaf (Some x)) = sym (is_less 0 1 (omega arith))
+has_non_blank_leaf-subtree_count (branch l n r) =
+    (λ i. has_non_blank_leaf-subtree_count l i || has_non_blank_leaf-subtree_count r i) ∙ or_positive (member_count l) (member_count r)
 
 -- a resolution is empty where no node is set, and nowhere else
-pub resolution-none : (leaves first : ℕ) (t : Tree) → set_count t ≡ 0 → resolution leaves first t ≡ []
+pub resolution-none : (leaves first : ℕ) (t : Tree) → non_blank_count t ≡ 0 → resolution leaves first t ≡ []
 resolution-none leaves first (leaf None) e = refl
 resolution-none leaves first (leaf (Some x)) e = absurd (omega arith)
 resolution-none leaves first (branch l None r) e =
@@ -82,17 +82,17 @@ resolution-none leaves first (branch l None r) e =
     λ i. a i ++ b i
 resolution-none leaves first (branch l (Some p) r) e = absurd (omega arith)
 
-resolution-some : (leaves first : ℕ) (t : Tree) → 0 < set_count t → resolution leaves first t ≢ []
+resolution-some : (leaves first : ℕ) (t : Tree) → 0 < non_blank_count t → resolution leaves first t ≢ []
 resolution-some leaves first (leaf None) lt = absurd (omega arith)
 resolution-some leaves first (leaf (Some x)) lt = λ e. cc
 resolution-some leaves first (branch l None r) lt =
-    elim (cases_lt 0 (set_count l)) [
+    elim (cases_lt 0 (non_blank_count l)) [
       | inl some ↦ append-set _ _ (resolution-some leaves first l some)
       | inr none ↦ append-set_right (resolution leaves first l) _ (resolution-some leaves (first + leaf_count l) r (omega arith))
     ]
 resolution-some leaves first (branch l (Some p) r) lt = λ e. cc
 
-pub resolution-subtree_count : (leaves first : ℕ) (t : Tree) (n : ℕ) → n ≡ set_count t → IsTrue (nat_lt 0 n) ↔ (resolution leaves first t ≢ [])
+pub resolution-subtree_count : (leaves first : ℕ) (t : Tree) (n : ℕ) → n ≡ non_blank_count t → IsTrue (nat_lt 0 n) ↔ (resolution leaves first t ≢ [])
 resolution-subtree_count leaves first t n e = (
   λ some. resolution-some leaves first t (let lt = ltb-true 0 n some in omega arith),
   λ some. elim (cases_lt 0 n) [ inl lt ↦ is_less 0 n lt | inr ge ↦ absurd (some (resolution-none leaves first t (omega arith))) ],

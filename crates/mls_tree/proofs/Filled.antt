@@ -12,7 +12,7 @@ use Rattle.mls_nodes.specs.declared.node.Node.{Node}
 use Rattle.mls_nodes.specs.declared.node.Node.TheVariants.{Leaf, Parent}
 use Rattle.mls_nodes.specs.NodeModel.{NodeValue, entry_value}
 use Rattle.mls_nodes.specs.Layout.{node}
-use Rattle.mls_nodes.specs.RatchetTreeEncoding.{ratchet_tree, filled, full_size, has_valid_layout, ends_set, fit_from, fits_at}
+use Rattle.mls_nodes.specs.RatchetTreeEncoding.{ratchet_tree, filled, full_size, has_valid_layout, ends_non_blank, fit_from, fits_at}
 use Rattle.mls_nodes.specs.FilledTree.{filled-full, filled-least}
 use Rattle.mls_tree.specs.Tree.{leaves_at}
 use Rattle.mls_tree.specs.NodeArray.{FitsNodeIndex, IsArrayOf, ratchet_tree_in}
@@ -86,8 +86,8 @@ pub filled_listing : (nodes : List (Option NodeValue)) (bytes : List ℕ) (entri
     → ratchet_tree nodes ≡ Some bytes → map entry_value entries ≡ filled nodes → IsListing (map entry_value entries)
 unfolding ratchet_tree
 filled_listing nodes bytes entries encoded fill =
-    let a = (allowed (has_valid_layout nodes && ends_set nodes) (list (optional node) nodes) bytes encoded).0 in
-    let well_laid_out : has_valid_layout nodes ≡ true = both-left (has_valid_layout nodes) (ends_set nodes) a in
+    let a = (allowed (has_valid_layout nodes && ends_non_blank nodes) (list (optional node) nodes) bytes encoded).0 in
+    let well_laid_out : has_valid_layout nodes ≡ true = both-left (has_valid_layout nodes) (ends_non_blank nodes) a in
     let stand : fit_from 0 nodes ≡ true = both-left (fit_from 0 nodes) _ well_laid_out in
     let few : length nodes ≤ 2097151 = leb-true (length nodes) 2097151 (both-right (fit_from 0 nodes) _ well_laid_out) in
     let full = filled-full nodes in

@@ -5,7 +5,7 @@ use Rattle.std.proofs.lemmas.Bool.{cases_lt, cases_order}
 use Rattle.mls_nodes.specs.declared.leaf.LeafNode.{LeafNode}
 use Rattle.mls_nodes.specs.declared.parent.ParentNode.{ParentNode}
 use Rattle.mls_tree.specs.Tree.{Tree, leaf, branch, leaf_count, leaf_at}
-use Rattle.mls_tree.specs.BlankLeaves.{first_of, first_blank_leaf, next_blank_leaf, IsFirstBlank, AllLeavesSet, AreSetBelow}
+use Rattle.mls_tree.specs.BlankLeaves.{first_of, first_blank_leaf, next_blank_leaf, IsFirstBlank, AllLeavesNonBlank, AreNonBlankBelow}
 use Rattle.mls_tree.proofs.Choices.{below, from, same}
 
 -- the leaves from `first` and from `start` on and below `last` are set
@@ -121,15 +121,15 @@ next_blank_leaf-zero first (leaf (Some x)) = refl
 next_blank_leaf-zero first (branch l n r) =
     let a = next_blank_leaf-zero first l in let b = next_blank_leaf-zero (first + leaf_count l) r in λ i. first_of (a i) (b i)
 
-leftmost : (t : Tree) (o : Option ℕ) → Answer 0 0 t o → MatchOption o (AllLeavesSet t) (λ j. IsFirstBlank t j)
+leftmost : (t : Tree) (o : Option ℕ) → Answer 0 0 t o → MatchOption o (AllLeavesNonBlank t) (λ j. IsFirstBlank t j)
 leftmost t None s = λ i l. s i (omega arith) (omega arith) (omega arith)
 leftmost t (Some j) s = record { inside = omega (arith, s.inside); blank = s.blank; earlier = λ i l. s.earlier i (omega arith) (omega arith) l }
 
 -- what the search from leaf 0 on says of the tree
-pub first_blank_leaf-leftmost : (t : Tree) → MatchOption (first_blank_leaf 0 t) (AllLeavesSet t) (λ j. IsFirstBlank t j)
+pub first_blank_leaf-leftmost : (t : Tree) → MatchOption (first_blank_leaf 0 t) (AllLeavesNonBlank t) (λ j. IsFirstBlank t j)
 first_blank_leaf-leftmost t = leftmost t (first_blank_leaf 0 t) (subst (Answer 0 0 t) (next_blank_leaf-zero 0 t) (search 0 0 t))
 
-from_zero : (start : ℕ) (t : Tree) → AreSetBelow t start → (o : Option ℕ) → Answer start 0 t o → next_blank_leaf 0 0 t ≡ o
+from_zero : (start : ℕ) (t : Tree) → AreNonBlankBelow t start → (o : Option ℕ) → Answer start 0 t o → next_blank_leaf 0 0 t ≡ o
 from_zero start t set None s =
     none 0 t (λ i late a b. elim (cases_lt i start) [ inl lt ↦ set i lt | inr ge ↦ s i ge a b ]) (next_blank_leaf 0 0 t) (search 0 0 t)
 from_zero start t set (Some j) s =
@@ -142,5 +142,5 @@ from_zero start t set (Some j) s =
     }) (next_blank_leaf 0 0 t) (search 0 0 t)
 
 -- where each leaf below `start` is set, the search from there on finds the first one
-pub next_blank_leaf-first : (t : Tree) (start : ℕ) → AreSetBelow t start → next_blank_leaf start 0 t ≡ first_blank_leaf 0 t
+pub next_blank_leaf-first : (t : Tree) (start : ℕ) → AreNonBlankBelow t start → next_blank_leaf start 0 t ≡ first_blank_leaf 0 t
 next_blank_leaf-first t start set = sym (from_zero start t set (next_blank_leaf start 0 t) (search start 0 t)) ∙ next_blank_leaf-zero 0 t

@@ -14,7 +14,7 @@ use Rattle.mls_tree.specs.TreeHash.{tree_hash}
 use Rattle.mls_tree.specs.TreeOperations.{left_subtree, with_left, rejoined}
 use Rattle.mls_tree.specs.HashCache.{emptied, extended, hash_by, AreSlots, AreSlotsOf}
 use Rattle.mls_tree.specs.CacheModel.{kind_in, slots_in, HasMoreThan, AreFewer}
-use Rattle.mls_tree.specs.SlotChanges.{joined, rejoined_slots, SlotsAgreeExceptAt}
+use Rattle.mls_tree.specs.SlotChanges.{joined_slots, rejoined_slots, SlotsAgreeExceptAt}
 use Rattle.mls_tree.proofs.Arrays.{slice_get-set_other}
 use Rattle.mls_tree.proofs.Choices.{same}
 use Rattle.mls_tree.proofs.Trees.{leaf_count-perfect, leaf_count-positive, subtree_at-in_left, subtree_at-in_right}
@@ -22,7 +22,7 @@ use Rattle.mls_tree.proofs.Numbers.{leaves_at-low}
 use Rattle.mls_tree.proofs.Rejoining.{rejoined-fits, rejoined-not}
 use Rattle.mls_tree.proofs.Emptying.{IsAway, AreSlots-emptied, emptied-filled, emptied-nothing, length-emptied}
 use Rattle.mls_tree.proofs.Growing.{slice_get-append_left, slice_get-take}
-use Rattle.mls_tree.proofs.SlotsBack.{emptied-other, length-joined}
+use Rattle.mls_tree.proofs.SlotsBack.{emptied-other, length-joined_slots}
 
 -- ---- entries of a list that was put together
 
@@ -129,7 +129,7 @@ module _ (slots front rest : List (Option (List ℕ))) (root : ℕ) (long : root
   rest-long : length rest ≡ length slots
   rest-long = ap length left ∙ length-emptied slots (range_with_len 0 (root + 1))
 
-  again-at : (p : ℕ) → (root ≡ p → ⊥) → slice_get slots p ≡ slice_get (joined front rest) p
+  again-at : (p : ℕ) → (root ≡ p → ⊥) → slice_get slots p ≡ slice_get (joined_slots front rest) p
   again-at p away =
       let f = front-long in
       let set = slice_get-set_other (front ++ drop (length front) rest) (length front) p None (λ e. away (omega arith)) in
@@ -142,17 +142,17 @@ module _ (slots front rest : List (Option (List ℕ))) (root : ℕ) (long : root
             ∙ sym (emptied-other (range_with_len 0 (root + 1)) slots p (range-away 0 (root + 1) p (omega arith))))
       ]
 
-  again : AreAgain root slots (joined front rest)
+  again : AreAgain root slots (joined_slots front rest)
   again = record {
-    count = omega (arith, length-joined front rest, front-long, rest-long);
+    count = omega (arith, length-joined_slots front rest, front-long, rest-long);
     same = λ p away. again-at p (not-other root p away);
   }
 
-none-again : (root : ℕ) (slots front rest : List (Option (List ℕ))) → slots ≡ [] → front ≡ [] → rest ≡ [] → AreAgain root slots (joined front rest)
+none-again : (root : ℕ) (slots front rest : List (Option (List ℕ))) → slots ≡ [] → front ≡ [] → rest ≡ [] → AreAgain root slots (joined_slots front rest)
 none-again root slots front rest c f r =
-    subst (λ cs. AreAgain root cs (joined front rest)) (sym c)
-    (subst (λ fs. AreAgain root [] (joined fs rest)) (sym f)
-    (subst (λ rs. AreAgain root [] (joined [] rs)) (sym r) (record { count = refl; same = λ p away. refl })))
+    subst (λ cs. AreAgain root cs (joined_slots front rest)) (sym c)
+    (subst (λ fs. AreAgain root [] (joined_slots fs rest)) (sym f)
+    (subst (λ rs. AreAgain root [] (joined_slots [] rs)) (sym r) (record { count = refl; same = λ p away. refl })))
 
 take-nothing : (n : ℕ) → take n (let none : List (Option (List ℕ)) = [] in none) ≡ []
 take-nothing zero = refl
@@ -162,9 +162,9 @@ pub slots-again : (kind : Option HashKind) (t l w : Tree) (slots front rest : Li
     → root + 1 ≡ leaf_count t → front ≡ take root slots → rest ≡ emptied slots (range_with_len 0 (root + 1)) → AreSlotsOf kind t slots
     → AreAgain root slots (rejoined_slots l front w rest)
 slots-again kind t l w slots front rest root br at back count taken left ok =
-    subst (AreAgain root slots) (sym (same (height l + 1) (height w) (joined front rest) front (fits-again t l w br at back))) (by_kind kind ok)
+    subst (AreAgain root slots) (sym (same (height l + 1) (height w) (joined_slots front rest) front (fits-again t l w br at back))) (by_kind kind ok)
   where
-    by_kind : (k : Option HashKind) → AreSlotsOf k t slots → AreAgain root slots (joined front rest)
+    by_kind : (k : Option HashKind) → AreSlotsOf k t slots → AreAgain root slots (joined_slots front rest)
     by_kind None none =
         none-again root slots front rest none (taken ∙ ap (take root) none ∙ take-nothing root)
         (left ∙ ap (λ cs. emptied cs (range_with_len 0 (root + 1))) none ∙ emptied-nothing (range_with_len 0 (root + 1)))
@@ -172,10 +172,10 @@ slots-again kind t l w slots front rest root br at back count taken left ok =
 
 -- ---- a tree in the place of the left half of another one
 
-AreSlots-joined : (H : List ℕ → List ℕ) (t m r : Tree) (n : Option ParentNode) (slots rest new : List (Option (List ℕ))) → leaf_count m ≡ leaf_count t → leaf_count r ≡ leaf_count t
-    → new ≡ joined slots rest → AreSlots H t slots → AreSlots H (branch m n r) rest → AreSlots H (branch t n r) new
-AreSlots-joined H t m r n slots rest new c d e ok right = record {
-  count = omega (arith, ap length e, length-joined slots rest, ok.count, right.count);
+AreSlots-joined_slots : (H : List ℕ → List ℕ) (t m r : Tree) (n : Option ParentNode) (slots rest new : List (Option (List ℕ))) → leaf_count m ≡ leaf_count t → leaf_count r ≡ leaf_count t
+    → new ≡ joined_slots slots rest → AreSlots H t slots → AreSlots H (branch m n r) rest → AreSlots H (branch t n r) new
+AreSlots-joined_slots H t m r n slots rest new c d e ok right = record {
+  count = omega (arith, ap length e, length-joined_slots slots rest, ok.count, right.count);
   each = λ p h at.
       let w = emptied-filled (slots ++ drop (length slots) rest) (length slots ∷ []) p h (ap (λ cs. slice_get cs p) (sym e) ∙ at) in
       elim (cases_order p (length slots)) [
@@ -190,15 +190,15 @@ AreSlots-joined H t m r n slots rest new c d e ok right = record {
 }
 
 slots-with_left : (kind : Option HashKind) (t u w : Tree) (slots rest new : List (Option (List ℕ))) → IsPerfect t → IsPerfect w → height t + 1 ≡ height w → u ≡ with_left t w
-    → new ≡ joined slots rest → AreSlotsOf kind t slots → AreSlotsOf kind w rest → AreSlotsOf kind u new
+    → new ≡ joined_slots slots rest → AreSlotsOf kind t slots → AreSlotsOf kind w rest → AreSlotsOf kind u new
 slots-with_left kind t u (leaf x) slots rest new a b fits at is ok right = absurd (omega arith)
-slots-with_left None t u (branch m n r) slots rest new a b fits at is ok right = is ∙ (λ i. joined (ok i) (right i))
+slots-with_left None t u (branch m n r) slots rest new a b fits at is ok right = is ∙ (λ i. joined_slots (ok i) (right i))
 slots-with_left (Some kind) t u (branch m n r) slots rest new a b fits at is ok right =
     let d : leaf_count r ≡ leaf_count t = leaf_count-perfect r b.2 ∙ ap leaves_at (let h : height r ≡ height t = omega (arith, b.0) in h) ∙ sym (leaf_count-perfect t a) in
-    subst (λ v. AreSlots (hash_by kind) v new) (sym at) (AreSlots-joined (hash_by kind) t m r n slots rest new (same-count t m r a b.1 fits) d is ok right)
+    subst (λ v. AreSlots (hash_by kind) v new) (sym at) (AreSlots-joined_slots (hash_by kind) t m r n slots rest new (same-count t m r a b.1 fits) d is ok right)
 
 pub slots-rejoined : (old held whole new : Option Slots) (t u w : Tree) → IsPerfect t → IsPerfect w → height t + 1 ≡ height w → u ≡ rejoined t w → held ≡ old
-    → IfSome new (λ c. (kind_in held ≡ Some c.kind) × (kind_in whole ≡ Some c.kind) × (c.hashes.items ≡ joined (slots_in held) (slots_in whole)))
+    → IfSome new (λ c. (kind_in held ≡ Some c.kind) × (kind_in whole ≡ Some c.kind) × (c.hashes.items ≡ joined_slots (slots_in held) (slots_in whole)))
     → AreSlotsOf (kind_in old) t (slots_in old) → AreSlotsOf (kind_in whole) w (slots_in whole) → AreSlotsOf (kind_in new) u (slots_in new)
 slots-rejoined old held whole None t u w a b fits at same made ok right = refl
 slots-rejoined old held whole (Some c) t u w a b fits at same made ok right =

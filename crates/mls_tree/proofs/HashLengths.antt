@@ -6,7 +6,7 @@ use Rattle.sha2.proofs.Facts256.{length-sha256}
 use Rattle.sha2.proofs.Facts512.{length-sha384, length-sha512}
 use Rattle.mls_nodes.specs.declared.parent.ParentNode.{ParentNode}
 use Rattle.mls_tree.specs.Tree.{Tree, leaf, branch, leaf_count, Subtree, subtree_at}
-use Rattle.mls_tree.specs.TreeHash.{tree_hash, hash_of_parent, leaf_hash_input, parent_hash_input}
+use Rattle.mls_tree.specs.TreeHash.{tree_hash, hash_of_parent, leaf_tree_hash_input, parent_tree_hash_input}
 use Rattle.mls_tree.specs.HashCache.{hash_by, hash_len, hash_at}
 use Rattle.mls_tree.specs.declared.hash_kind.HashKind.{HashKind}
 use Rattle.mls_tree.specs.declared.hash_kind.HashKind.TheVariants.{Sha256, Sha384, Sha512}
@@ -26,10 +26,10 @@ length-hashed kind (Some message) hash e = ap length (sym (same_Some _ _ e)) ∙
 length-parent_hash : (kind : HashKind) (p : Option ParentNode) (left right : Option (List ℕ)) (hash : List ℕ) → hash_of_parent (hash_by kind) p left right ≡ Some hash → length hash ≡ hash_len kind
 length-parent_hash kind p None right hash e = absurd (none-some hash e)
 length-parent_hash kind p (Some l) None hash e = absurd (none-some hash e)
-length-parent_hash kind p (Some l) (Some r) hash e = length-hashed kind (parent_hash_input p l r) hash e
+length-parent_hash kind p (Some l) (Some r) hash e = length-hashed kind (parent_tree_hash_input p l r) hash e
 
 length-tree_hash : (kind : HashKind) (first : ℕ) (t : Tree) (hash : List ℕ) → tree_hash (hash_by kind) first t ≡ Some hash → length hash ≡ hash_len kind
-length-tree_hash kind first (leaf x) hash e = length-hashed kind (leaf_hash_input first x) hash e
+length-tree_hash kind first (leaf x) hash e = length-hashed kind (leaf_tree_hash_input first x) hash e
 length-tree_hash kind first (branch l p r) hash e =
     length-parent_hash kind p (tree_hash (hash_by kind) first l) (tree_hash (hash_by kind) (first + leaf_count l) r) hash e
 

@@ -6,7 +6,7 @@ use Rattle.mls_nodes.specs.declared.leaf.LeafNode.{LeafNode}
 use Rattle.mls_nodes.specs.declared.parent.ParentNode.{ParentNode}
 use Rattle.mls_tree.specs.Tree.{Tree, leaf, branch, height, leaf_count, leaves_at, leaf_at, IsPerfect}
 use Rattle.mls_tree.specs.RatchetTree.{HasShape}
-use Rattle.mls_tree.specs.TreeOperations.{put_leaf, put_parent, change_above, has_set_leaf, truncate, blank_tree, extend}
+use Rattle.mls_tree.specs.TreeOperations.{put_leaf, put_parent, change_above, has_non_blank_leaf, truncate, blank_tree, extend}
 use Rattle.mls_tree.proofs.Choices.{below, from, same, other}
 use Rattle.mls_tree.proofs.Trees.{leaf_count-perfect}
 use Rattle.mls_tree.proofs.Lookups.{leaf_at-past}
@@ -176,32 +176,32 @@ pub or_none : (a b : Bool) → (a || b) ≡ false → (a ≡ false) × (b ≡ fa
 or_none true b e = absurd (cc)
 or_none false b e = (refl, e)
 
-pub leaf_at-none_set : (first : ℕ) (t : Tree) (j : ℕ) → has_set_leaf t ≡ false → leaf_at first t j ≡ None
+pub leaf_at-none_set : (first : ℕ) (t : Tree) (j : ℕ) → has_non_blank_leaf t ≡ false → leaf_at first t j ≡ None
 leaf_at-none_set first (leaf None) j e = either (λ (o : Option LeafNode). o ≡ None) (j == first) None None refl refl
 leaf_at-none_set first (leaf (Some x)) j e = absurd (cc)
 leaf_at-none_set first (branch l n r) j e =
-    let b = or_none (has_set_leaf l) (has_set_leaf r) e in
+    let b = or_none (has_non_blank_leaf l) (has_non_blank_leaf r) e in
     either (λ (o : Option LeafNode). o ≡ None) (nat_lt j (first + leaf_count l)) (leaf_at first l j) (leaf_at (first + leaf_count l) r j)
     (leaf_at-none_set first l j b.0) (leaf_at-none_set (first + leaf_count l) r j b.1)
 
 pub IsPerfect-truncate : (t : Tree) → IsPerfect t → IsPerfect (truncate t)
 IsPerfect-truncate (leaf x) h = h
-IsPerfect-truncate (branch l n r) h = either IsPerfect (has_set_leaf r) (branch l n r) (truncate l) h (IsPerfect-truncate l h.1)
+IsPerfect-truncate (branch l n r) h = either IsPerfect (has_non_blank_leaf r) (branch l n r) (truncate l) h (IsPerfect-truncate l h.1)
 
 pub height-truncate : (t : Tree) → height (truncate t) ≤ height t
 height-truncate (leaf x) = omega arith
-height-truncate (branch l n r) = either (λ t. height t ≤ suc (height l)) (has_set_leaf r) (branch l n r) (truncate l) (omega arith) (let a = height-truncate l in omega arith)
+height-truncate (branch l n r) = either (λ t. height t ≤ suc (height l)) (has_non_blank_leaf r) (branch l n r) (truncate l) (omega arith) (let a = height-truncate l in omega arith)
 
 pub leaf_count-truncate : (t : Tree) → leaf_count (truncate t) ≤ leaf_count t
 leaf_count-truncate (leaf x) = omega arith
 leaf_count-truncate (branch l n r) =
-    either (λ t. leaf_count t ≤ leaf_count l + leaf_count r) (has_set_leaf r) (branch l n r) (truncate l) (omega arith) (let a = leaf_count-truncate l in omega arith)
+    either (λ t. leaf_count t ≤ leaf_count l + leaf_count r) (has_non_blank_leaf r) (branch l n r) (truncate l) (omega arith) (let a = leaf_count-truncate l in omega arith)
 
 pub HasShape-truncate : (t : Tree) → HasShape t → HasShape (truncate t)
 HasShape-truncate t s = record { perfect = IsPerfect-truncate t s.perfect; low = let a = height-truncate t in omega arith }
 
 shrunk : (first : ℕ) (l : Tree) (n : Option ParentNode) (r : Tree) (j : ℕ) → leaf_at first (truncate l) j ≡ leaf_at first l j
-    → (b : Bool) → has_set_leaf r ≡ b → leaf_at first (if b then branch l n r else truncate l) j ≡ leaf_at first (branch l n r) j
+    → (b : Bool) → has_non_blank_leaf r ≡ b → leaf_at first (if b then branch l n r else truncate l) j ≡ leaf_at first (branch l n r) j
 shrunk first l n r j ih true e = refl
 shrunk first l n r j ih false e =
     ih
@@ -214,4 +214,4 @@ shrunk first l n r j ih false e =
 
 pub leaf_at-truncate : (first : ℕ) (t : Tree) (j : ℕ) → leaf_at first (truncate t) j ≡ leaf_at first t j
 leaf_at-truncate first (leaf x) j = refl
-leaf_at-truncate first (branch l n r) j = shrunk first l n r j (leaf_at-truncate first l j) (has_set_leaf r) refl
+leaf_at-truncate first (branch l n r) j = shrunk first l n r j (leaf_at-truncate first l j) (has_non_blank_leaf r) refl

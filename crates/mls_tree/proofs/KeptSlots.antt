@@ -12,7 +12,7 @@ use Rattle.mls_nodes.specs.declared.node.Node.{Node}
 use Rattle.mls_nodes.specs.NodeModel.{entry_value}
 use Rattle.mls_tree.specs.Tree.{Tree, leaf, branch, height, leaf_count, leaves_at, listing, IsPerfect, Subtree, subtree_at}
 use Rattle.mls_tree.specs.TreeHash.{tree_hash}
-use Rattle.mls_tree.specs.TreeOperations.{put_leaf, put_parent, change_above, truncate, has_set_leaf, left_subtree, extend, blank_tree}
+use Rattle.mls_tree.specs.TreeOperations.{put_leaf, put_parent, change_above, truncate, has_non_blank_leaf, left_subtree, extend, blank_tree}
 use Rattle.mls_tree.specs.Paths.{direct_path}
 use Rattle.mls_tree.specs.HashCache.{emptied, parents_from, extended, hash_by, AreSlots, AreSlotsOf}
 use Rattle.mls_tree.specs.CacheModel.{kind_in, slots_in, IsOfHeight}
@@ -151,7 +151,7 @@ module _ (kind : Option HashKind) (t u : Tree) (slots new : List (Option (List �
 subtree_at-truncate : (t : Tree) (p : ℕ) → p + 1 < 2 * leaf_count (truncate t) → subtree_at 0 (truncate t) p ≡ subtree_at 0 t p
 subtree_at-truncate (leaf x) p lt = refl
 subtree_at-truncate (branch l n r) p lt =
-    either (λ v. p + 1 < 2 * leaf_count v → subtree_at 0 v p ≡ subtree_at 0 (branch l n r) p) (has_set_leaf r) (branch l n r) (truncate l) (λ _. refl)
+    either (λ v. p + 1 < 2 * leaf_count v → subtree_at 0 v p ≡ subtree_at 0 (branch l n r) p) (has_non_blank_leaf r) (branch l n r) (truncate l) (λ _. refl)
     (λ low. subtree_at-truncate l p low ∙ sym (subtree_at-in_left 0 l n r p (let a = leaf_count-truncate l in omega arith)))
     lt
 

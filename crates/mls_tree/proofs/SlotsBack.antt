@@ -15,10 +15,10 @@ use Rattle.mls_tree.specs.NodeView.{parent_of}
 use Rattle.mls_tree.specs.PublicTreeModel.{KeptTree}
 use Rattle.mls_tree.specs.Paths.{direct_path}
 use Rattle.mls_tree.specs.HashCache.{emptied, parents_from}
-use Rattle.mls_tree.specs.SlotChanges.{joined, rejoined_slots, SlotsAgreeExceptAt}
+use Rattle.mls_tree.specs.SlotChanges.{joined_slots, rejoined_slots, SlotsAgreeExceptAt}
 use Rattle.mls_tree.specs.Journals.{undone, all_undone, slots_back, all_slots_back, IsEntryOfKind}
 use Rattle.mls_tree.specs.declared.journal.UndoEntry.{UndoEntry}
-use Rattle.mls_tree.specs.declared.journal.UndoEntry.TheVariants.{Leaf, Parent, AddedUnmerged, Extended, Halved}
+use Rattle.mls_tree.specs.declared.journal.UndoEntry.TheVariants.{Leaf, Parent, AddedUnmerged, Extended, Truncated}
 use Rattle.mls_tree.specs.declared.hash_kind.HashKind.{HashKind}
 use Rattle.mls_tree.proofs.Arrays.{slice_get-set_other}
 use Rattle.mls_tree.proofs.Choices.{below, from, here}
@@ -66,13 +66,13 @@ emptied-alike : (ps : List ℕ) (xs ys : List (Option (List ℕ))) (p : ℕ) →
 emptied-alike [] xs ys p h = h
 emptied-alike (q ∷ ps) xs ys p h = emptied-alike ps (slice_set xs q None) (slice_set ys q None) p (set-alike xs ys q None p h)
 
-joined-alike : (xs ys whole : List (Option (List ℕ))) (p : ℕ) → length xs ≡ length ys → slice_get xs p ≡ slice_get ys p → slice_get (joined xs whole) p ≡ slice_get (joined ys whole) p
-joined-alike xs ys whole p e h =
+joined_slots-alike : (xs ys whole : List (Option (List ℕ))) (p : ℕ) → length xs ≡ length ys → slice_get xs p ≡ slice_get ys p → slice_get (joined_slots xs whole) p ≡ slice_get (joined_slots ys whole) p
+joined_slots-alike xs ys whole p e h =
     (λ i. slice_get (slice_set (xs ++ drop (e i) whole) (e i) None) p)
     ∙ set-alike (xs ++ drop (length ys) whole) (ys ++ drop (length ys) whole) (length ys) None p (append-alike xs ys (drop (length ys) whole) p e h)
 
-pub length-joined : (xs whole : List (Option (List ℕ))) → length (joined xs whole) ≡ length xs + (length whole - length xs)
-length-joined xs whole = length-set (xs ++ drop (length xs) whole) (length xs) None ∙ length-append xs (drop (length xs) whole) ∙ ap (λ n. length xs + n) (length-drop (length xs) whole)
+pub length-joined_slots : (xs whole : List (Option (List ℕ))) → length (joined_slots xs whole) ≡ length xs + (length whole - length xs)
+length-joined_slots xs whole = length-set (xs ++ drop (length xs) whole) (length xs) None ∙ length-append xs (drop (length xs) whole) ∙ ap (λ n. length xs + n) (length-drop (length xs) whole)
 
 -- two lists became others, as long as one another, whose cells are alike where those of the lists were
 record BecameAlike (xs ys us vs : List (Option (List ℕ))) : Type 0 where
@@ -95,11 +95,11 @@ back-alike (AddedUnmerged q i) t xs ys e = emptied-both (parents_from 0 t q) xs 
 back-alike Extended t xs ys e =
     let n = 2 * leaf_count (left_subtree t) - 1 in
     record { count = omega (arith, length-take n xs, length-take n ys, e); each = λ p h. take-alike n xs ys p h }
-back-alike (Halved b) t xs ys e =
-    if-alike ((height t + 1) == height b.value.tree) xs ys (joined xs b.value.slots) (joined ys b.value.slots) e
+back-alike (Truncated b) t xs ys e =
+    if-alike ((height t + 1) == height b.value.tree) xs ys (joined_slots xs b.value.slots) (joined_slots ys b.value.slots) e
     (record {
-      count = omega (arith, length-joined xs b.value.slots, length-joined ys b.value.slots, e);
-      each = λ p h. joined-alike xs ys b.value.slots p e h;
+      count = omega (arith, length-joined_slots xs b.value.slots, length-joined_slots ys b.value.slots, e);
+      each = λ p h. joined_slots-alike xs ys b.value.slots p e h;
     })
 
 all-back-alike : (es : List UndoEntry) (t : Tree) (xs ys : List (Option (List ℕ))) → length xs ≡ length ys → BecameAlike xs ys (all_slots_back es t xs) (all_slots_back es t ys)
@@ -318,12 +318,12 @@ halved-away path t u b half above p away = ap (λ v. list_any (λ q. q == p) (di
 
 pub halved-slots : (path : List ℕ) (t u : KeptTree) (old capacity new : List UndoEntry) → capacity ≡ old → (left rest : KeptTree) (b : Box KeptTree Global) → IsBranch t.tree → u ≡ left → b.value ≡ rest
     → rejoined left.tree rest.tree ≡ t.tree → length t.slots ≡ length (rejoined_slots left.tree left.slots rest.tree rest.slots)
-    → SlotsAgreeExceptAt ((leaf_count t.tree - 1) ∷ []) t.slots (rejoined_slots left.tree left.slots rest.tree rest.slots) → new ≡ capacity ++ Halved b ∷ [] → AreAwayToo path (direct_path 0 t.tree 0)
+    → SlotsAgreeExceptAt ((leaf_count t.tree - 1) ∷ []) t.slots (rejoined_slots left.tree left.slots rest.tree rest.slots) → new ≡ capacity ++ Truncated b ∷ [] → AreAwayToo path (direct_path 0 t.tree 0)
     → SlotsAgreeExceptAt path (all_slots_back old t.tree t.slots) (all_slots_back new u.tree u.slots)
 halved-slots path t u old capacity new reserved left rest b deep now whole back count again pushed above =
     let same : rejoined_slots left.tree left.slots rest.tree rest.slots ≡ rejoined_slots u.tree u.slots b.value.tree b.value.slots
     = λ i. rejoined_slots ((sym now) i).tree ((sym now) i).slots ((sym whole) i).tree ((sym whole) i).slots in
-    slots-kept_back t.tree u.tree old capacity new reserved t.slots u.slots path (Halved b) pushed
+    slots-kept_back t.tree u.tree old capacity new reserved t.slots u.slots path (Truncated b) pushed
     ((λ i. rejoined (now i).tree (whole i).tree) ∙ back)
     (count ∙ ap length same)
     (λ p away. again p (root-away t.tree t.shape.perfect deep p (above p away)) ∙ ap (λ cs. slice_get cs p) same)

@@ -9,7 +9,7 @@ use Rattle.mls_tree.specs.TreeOperations.{put_leaf, put_parent, change_parent, w
 use Rattle.mls_tree.specs.NodeView.{parent_of}
 use Rattle.mls_tree.specs.Journals.{undone, all_undone}
 use Rattle.mls_tree.specs.declared.journal.UndoEntry.{UndoEntry}
-use Rattle.mls_tree.specs.declared.journal.UndoEntry.TheVariants.{Leaf, Parent, AddedUnmerged, Extended, Halved}
+use Rattle.mls_tree.specs.declared.journal.UndoEntry.TheVariants.{Leaf, Parent, AddedUnmerged, Extended, Truncated}
 use Rattle.mls_tree.specs.RatchetTree.{RatchetTree}
 use Rattle.mls_tree.specs.PublicTreeModel.{KeptTree}
 use Rattle.mls_tree.proofs.Elsewhere.{put_parent-elsewhere}
@@ -188,9 +188,9 @@ pub undone-end : (t : Tree) (left : List UndoEntry) → left ≡ [] → all_undo
 undone-end t left e = ap (λ xs. all_undone xs t) e
 
 -- the tree was halved
-pub halved-kept_back : (t u : Tree) (b : Box KeptTree Global) (old capacity new : List UndoEntry) → capacity ≡ old → rejoined u b.value.tree ≡ t → new ≡ capacity ++ Halved b ∷ []
+pub halved-kept_back : (t u : Tree) (b : Box KeptTree Global) (old capacity new : List UndoEntry) → capacity ≡ old → rejoined u b.value.tree ≡ t → new ≡ capacity ++ Truncated b ∷ []
     → all_undone new u ≡ all_undone old t
 halved-kept_back t u b old capacity new reserved back pushed =
-    ap (λ xs. all_undone xs u) (pushed ∙ ap (λ xs. xs ++ Halved b ∷ []) reserved)
-    ∙ undone-last old (Halved b) u
+    ap (λ xs. all_undone xs u) (pushed ∙ ap (λ xs. xs ++ Truncated b ∷ []) reserved)
+    ∙ undone-last old (Truncated b) u
     ∙ ap (all_undone old) back

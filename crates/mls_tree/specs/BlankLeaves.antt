@@ -25,10 +25,10 @@ pub record IsFirstBlank (t : Tree) (j : ℕ) : Type 0 where
   pub blank : leaf_at 0 t j ≡ None
   pub earlier : (i : ℕ) → i < j → IsSome (leaf_at 0 t i)
 
--- `AreSetBelow t last`: each leaf whose index is below `last` is non-blank.
-abbrev pub AreSetBelow : Tree → ℕ → Type 0
-AreSetBelow t last = (i : ℕ) → i < last → IsSome (leaf_at 0 t i)
+-- `AreNonBlankBelow t last`: each leaf whose index is below `last` is non-blank.
+abbrev pub AreNonBlankBelow : Tree → ℕ → Type 0
+AreNonBlankBelow t last = (i : ℕ) → i < last → IsSome (leaf_at 0 t i)
 
--- `AllLeavesSet t`: no leaf is blank.
-abbrev pub AllLeavesSet : Tree → Type 0
-AllLeavesSet t = (i : ℕ) → i < leaf_count t → IsSome (leaf_at 0 t i)
+-- `AllLeavesNonBlank t`: no leaf is blank.
+abbrev pub AllLeavesNonBlank : Tree → Type 0
+AllLeavesNonBlank t = (i : ℕ) → i < leaf_count t → IsSome (leaf_at 0 t i)

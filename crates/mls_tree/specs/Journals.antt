@@ -8,7 +8,7 @@ use Rattle.mls_tree.specs.PublicTreeModel.{KeptTree}
 use Rattle.mls_tree.specs.declared.hash_kind.HashKind.{HashKind}
 use Rattle.mls_tree.specs.TreeOperations.{put_leaf, put_parent, change_parent, without_unmerged, left_subtree, rejoined}
 use Rattle.mls_tree.specs.declared.journal.UndoEntry.{UndoEntry}
-use Rattle.mls_tree.specs.declared.journal.UndoEntry.TheVariants.{Leaf, Parent, AddedUnmerged, Extended, Halved}
+use Rattle.mls_tree.specs.declared.journal.UndoEntry.TheVariants.{Leaf, Parent, AddedUnmerged, Extended, Truncated}
 use Rattle.mls_tree.specs.declared.journal.Journal.{Journal}
 
 -- `undone x t` is the tree before a change whose undo entry is `x`.
@@ -17,7 +17,7 @@ undone (Leaf i x) t = if nat_lt i (leaf_count t) then put_leaf 0 t i (option_map
 undone (Parent p x) t = put_parent 0 t p (option_map (λ b. b.value) x)
 undone (AddedUnmerged p i) t = change_parent (without_unmerged i) 0 t p
 undone Extended t = left_subtree t
-undone (Halved b) t = rejoined t b.value.tree
+undone (Truncated b) t = rejoined t b.value.tree
 
 -- `all_undone xs t` is the tree before changes with these undo entries. The last one is undone first.
 abbrev pub all_undone : List UndoEntry → Tree → Tree
@@ -39,7 +39,7 @@ slots_back (Leaf i x) t slots = if nat_lt i (leaf_count t) then emptied slots (2
 slots_back (Parent p x) t slots = emptied slots (parents_from 0 t p)
 slots_back (AddedUnmerged p i) t slots = emptied slots (parents_from 0 t p)
 slots_back Extended t slots = take (2 * leaf_count (left_subtree t) - 1) slots
-slots_back (Halved b) t slots = rejoined_slots t slots b.value.tree b.value.slots
+slots_back (Truncated b) t slots = rejoined_slots t slots b.value.tree b.value.slots
 
 -- `all_slots_back xs t slots` is the slots once the changes with these undo entries are undone.
 abbrev pub all_slots_back : List UndoEntry → Tree → List (Option (List ℕ)) → List (Option (List ℕ))
@@ -56,7 +56,7 @@ IsEntryOfKind kind (Leaf i x) = Unit {0}
 IsEntryOfKind kind (Parent p x) = Unit {0}
 IsEntryOfKind kind (AddedUnmerged p i) = Unit {0}
 IsEntryOfKind kind Extended = Unit {0}
-IsEntryOfKind kind (Halved b) = b.value.kind ≡ kind
+IsEntryOfKind kind (Truncated b) = b.value.kind ≡ kind
 
 -- each tree that was truncated does
 abbrev pub IsOfKind : Option HashKind → Journal → Type 0

@@ -20,15 +20,15 @@ abbrev pub plain : KeptTree → RatchetTree
 plain t = record { tree = t.tree; shape = t.shape }
 
 -- The model as a pair, which has a code.
-abbrev parts : KeptTree → RatchetTree × (Option HashKind × List (Option (List ℕ)))
-parts t = (plain t, (t.kind, t.slots))
+abbrev kept_tree_parts : KeptTree → RatchetTree × (Option HashKind × List (Option (List ℕ)))
+kept_tree_parts t = (plain t, (t.kind, t.slots))
 
 -- The model of such a pair.
-abbrev whole : RatchetTree × (Option HashKind × List (Option (List ℕ))) → KeptTree
-whole p = record { tree = p.0.tree; shape = p.0.shape; kind = p.1.0; slots = p.1.1 }
+abbrev kept_tree_of_parts : RatchetTree × (Option HashKind × List (Option (List ℕ))) → KeptTree
+kept_tree_of_parts p = record { tree = p.0.tree; shape = p.0.shape; kind = p.1.0; slots = p.1.1 }
 
 -- Models have codes.
 abbrev pub kept_tree_coded : Coded KeptTree
 kept_tree_coded =
     code_by (RatchetTree × (Option HashKind × List (Option (List ℕ))))
-    (coded× ratchet_tree_coded (coded× (coded_option hash-kind.the_row.coded) (coded_list (coded_option (coded_list coded_ℕ))))) parts whole (λ _. refl)
+    (coded× ratchet_tree_coded (coded× (coded_option hash-kind.the_row.coded) (coded_list (coded_option (coded_list coded_ℕ))))) kept_tree_parts kept_tree_of_parts (λ _. refl)

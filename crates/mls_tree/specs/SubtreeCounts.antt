@@ -10,14 +10,14 @@ parent_weight None = 0
 parent_weight (Some _) = 1
 
 -- The number of non-blank nodes.
-abbrev pub set_count : Tree → ℕ
-set_count (leaf None) = 0
-set_count (leaf (Some _)) = 1
-set_count (branch l n r) = set_count l + set_count r + parent_weight n
+abbrev pub non_blank_count : Tree → ℕ
+non_blank_count (leaf None) = 0
+non_blank_count (leaf (Some _)) = 1
+non_blank_count (branch l n r) = non_blank_count l + non_blank_count r + parent_weight n
 
 -- The count of a tree.
 abbrev pub subtree_count : Tree → Count
-subtree_count t = record { members = member_count t; nodes = set_count t }
+subtree_count t = record { members = member_count t; nodes = non_blank_count t }
 
 -- The list has the count of each parent of a tree. That of the parent with k leaves before its right subtree is at k -
 -- 1.

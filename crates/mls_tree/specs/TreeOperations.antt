@@ -86,17 +86,17 @@ is_overfilled_above first (branch l n r) i =
 abbrev pub IsOverfull : Tree → ℕ → Type 0
 IsOverfull t i = IsTrue (is_overfilled_above 0 t i)
 
--- `has_set_leaf t`: some leaf is non-blank.
-abbrev pub has_set_leaf : Tree → Bool
-has_set_leaf (leaf None) = false
-has_set_leaf (leaf (Some _)) = true
-has_set_leaf (branch l _ r) = has_set_leaf l || has_set_leaf r
+-- `has_non_blank_leaf t`: some leaf is non-blank.
+abbrev pub has_non_blank_leaf : Tree → Bool
+has_non_blank_leaf (leaf None) = false
+has_non_blank_leaf (leaf (Some _)) = true
+has_non_blank_leaf (branch l _ r) = has_non_blank_leaf l || has_non_blank_leaf r
 
 -- `truncate t` is the tree truncated while its right subtree has no non-blank leaf (RFC 9420, 7.7): the call
 -- `truncate`.
 abbrev pub truncate : Tree → Tree
 truncate (leaf x) = leaf x
-truncate (branch l n r) = if has_set_leaf r then branch l n r else truncate l
+truncate (branch l n r) = if has_non_blank_leaf r then branch l n r else truncate l
 
 -- `blank_tree h` is the tree of height h whose nodes are all blank.
 abbrev pub blank_tree : ℕ → Tree
@@ -141,10 +141,10 @@ number_or n (Some j) = j
 abbrev pub added_leaf : Tree → ℕ
 added_leaf t = number_or (leaf_count t) (first_blank_leaf 0 t)
 
--- `grown_for blank t` is the tree, extended if it has no blank leaf.
-abbrev pub grown_for : Option ℕ → Tree → Tree
-grown_for None t = extend t
-grown_for (Some _) t = t
+-- `extended_if_full blank t` is the tree, extended if it has no blank leaf.
+abbrev pub extended_if_full : Option ℕ → Tree → Tree
+extended_if_full None t = extend t
+extended_if_full (Some _) t = t
 
 -- `add_at t j x` is the tree with `x` as leaf j, unmerged in each non-blank parent above it.
 abbrev pub add_at : Tree → ℕ → LeafNode → Tree
@@ -152,7 +152,7 @@ add_at t j x = put_leaf 0 (add_unmerged t j) j (Some x)
 
 -- `add t x` is the tree after an Add of a member with leaf node `x` (RFC 9420, 12.1.1).
 abbrev pub add : Tree → LeafNode → Tree
-add t x = add_at (grown_for (first_blank_leaf 0 t) t) (added_leaf t) x
+add t x = add_at (extended_if_full (first_blank_leaf 0 t) t) (added_leaf t) x
 
 -- A tree, and the leaf index of it that a new member takes.
 pub record Seat : Type 0 where
@@ -162,4 +162,4 @@ pub record Seat : Type 0 where
 -- `seat t` is the tree, extended if it has no blank leaf, and the leaf that a new member takes: the leftmost blank one (RFC
 -- 9420, 7.7, 12.1.1 and 12.4.3.2). The leaf is still blank.
 abbrev pub seat : Tree → Seat
-seat t = record { tree = grown_for (first_blank_leaf 0 t) t; leaf = added_leaf t }
+seat t = record { tree = extended_if_full (first_blank_leaf 0 t) t; leaf = added_leaf t }

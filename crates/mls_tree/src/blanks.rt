@@ -7,7 +7,7 @@ ghost use Rattle.std.specs.Vec.{VecUnchanged};
 ghost use Rattle.mls_nodes.specs.Limits.{leaf_limit};
 ghost use Rattle.mls_tree.specs.Tree.{leaves_at};
 ghost use Rattle.mls_tree.specs.NodeArray.{tree_in, ChangesWithin};
-ghost use Rattle.mls_tree.specs.TreeOperations.{change_above, has_set_leaf};
+ghost use Rattle.mls_tree.specs.TreeOperations.{change_above, has_non_blank_leaf};
 ghost use Rattle.mls_tree.specs.BlankLeaves.{next_blank_leaf};
 ghost use Rattle.mls_tree.specs.SubtreeCounts.{AreCounts};
 ghost use Rattle.mls_tree.specs.CountsModel.{AreCountsIfAny};
@@ -41,24 +41,24 @@ pub(crate) fn blank_above(nodes: &mut [Option<Node>], level: u32, first: u32, le
 }
 
 /// Returns whether a leaf of the subtree is non-blank.
-pub(crate) fn has_set_leaf(nodes: &[Option<Node>], level: u32, first: u32) -> bool
+pub(crate) fn has_non_blank_leaf(nodes: &[Option<Node>], level: u32, first: u32) -> bool
     requires low { level ≤ 20 }
     requires inside { first + leaves_at level ≤ leaf_limit }
     requires long { 2 * (first + leaves_at level) ≤ length nodes.now + 1 }
-    ensures { result ≡ has_set_leaf (tree_in nodes.now level first) }
+    ensures { result ≡ has_non_blank_leaf (tree_in nodes.now level first) }
 {
     if level == 0 {
         return as_leaf(&nodes[2 * first as usize]).is_some();
     }
     let middle = first + leaves_of(level - 1);
-    if has_set_leaf(nodes, level - 1, first) {
+    if has_non_blank_leaf(nodes, level - 1, first) {
         return true;
     }
-    has_set_leaf(nodes, level - 1, middle)
+    has_non_blank_leaf(nodes, level - 1, middle)
 }
 
-/// As `has_set_leaf`. Uses the counts of the subtree's parents, if there are any.
-pub(crate) fn counts_set_leaf(
+/// As `has_non_blank_leaf`. Uses the counts of the subtree's parents, if there are any.
+pub(crate) fn counts_non_blank_leaf(
     nodes: &[Option<Node>],
     counts: Option<&[Count]>,
     level: u32,
@@ -68,11 +68,11 @@ pub(crate) fn counts_set_leaf(
     requires inside { first + leaves_at level ≤ leaf_limit }
     requires long { 2 * (first + leaves_at level) ≤ length nodes.now + 1 }
     requires counts { AreCountsIfAny (option_copied counts) first (tree_in nodes.now level first) }
-    ensures { result ≡ has_set_leaf (tree_in nodes.now level first) }
+    ensures { result ≡ has_non_blank_leaf (tree_in nodes.now level first) }
 {
     match counts {
         Some(counts) => count_of(nodes, counts, level, first).members > 0,
-        None => has_set_leaf(nodes, level, first),
+        None => has_non_blank_leaf(nodes, level, first),
     }
 }
 

@@ -5,7 +5,7 @@ ghost use Rattle.mls_tree.specs.Tree.{Tree, height, leaves_at, IsPerfect};
 ghost use Rattle.mls_tree.specs.Paths.{direct_path};
 ghost use Rattle.mls_tree.specs.HashCache.{emptied, parents_from, extended};
 ghost use Rattle.mls_tree.specs.CacheModel.{kind_in, slots_in, IsOfHeight, HasCapacity, HasMoreThan, AreFewer};
-ghost use Rattle.mls_tree.specs.SlotChanges.{joined};
+ghost use Rattle.mls_tree.specs.SlotChanges.{joined_slots};
 
 use crate::hash_cache::Slots;
 use std::alloc::{AllocError, Global};
@@ -124,10 +124,10 @@ pub(crate) fn empty_front(slots: &mut Option<Slots>, count: u32)
 pub(crate) fn join_slots(slots: Option<Slots>, whole: Option<Slots>) -> Option<Slots>
     requires fewer { AreFewer slots whole }
     requires short { length (slots_in whole) < 2 ^ 32 }
-    ensures joined { IfSome result (λ c. (kind_in slots ≡ Some c.kind) × (kind_in whole ≡ Some c.kind)
-        × (c.hashes.items ≡ joined (slots_in slots) (slots_in whole))) }
+    ensures joined_slots { IfSome result (λ c. (kind_in slots ≡ Some c.kind) × (kind_in whole ≡ Some c.kind)
+        × (c.hashes.items ≡ joined_slots (slots_in slots) (slots_in whole))) }
     ensures same { kind_in slots ≡ kind_in whole → (kind_in result ≡ kind_in slots)
-        × (slots_in result ≡ joined (slots_in slots) (slots_in whole)) }
+        × (slots_in result ≡ joined_slots (slots_in slots) (slots_in whole)) }
 {
     let Some(slots) = slots else {
         return None;

@@ -60,7 +60,7 @@ pub(crate) fn push_changed(
             push_range(out, 2 * half - 1, 2 * (leaves - half))?;
             Ok(half)
         }
-        UndoEntry::Halved(whole) => {
+        UndoEntry::Truncated(whole) => {
             let count = whole.leaf_count();
             if count != 2 * leaves {
                 return Ok(leaves);

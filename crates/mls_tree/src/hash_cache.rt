@@ -5,7 +5,7 @@ ghost use Rattle.mls_tree.specs.Tree.{Tree, height, leaves_at, IsPerfect};
 ghost use Rattle.mls_tree.specs.Paths.{direct_path};
 ghost use Rattle.mls_tree.specs.HashCache.{empty_count, emptied, hash_len, parents_from};
 ghost use Rattle.mls_tree.specs.HashLists.{CanExtend};
-ghost use Rattle.mls_tree.specs.SlotChanges.{joined};
+ghost use Rattle.mls_tree.specs.SlotChanges.{joined_slots};
 ghost use Rattle.std.specs.List.{range_with_len};
 
 use crate::cache_slots::HashSlots;
@@ -171,7 +171,7 @@ impl Slots {
         requires short { length self.old.hashes.items < 2 ^ 32 }
         requires kind { front.now.kind ≡ self.old.kind }
         ensures slots { self.new.hashes.items
-            ≡ joined front.now.hashes.items self.old.hashes.items }
+            ≡ joined_slots front.now.hashes.items self.old.hashes.items }
         ensures kind { self.new.kind ≡ self.old.kind }
     {
         let root = front.hashes.len() as u32;

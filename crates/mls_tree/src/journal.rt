@@ -44,7 +44,7 @@ pub(crate) enum UndoEntry {
     /// The tree, which has been extended.
     Extended,
     /// A tree twice as large, without its left subtree.
-    Halved(Box<PublicTree>),
+    Truncated(Box<PublicTree>),
 }
 
 /// What the changes of a tree have replaced, in the order of the changes. From the first change on, the tree is changed
@@ -76,7 +76,7 @@ fn rollback(tree: &mut PublicTree, former: UndoEntry)
         UndoEntry::Parent { node_index, node } => tree.restore_parent(node_index, node),
         UndoEntry::AddedUnmerged { node_index, index } => tree.leave_at(node_index, index),
         UndoEntry::Extended => tree.cut(),
-        UndoEntry::Halved(whole) => tree.rejoin(Box::into_inner(whole)),
+        UndoEntry::Truncated(whole) => tree.rejoin(Box::into_inner(whole)),
     }
 }
 
@@ -310,7 +310,7 @@ impl Journal {
             let left = tree.take_left(alloc)?;
             let whole = mem::replace(tree, left);
             let whole = put_in(slot, whole);
-            self.formers.push_reserved(UndoEntry::Halved(whole));
+            self.formers.push_reserved(UndoEntry::Truncated(whole));
         }
         Ok(())
     }

@@ -4,7 +4,7 @@ ghost use Rattle.mls_nodes.specs.declared.leaf.LeafNode.{LeafNode};
 ghost use Rattle.mls_nodes.specs.declared.parent.ParentNode.{ParentNode};
 ghost use Rattle.mls_tree.specs.RatchetTree.{RatchetTree};
 ghost use Rattle.mls_tree.specs.Tree.{Tree, leaf_count, listing, leaf_entry, parent_entry, subtree_at, node_at, leaf_at, IsParentNodeIndex, member_count, leaves_among};
-ghost use Rattle.mls_tree.specs.BlankLeaves.{first_blank_leaf, next_blank_leaf, AreSetBelow};
+ghost use Rattle.mls_tree.specs.BlankLeaves.{first_blank_leaf, next_blank_leaf, AreNonBlankBelow};
 ghost use Rattle.mls_tree.specs.TreeOperations.{put_leaf, put_parent, add, added_leaf};
 
 /// A list of nodes is the listing of at most one tree.
@@ -40,12 +40,12 @@ pub fn members_are_listed()
 
 /// If every leaf below `start` is non-blank, the search from `start` on finds the first blank leaf.
 pub fn next_blank_is_first()
-    ensures { (t : Tree) (start : ℕ) → AreSetBelow t start
+    ensures { (t : Tree) (start : ℕ) → AreNonBlankBelow t start
         → next_blank_leaf start 0 t ≡ first_blank_leaf 0 t }
 {}
 
 /// After a member was added, every leaf up to the added one is non-blank. So the search for the next blank leaf may
 /// begin after it.
 pub fn added_leaf_is_first()
-    ensures { (t : Tree) (x : LeafNode) → AreSetBelow (add t x) (added_leaf t + 1) }
+    ensures { (t : Tree) (x : LeafNode) → AreNonBlankBelow (add t x) (added_leaf t + 1) }
 {}

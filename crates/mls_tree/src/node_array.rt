@@ -5,14 +5,14 @@ ghost use Rattle.mls_nodes.specs.Limits.{leaf_limit};
 ghost use Rattle.mls_nodes.specs.NodeModel.{entry_value, node_value};
 ghost use Rattle.mls_tree.specs.Tree.{leaf_count, member_count, height, listing, node_at, leaf_at, IsBranch, IsParentNodeIndex};
 ghost use Rattle.mls_tree.specs.Paths.{direct_path, copath, filtered_direct_path, resolution_at, count_not_in};
-ghost use Rattle.mls_tree.specs.BlankLeaves.{first_blank_leaf, next_blank_leaf, IsFirstBlank, AllLeavesSet};
+ghost use Rattle.mls_tree.specs.BlankLeaves.{first_blank_leaf, next_blank_leaf, IsFirstBlank, AllLeavesNonBlank};
 ghost use Rattle.mls_tree.specs.TreeOperations.{put_leaf, put_parent, blank_path, change_parent, with_unmerged, without_unmerged, add_unmerged, is_overfilled, is_overfilled_above, IsOverfull, truncate, blank_tree, extend, left_subtree, rejoined};
 ghost use Rattle.mls_tree.specs.NodeView.{parent_of};
 ghost use Rattle.mls_tree.specs.TreeSizes.{IsPowerOfTwo, IsTooLong, IsListing};
 ghost use Rattle.mls_tree.specs.SubtreeCounts.{subtree_count, AreCounts, AreOutside};
 ghost use Rattle.mls_tree.specs.CountsModel.{AreCountsIfAny};
 
-use crate::blanks::{blank_above, counted_blank_leaf, counts_set_leaf, push_blanks};
+use crate::blanks::{blank_above, counted_blank_leaf, counts_non_blank_leaf, push_blanks};
 use crate::entries::{
     all_fit, as_leaf, clone_entries, count_leaves, into_leaf, into_parent, leaf_entry, parent_entry,
 };
@@ -187,7 +187,7 @@ impl NodeArray {
     pub(crate) fn first_blank_leaf(&self, counts: Option<&[Count]>) -> Option<u32>
         requires { AreCountsIfAny (option_copied counts) 0 self.now.tree }
         ensures first { result ≡ first_blank_leaf 0 self.now.tree }
-        ensures leftmost { MatchOption result (AllLeavesSet self.now.tree)
+        ensures leftmost { MatchOption result (AllLeavesNonBlank self.now.tree)
             (λ j. IsFirstBlank self.now.tree j) }
     {
         self.next_blank_leaf(counts, 0)
@@ -530,7 +530,7 @@ impl NodeArray {
             return false;
         }
         let below = self.height - 1;
-        !counts_set_leaf(self.nodes.as_slice(), counts, below, leaves_of(below))
+        !counts_non_blank_leaf(self.nodes.as_slice(), counts, below, leaves_of(below))
     }
 
     /// Truncates the tree (RFC 9420, 7.7): replaces it by its left subtree as long as its right subtree has no

@@ -6,7 +6,7 @@ ghost use Rattle.mls_nodes.specs.Limits.{leaf_limit};
 ghost use Rattle.mls_nodes.specs.NodeModel.{entry_value, node_value};
 ghost use Rattle.mls_tree.specs.Tree.{leaf_count, member_count, height, listing, node_at, leaf_at, IsBranch, IsParentNodeIndex};
 ghost use Rattle.mls_tree.specs.Paths.{direct_path, copath, filtered_direct_path, resolution_at, count_not_in};
-ghost use Rattle.mls_tree.specs.BlankLeaves.{first_blank_leaf, next_blank_leaf, IsFirstBlank, AllLeavesSet};
+ghost use Rattle.mls_tree.specs.BlankLeaves.{first_blank_leaf, next_blank_leaf, IsFirstBlank, AllLeavesNonBlank};
 ghost use Rattle.mls_tree.specs.TreeOperations.{put_leaf, put_parent, blank_path, change_parent, with_unmerged, without_unmerged, add_unmerged, is_overfilled, is_overfilled_above, IsOverfull, truncate, blank_tree, extend, left_subtree, rejoined, seat};
 ghost use Rattle.mls_tree.specs.NodeView.{parent_of};
 ghost use Rattle.mls_tree.specs.TreeSizes.{IsPowerOfTwo, IsTooLong, IsListing};
@@ -162,7 +162,7 @@ impl PublicTree {
     /// Returns the leaf index of the leftmost blank leaf. `None` if every leaf is non-blank.
     pub fn first_blank_leaf(&self) -> Option<u32>
         ensures first { result ≡ first_blank_leaf 0 self.now.tree }
-        ensures leftmost { MatchOption result (AllLeavesSet self.now.tree)
+        ensures leftmost { MatchOption result (AllLeavesNonBlank self.now.tree)
             (λ j. IsFirstBlank self.now.tree j) }
     {
         self.tree.first_blank_leaf(counts_in(&self.counts))
@@ -549,7 +549,7 @@ impl PublicTree {
 
     /// Replaces the tree by its left subtree, if it has one. Does not allocate.
     pub(crate) fn cut(&mut self)
-        ensures half { self.new.tree ≡ left_subtree self.old.tree }
+        ensures tree { self.new.tree ≡ left_subtree self.old.tree }
         ensures kind { self.new.kind ≡ self.old.kind }
         ensures slots { self.new.slots
             ≡ take (2 * leaf_count (left_subtree self.old.tree) - 1) self.old.slots }

@@ -24,7 +24,7 @@ HasEntries-weaker E F f leaves name d h = record { entries = h.entries; found = 
 
 -- the hashes that are kept are the tree hashes
 pub kept-tree_hash : (H : List ℕ → List ℕ) (t : Tree) (hashes : List (List ℕ)) → AreSubtreeHashes H t hashes → (p : ℕ) (d : Data) → IsKeptHash hashes p d → IsTreeHash H t p d
-kept-tree_hash H t hashes all p d h = record { hash = h.hash; hashed = sym (all p) ∙ h.kept; same = h.same }
+kept-tree_hash H t hashes all p d h = record { hash = h.hash; hashed = sym (all p) ∙ h.cached; same = h.same }
 
 pub tree_hash-kept : (H : List ℕ → List ℕ) (t : Tree) (hashes : List (List ℕ)) → AreSubtreeHashes H t hashes → (p : ℕ) (d : Data) → IsTreeHash H t p d → IsKeptHash hashes p d
-tree_hash-kept H t hashes all p d h = record { hash = h.hash; kept = all p ∙ h.hashed; same = h.same }
+tree_hash-kept H t hashes all p d h = record { hash = h.hash; cached = all p ∙ h.hashed; same = h.same }

@@ -18,7 +18,7 @@ use Rattle.mls_vectors.specs.TreeOperations.{HasProposal}
 use Rattle.mls_vectors.specs.TreeValidation.{HasSuite, HasTreeUnder, IsSkipped}
 use Rattle.mls_vectors.specs.VectorFile.{bytes_of, vectors_of}
 use Rattle.mls_vectors.specs.VectorResults as outcomes
-use Rattle.mls_vectors.specs.TreeMath.{Relation, IsLeft, IsRight, IsParent, IsSibling}
+use Rattle.mls_vectors.specs.TreeMath.{Relation, IsLeftOrNone, IsRightOrNone, IsParentOrNone, IsSiblingOrNone}
 use Rattle.mls_vectors.specs.declared.vector_result.VectorResult.{VectorResult}
 use Rattle.mls_vectors.specs.declared.vector_result.VectorResult.TheVariants.{Pass, Fail, Skip}
 use Rattle.mls_vectors.specs.declared.check.CheckKind.{CheckKind}
@@ -37,10 +37,10 @@ outcome_of Skip = outcomes.skip
 
 -- The relation of an array of the implementation, and its name.
 abbrev pub relation : Column → Relation
-relation columns.Left = IsLeft
-relation columns.Right = IsRight
-relation columns.Parent = IsParent
-relation columns.Sibling = IsSibling
+relation columns.Left = IsLeftOrNone
+relation columns.Right = IsRightOrNone
+relation columns.Parent = IsParentOrNone
+relation columns.Sibling = IsSiblingOrNone
 
 abbrev pub column_name : Column → List ℕ
 column_name columns.Left = codes "left"
@@ -77,7 +77,7 @@ FindsTree name d (Some t) = HasTreeUnder name d t
 -- `IsKeptHash hashes p d`: the entry is the cached hash at node index p.
 pub record IsKeptHash (hashes : List (List ℕ)) (p : ℕ) (d : Data) : Type 0 where
   pub hash : List ℕ
-  pub kept : slice_get hashes p ≡ Some hash
+  pub cached : slice_get hashes p ≡ Some hash
   pub same : bytes_of d ≡ Some hash
 
 -- `ReadsProposalOf bytes p`: the bytes decode as this proposal, or as none.

@@ -61,9 +61,9 @@ counted_all (o ∷ os) c = counted_all os (add_result o c)
 abbrev pub counts : List VectorResult → Counts
 counts outcomes = counted_all outcomes (record { passed = 0; failed = 0; skipped = 0 })
 
--- `counts_line c` is the last line.
-abbrev pub counts_line : Counts → List ℕ
-counts_line c =
+-- `vector_counts_line c` is the last line.
+abbrev pub vector_counts_line : Counts → List ℕ
+vector_counts_line c =
     codes "passed " ++ (decimal c.passed
     ++ (codes " failed " ++ (decimal c.failed
     ++ (codes " skipped " ++ (decimal c.skipped ++ codes "\n")))))
@@ -72,7 +72,7 @@ counts_line c =
 -- Yes if none failed.
 pub record IsOutcomesReport (outcomes : List VectorResult) (text : List ℕ) (verdict : Verdict)
     : Type 0 where
-  pub text_is : text ≡ outcome_lines 1 outcomes ++ counts_line (counts outcomes)
+  pub text_is : text ≡ outcome_lines 1 outcomes ++ vector_counts_line (counts outcomes)
   pub verdict_is : verdict ≡ if (counts outcomes).failed == 0 then Yes else No
 
 -- `IsVectorsReport k vectors text verdict`: the report of vectors.

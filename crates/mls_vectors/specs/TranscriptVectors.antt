@@ -8,7 +8,7 @@ use Rattle.mls_msgs.specs.Profile.{authenticated_in}
 use Rattle.mls_msgs.specs.declared.profile.Profile.TheVariants.{Members}
 use Rattle.mls_msgs.specs.declared.authenticated.AuthenticatedParts.{AuthenticatedParts}
 use Rattle.mls_follow.specs.Transcript.{confirmed_hash, interim_hash}
-use Rattle.mls_vectors.specs.VectorResults.{Check, check, VectorResult, IsOutcome, IsEarlyFailure}
+use Rattle.mls_vectors.specs.VectorResults.{Check, check, VectorResult, IsVectorResult, IsEarlyFailure}
 use Rattle.mls_vectors.specs.TreeValidation.{HasSuite}
 use Rattle.mls_vectors.specs.VectorFile.{bytes_under}
 
@@ -20,16 +20,16 @@ pub record HasCommit (d : Data) (a : AuthenticatedParts) : Type 0 where
   pub encoded : authenticated_in Members a ≡ Some bytes
   pub commits : is_commit a.content.content ≡ true
 
--- `HasInterim d hash`: the vector has this interim transcript hash before the commit.
-abbrev pub HasInterim : Data → List ℕ → Type 0
-HasInterim d interim = bytes_under (codes "interim_transcript_hash_before") d ≡ Some interim
+-- `HasInterimBefore d hash`: the vector has this interim transcript hash before the commit.
+abbrev pub HasInterimBefore : Data → List ℕ → Type 0
+HasInterimBefore d interim = bytes_under (codes "interim_transcript_hash_before") d ≡ Some interim
 
 -- `commit_checks d` is the first checks: what the vector has can be read.
 abbrev pub commit_checks : Data → List Check
 commit_checks d =
     check (codes "cipher_suite") ((suite : ℕ) × HasSuite d suite)
     ∷ check (codes "authenticated_content") ((a : AuthenticatedParts) × HasCommit d a)
-    ∷ check (codes "interim_transcript_hash_before") ((interim : List ℕ) × HasInterim d interim)
+    ∷ check (codes "interim_transcript_hash_before") ((interim : List ℕ) × HasInterimBefore d interim)
     ∷ []
 
 -- `HasConfirmed H interim a d`: the vector has the confirmed transcript hash after the commit (RFC 9420, 8.2).
@@ -62,8 +62,8 @@ pub record IsHashOutcome (d : Data) (o : VectorResult) : Type 0 where
   pub sent : AuthenticatedParts
   pub has_commit : HasCommit d sent
   pub interim : List ℕ
-  pub has_interim : HasInterim d interim
-  pub outcome : IsOutcome (hash_checks (hash_of suite) interim sent d) o
+  pub has_interim : HasInterimBefore d interim
+  pub outcome : IsVectorResult (hash_checks (hash_of suite) interim sent d) o
 
 -- `IsTranscript d o`: the result of a vector that is not skipped.
 abbrev pub IsTranscript : Data → VectorResult → Type 0

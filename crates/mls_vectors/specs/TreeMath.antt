@@ -6,7 +6,7 @@ use Rattle.serde_json.specs.Find.{as_u64}
 use Rattle.mls_tree.specs.RatchetTree.{RatchetTree}
 use Rattle.mls_tree.specs.Tree.{Tree, leaf_count, root_node_index}
 use Rattle.mls_tree.specs.NodeIndices.{left_at, right_at, IsParentOf, AreSiblings}
-use Rattle.mls_vectors.specs.VectorResults.{Check, check, VectorResult, IsOutcome, IsEarlyFailure}
+use Rattle.mls_vectors.specs.VectorResults.{Check, check, VectorResult, IsVectorResult, IsEarlyFailure}
 use Rattle.mls_vectors.specs.VectorFile.{whole_under, HasEntries}
 
 -- `entry_node_index d` is the node index of an entry of an array: a number, or null for none.
@@ -22,19 +22,19 @@ entry_node_index (object ms) = None
 abbrev pub Relation : Type 1
 Relation = Tree → ℕ → Option ℕ → Type 0
 
--- `IsLeft` and `IsRight`: the left and the right child (RFC 9420, Appendix C).
-abbrev pub IsLeft : Relation
-IsLeft t p node_index = node_index ≡ left_at t p
+-- `IsLeftOrNone` and `IsRightOrNone`: the left and the right child (RFC 9420, Appendix C).
+abbrev pub IsLeftOrNone : Relation
+IsLeftOrNone t p node_index = node_index ≡ left_at t p
 
-abbrev pub IsRight : Relation
-IsRight t p node_index = node_index ≡ right_at t p
+abbrev pub IsRightOrNone : Relation
+IsRightOrNone t p node_index = node_index ≡ right_at t p
 
--- `IsParent` and `IsSibling`: the parent and the sibling (RFC 9420, Appendix C). The root has none.
-abbrev pub IsParent : Relation
-IsParent t p node_index = MatchOption node_index ((q : ℕ) → ¬ IsParentOf t q p) (λ q. IsParentOf t q p)
+-- `IsParentOrNone` and `IsSiblingOrNone`: the parent and the sibling (RFC 9420, Appendix C). The root has none.
+abbrev pub IsParentOrNone : Relation
+IsParentOrNone t p node_index = MatchOption node_index ((q : ℕ) → ¬ IsParentOf t q p) (λ q. IsParentOf t q p)
 
-abbrev pub IsSibling : Relation
-IsSibling t p node_index = MatchOption node_index ((q : ℕ) → ¬ AreSiblings t p q) (λ q. AreSiblings t p q)
+abbrev pub IsSiblingOrNone : Relation
+IsSiblingOrNone t p node_index = MatchOption node_index ((q : ℕ) → ¬ AreSiblings t p q) (λ q. AreSiblings t p q)
 
 -- `IsEntry R t p d`: an entry has the node index that R requires for node index p.
 abbrev pub IsEntry : Relation → Tree → ℕ → Data → Type 0
@@ -54,17 +54,17 @@ abbrev pub node_index_checks : Tree → Data → List Check
 node_index_checks t d =
     check (codes "n_nodes") (whole_under (codes "n_nodes") d ≡ Some (2 * leaf_count t - 1))
     ∷ check (codes "root") (whole_under (codes "root") d ≡ Some (root_node_index 0 t))
-    ∷ check (codes "left") (HasEntries (IsEntry IsLeft t) (leaf_count t) (codes "left") d)
-    ∷ check (codes "right") (HasEntries (IsEntry IsRight t) (leaf_count t) (codes "right") d)
-    ∷ check (codes "parent") (HasEntries (IsEntry IsParent t) (leaf_count t) (codes "parent") d)
-    ∷ check (codes "sibling") (HasEntries (IsEntry IsSibling t) (leaf_count t) (codes "sibling") d)
+    ∷ check (codes "left") (HasEntries (IsEntry IsLeftOrNone t) (leaf_count t) (codes "left") d)
+    ∷ check (codes "right") (HasEntries (IsEntry IsRightOrNone t) (leaf_count t) (codes "right") d)
+    ∷ check (codes "parent") (HasEntries (IsEntry IsParentOrNone t) (leaf_count t) (codes "parent") d)
+    ∷ check (codes "sibling") (HasEntries (IsEntry IsSiblingOrNone t) (leaf_count t) (codes "sibling") d)
     ∷ []
 
 -- `IsSizedOutcome d o`: the result of a vector whose size is that of a tree.
 pub record IsSizedOutcome (d : Data) (o : VectorResult) : Type 0 where
   pub tree : RatchetTree
   pub size : HasSize d tree
-  pub outcome : IsOutcome (node_index_checks tree.tree d) o
+  pub outcome : IsVectorResult (node_index_checks tree.tree d) o
 
 -- `IsTreeMath d o`: the result of a vector.
 abbrev pub IsTreeMath : Data → VectorResult → Type 0

@@ -14,7 +14,7 @@ use Rattle.mls_tree.specs.TreeHash.{tree_hash}
 use Rattle.mls_hash.specs.SuiteHash.{hash_of}
 use Rattle.mls_apply.specs.AppliedList.{outcome, AppliedTree}
 use Rattle.mls_apply.specs.declared.list_item.ListItem.{ListItem}
-use Rattle.mls_vectors.specs.VectorResults.{Check, check, VectorResult, IsOutcome, IsEarlyFailure}
+use Rattle.mls_vectors.specs.VectorResults.{Check, check, VectorResult, IsVectorResult, IsEarlyFailure}
 use Rattle.mls_vectors.specs.TreeValidation.{HasSuite, HasTreeUnder}
 use Rattle.mls_vectors.specs.VectorFile.{whole_under, bytes_under}
 
@@ -84,7 +84,7 @@ pub record IsAppliedOutcome (H : List ℕ → List ℕ) (t : Tree) (x : ListItem
   pub before : HasTreeHash H (codes "tree_hash_before") t d
   pub after : AppliedTree
   pub applied : outcome (x ∷ []) t ≡ Some after
-  pub outcome_is : IsOutcome (after_checks H after.tree d) o
+  pub outcome_is : IsVectorResult (after_checks H after.tree d) o
 
 -- `IsItemOutcome H t x d o`: the result of a vector by what it has.
 abbrev pub IsItemOutcome : (List ℕ → List ℕ) → Tree → ListItem → Data → VectorResult → Type 0

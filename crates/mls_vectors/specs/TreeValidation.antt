@@ -11,7 +11,7 @@ use Rattle.mls_hash.specs.SuiteHash.{hash_of}
 use Rattle.mls_hash.specs.WithoutLeaves.{tree_hash_at}
 use Rattle.mls_hash.specs.Suites.{IsSupported}
 use Rattle.mls_check.specs.ValidTree.{Valid}
-use Rattle.mls_vectors.specs.VectorResults.{Check, check, VectorResult, skip, IsOutcome, IsEarlyFailure}
+use Rattle.mls_vectors.specs.VectorResults.{Check, check, VectorResult, skip, IsVectorResult, IsEarlyFailure}
 use Rattle.mls_vectors.specs.VectorFile.{number_under, whole_under, bytes_of, bytes_under, HasEntries}
 
 -- `IsOtherSuite n`: the number is a whole one, and that of no supported cipher suite (RFC 9420, 17.1).
@@ -96,7 +96,7 @@ pub record IsTreeOutcome (d : Data) (o : VectorResult) : Type 0 where
   pub has_suite : HasSuite d suite
   pub tree : RatchetTree
   pub has_tree : HasTreeUnder (codes "tree") d tree
-  pub outcome : IsOutcome (tree_checks (hash_of suite) tree.tree d) o
+  pub outcome : IsVectorResult (tree_checks (hash_of suite) tree.tree d) o
 
 -- `IsTreeValidation d o`: the result of a vector that is not skipped.
 abbrev pub IsTreeValidation : Data → VectorResult → Type 0

@@ -1,13 +1,13 @@
 -- Files of test vectors: a JSON array (RFC 8259) of objects, and what an object has under a name. `d` is a value of
 -- JSON. Used by contracts.
-use Rattle.std.specs.Prelude.{ℕ, ◌+◌, ◌*◌, ◌<◌, List, length, ◌≡◌, ◌⊎◌, Bool, true, ◌&&◌, is_some, Option, Some, None, Result, Ok, Err, option_and_then, if◌then◌else◌}
+use Rattle.std.specs.Prelude.{ℕ, ◌+◌, ◌*◌, ◌<◌, List, length, ◌≡◌, ◌⊎◌, Bool, true, ◌&&◌, is_some, Option, Some, None, option_and_then, if◌then◌else◌}
 use Rattle.std.specs.Str.{IsUtf8}
 use Rattle.hex.specs.Hex.{decode_of}
-use Rattle.hex.specs.declared.error.FromHexError.{FromHexError}
 use Rattle.serde_json.specs.Data.{Num, Data, Items, no_items, item}
 use Rattle.serde_json.specs.Find.{get, as_array, as_object, as_number, as_str, as_u64}
 use Rattle.serde_json.specs.Read.{read}
 use Rattle.mls_wire.specs.Limits.{input_limit}
+use Rattle.mls_check.specs.Receipts.{decoded}
 
 -- `are_objects items`: each value is an object.
 abbrev pub are_objects : Items → Bool
@@ -44,11 +44,6 @@ whole_under name d = option_and_then as_u64 (number_under name d)
 -- `array_under name d` is the array of a vector under a name.
 abbrev pub array_under : List ℕ → Data → Option Items
 array_under name d = option_and_then as_array (get name d)
-
--- `decoded result` is the bytes that were decoded, if they were.
-abbrev pub decoded : Result (List ℕ) FromHexError → Option (List ℕ)
-decoded (Ok bytes) = Some bytes
-decoded (Err e) = None
 
 -- `hex_bytes text` is the bytes whose hexadecimal digits, of either case, the text is.
 abbrev pub hex_bytes : List ℕ → Option (List ℕ)

@@ -27,11 +27,11 @@ abbrev pub IsFirstToFail : List Check → List ℕ → Type 0
 IsFirstToFail [] name = ⊥
 IsFirstToFail (c ∷ cs) name = ((name ≡ c.name) × (¬ c.holds)) ⊎ (c.holds × IsFirstToFail cs name)
 
--- `IsOutcome checks o`: the result by all checks of a vector.
-abbrev pub IsOutcome : List Check → VectorResult → Type 0
-IsOutcome checks pass = AllHold checks
-IsOutcome checks (fail name) = IsFirstToFail checks name
-IsOutcome checks skip = ⊥
+-- `IsVectorResult checks o`: the result by all checks of a vector.
+abbrev pub IsVectorResult : List Check → VectorResult → Type 0
+IsVectorResult checks pass = AllHold checks
+IsVectorResult checks (fail name) = IsFirstToFail checks name
+IsVectorResult checks skip = ⊥
 
 -- `IsEarlyFailure checks o`: the result of a vector that fails one of these checks.
 abbrev pub IsEarlyFailure : List Check → VectorResult → Type 0

@@ -8,7 +8,7 @@ ghost use Rattle.mls_vectors.specs.CheckModel.{outcome_of, IsValueReport};
 ghost use Rattle.mls_vectors.specs.VectorFile as vectors;
 ghost use Rattle.mls_vectors.specs.VectorFile.{vectors_of};
 
-use crate::report_lines::{count, counts_line, outcome_lines};
+use crate::report_lines::{count, outcome_lines, vector_counts_line};
 use crate::transcript::transcript_outcome;
 use crate::tree_math::tree_math_outcome;
 use crate::tree_operations::tree_operations_outcome;
@@ -95,7 +95,7 @@ fn outcomes_report(alloc: Global, outcomes: &[VectorResult]) -> Result<Report, A
 {
     let mut text = outcome_lines(alloc, outcomes)?;
     let counts = count(outcomes);
-    let last = counts_line(alloc, counts)?;
+    let last = vector_counts_line(alloc, counts)?;
     text.push_str(last.as_str())?;
     let verdict = if counts.failed == 0 {
         Verdict::Yes
@@ -184,7 +184,7 @@ pub fn run_check<S: Source, K: Sink>(
     requires out { K.is_failed out.old ≡ false }
     ensures checked { IfOk result (Checks kind (S.left input.old) (S.left input.new)
         (K.written out.old) (K.written out.new)) }
-    ensures part { OnErr result
+    ensures effect_on_error { OnErr result
         (ChecksPart kind (S.left input.old) (S.left input.new) (K.written out.old)
         (K.written out.new)) }
     ensures memory { result ≡ Err RunFault.Memory

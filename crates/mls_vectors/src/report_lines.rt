@@ -91,8 +91,8 @@ pub(crate) fn count(outcomes: &[VectorResult]) -> Counts
 }
 
 /// Returns the last line.
-pub(crate) fn counts_line(alloc: Global, counts: Counts) -> Result<String, AllocError>
-    ensures { IfOk result (λ text. string_bytes text ≡ lines.counts_line (counts_of counts)) }
+pub(crate) fn vector_counts_line(alloc: Global, counts: Counts) -> Result<String, AllocError>
+    ensures { IfOk result (λ text. string_bytes text ≡ lines.vector_counts_line (counts_of counts)) }
 {
     let Counts {
         passed,

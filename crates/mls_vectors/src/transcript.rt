@@ -4,7 +4,7 @@ ghost use Rattle.std.specs.Prelude.{◌≡◌, IfOk, codes};
 ghost use Rattle.serde_json.specs.View.{view};
 ghost use Rattle.mls_hash.specs.SuiteHash.{hash_of};
 ghost use Rattle.mls_vectors.specs.CheckModel.{outcome_of, FindsCommit, ReadsCommitOf};
-ghost use Rattle.mls_vectors.specs.VectorResults.{IsOutcome};
+ghost use Rattle.mls_vectors.specs.VectorResults.{IsVectorResult};
 ghost use Rattle.mls_vectors.specs.TranscriptVectors.{HasCommit, IsTranscript, hash_checks};
 ghost use Rattle.mls_vectors.specs.TreeValidation.{HasSuite, IsOutcomeUnlessSkipped};
 
@@ -56,7 +56,7 @@ fn hash_outcome(
 ) -> Result<VectorResult, AllocError>
     requires { HasCommit (view vector.now) auth.now }
     ensures { IfOk result (λ o.
-        IsOutcome (hash_checks (hash_of suite) interim.now auth.now (view vector.now))
+        IsVectorResult (hash_checks (hash_of suite) interim.now auth.now (view vector.now))
         (outcome_of o)) }
 {
     let confirmed = confirmed_hash(alloc, suite, interim, auth)?;

@@ -6,7 +6,7 @@ ghost use Rattle.mls_nodes.specs.Limits.{leaf_limit};
 ghost use Rattle.mls_tree.specs.RatchetTree.{RatchetTree};
 ghost use Rattle.mls_tree.specs.Tree.{leaf_count};
 ghost use Rattle.mls_vectors.specs.CheckModel.{outcome_of, relation, column_name};
-ghost use Rattle.mls_vectors.specs.VectorResults.{IsOutcome};
+ghost use Rattle.mls_vectors.specs.VectorResults.{IsVectorResult};
 ghost use Rattle.mls_vectors.specs.TreeMath.{HasSize, IsEntry, IsTreeMath, node_index_checks};
 ghost use Rattle.mls_vectors.specs.VectorFile.{AreEntries, HasEntries};
 
@@ -128,7 +128,7 @@ fn node_index_outcome(leaves: u32, vector: &Value) -> VectorResult
     requires some { 0 < leaves }
     ensures { (t : RatchetTree)
         → leaf_count t.tree ≡ leaves
-        → IsOutcome (node_index_checks t.tree (view vector.now)) (outcome_of result) }
+        → IsVectorResult (node_index_checks t.tree (view vector.now)) (outcome_of result) }
 {
     if !has_number(vector, "n_nodes", 2 * u64::from(leaves) - 1) {
         return VectorResult::Fail("n_nodes");

@@ -8,7 +8,7 @@ ghost use Rattle.mls_nodes.specs.RatchetTreeEncoding.{ratchet_tree, trimmed};
 ghost use Rattle.mls_tree.specs.Tree.{listing};
 ghost use Rattle.mls_hash.specs.SuiteHash.{hash_of};
 ghost use Rattle.mls_vectors.specs.CheckModel.{outcome_of, AppliesItem, FindsProposal, ReadsProposalOf};
-ghost use Rattle.mls_vectors.specs.VectorResults.{IsOutcome};
+ghost use Rattle.mls_vectors.specs.VectorResults.{IsVectorResult};
 ghost use Rattle.mls_vectors.specs.TreeOperations.{HasProposal, HasSender, HasTreeBytes, HasTreeHash, IsTreeOperation, IsItemOutcome, after_checks};
 ghost use Rattle.mls_vectors.specs.TreeValidation.{HasSuite, HasTreeUnder, IsOutcomeUnlessSkipped};
 
@@ -112,7 +112,7 @@ fn after_outcome(
     vector: &Value,
 ) -> Result<VectorResult, AllocError>
     ensures { IfOk result (λ o.
-        IsOutcome (after_checks (hash_of suite) tree.now.tree (view vector.now)) (outcome_of o)) }
+        IsVectorResult (after_checks (hash_of suite) tree.now.tree (view vector.now)) (outcome_of o)) }
 {
     if !has_tree_bytes(alloc, tree, vector, "tree_after")? {
         return Ok(VectorResult::Fail("tree_after"));

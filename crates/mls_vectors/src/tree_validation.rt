@@ -8,7 +8,7 @@ ghost use Rattle.mls_tree.specs.Tree.{leaf_count};
 ghost use Rattle.mls_hash.specs.SuiteHash.{hash_of};
 ghost use Rattle.mls_check.specs.ValidTree.{Valid};
 ghost use Rattle.mls_vectors.specs.CheckModel.{outcome_of, IsKeptHash};
-ghost use Rattle.mls_vectors.specs.VectorResults.{IsOutcome};
+ghost use Rattle.mls_vectors.specs.VectorResults.{IsVectorResult};
 ghost use Rattle.mls_vectors.specs.TreeValidation as trees;
 ghost use Rattle.mls_vectors.specs.TreeValidation.{HasSuite, IsResolution, IsOutcomeUnlessSkipped, IsTreeHash, IsTreeValidation, tree_checks};
 ghost use Rattle.mls_vectors.specs.VectorFile.{AreEntries, HasEntries};
@@ -242,7 +242,7 @@ fn tree_outcome(
     vector: &Value,
 ) -> Result<VectorResult, AllocError>
     ensures { IfOk result (λ o.
-        IsOutcome (tree_checks (hash_of suite) tree.now.tree (view vector.now)) (outcome_of o)) }
+        IsVectorResult (tree_checks (hash_of suite) tree.now.tree (view vector.now)) (outcome_of o)) }
 {
     if !has_resolutions(alloc, tree, vector)? {
         return Ok(VectorResult::Fail("resolutions"));

@@ -120,7 +120,7 @@ fn next_byte<R: Source>(source: &mut R) -> Result<Option<u8>, DeviceFault>
     ensures byte { IfOk result
         (λ o. Consumes (R.left source.old) (R.left source.new) (option_to_list o)) }
     ensures end { IfOk result (λ o. IfNone o (IsAtEnd (R.left source.new))) }
-    ensures part { OnErr result (Consumes (R.left source.old) (R.left source.new) []) }
+    ensures effect_on_error { OnErr result (Consumes (R.left source.old) (R.left source.new) []) }
     ensures failed { R.is_failed source.new ≡ (R.is_failed source.old || is_err result) }
     ensures remains_failed { R.is_failed source.old ≡ true → IsErr result }
 {
@@ -139,7 +139,7 @@ fn next_size<R: Source>(source: &mut R, first: u8) -> Result<Option<usize>, Devi
         × MatchOption o
         (IsBadLength (first ∷ more) ⊎ (IsTruncatedRecord (first ∷ more) × IsAtEnd (R.left source.new)))
         (λ n. (n ≤ input_limit) × (length_form n ≡ Some (first ∷ more)))) }
-    ensures part { OnErr result ((more : List ℕ)
+    ensures effect_on_error { OnErr result ((more : List ℕ)
         × Consumes (R.left source.old) (R.left source.new) more
         × IsTruncatedRecord (first ∷ more)) }
     ensures failed { R.is_failed source.new ≡ (R.is_failed source.old || is_err result) }
@@ -166,7 +166,7 @@ fn read_piece<R: Source>(
         × (length more ≤ count)
         × (is_whole ≡ true → length more ≡ count)
         × (is_whole ≡ false → (length more < count) × IsAtEnd (R.left source.new))) }
-    ensures part { OnErr result ((more : List ℕ)
+    ensures effect_on_error { OnErr result ((more : List ℕ)
         × (length more < count)
         × Consumes (R.left source.old) (R.left source.new) more) }
     ensures failed { R.is_failed source.new ≡ (R.is_failed source.old || is_read_fault result) }
@@ -187,7 +187,7 @@ fn read_body<R: Source>(source: &mut R, body: &mut Vec<u8>, size: usize) -> Resu
     ensures bound { IfOk result (λ _. length body.new.items ≤ size) }
     ensures end { IfOk result
         (λ _. length body.new.items < size → IsAtEnd (R.left source.new)) }
-    ensures part { OnErr result ((more : List ℕ)
+    ensures effect_on_error { OnErr result ((more : List ℕ)
         × (length more < size)
         × Consumes (R.left source.old) (R.left source.new) more) }
     ensures failed { R.is_failed source.new ≡ (R.is_failed source.old || is_read_fault result) }
@@ -207,7 +207,7 @@ fn next_step<R: Source>(
     most: u32,
     body: &mut Vec<u8>,
 ) -> Result<LogStep, RecordFault>
-    ensures meets { ReadsRecord (R.left source.old) (R.left source.new) most body.new.items result }
+    ensures record_read { ReadsRecord (R.left source.old) (R.left source.new) most body.new.items result }
     ensures failed { R.is_failed source.new ≡ (R.is_failed source.old || is_read_fault result) }
     ensures remains_failed { R.is_failed source.old ≡ true → result ≡ Err RecordFault.Read }
 {
@@ -256,7 +256,7 @@ impl Records {
     pub fn next<R: Source>(&mut self, source: &mut R) -> Result<LogStep, RecordFault>
         ensures over { self.old.is_over ≡ true
             → (result ≡ Ok LogStep.Over) × (self.new ≡ ended self.old) × (source.new ≡ source.old) }
-        ensures meets { self.old.is_over ≡ false
+        ensures record_read { self.old.is_over ≡ false
             → ReadsRecord (R.left source.old) (R.left source.new) self.old.most self.new.body result }
         ensures goes_on { self.old.is_over ≡ false → ReaderAfter self.old self.new result }
         ensures failed { R.is_failed source.new

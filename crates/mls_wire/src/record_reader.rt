@@ -44,7 +44,7 @@ impl<'a, R: Source> RecordReader<'a, R> {
         ensures over { self.old.log.is_over ≡ true → (result ≡ Ok LogStep.Over)
             × (self.new.log ≡ ended self.old.log)
             × (self.new.source ≡ self.old.source) }
-        ensures meets { self.old.log.is_over ≡ false → ReadsRecord
+        ensures record_read { self.old.log.is_over ≡ false → ReadsRecord
             (R.left self.old.source) (R.left self.new.source)
             self.old.log.most self.new.log.body result }
         ensures goes_on { self.old.log.is_over ≡ false → ReaderAfter self.old.log self.new.log result }

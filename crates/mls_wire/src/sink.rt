@@ -77,7 +77,7 @@ impl<W: Write + Drop> Sink for StdSink<W> {
 /// Pushes all the bytes, in as few pieces as the sink takes. On error a prefix of them was taken.
 pub fn write_all<K: Sink>(sink: &mut K, bytes: &[u8]) -> Result<(), DeviceFault>
     ensures all { OnOk result (Appends (K.written sink.old) (K.written sink.new) bytes.now) }
-    ensures part { OnErr result
+    ensures effect_on_error { OnErr result
         (AppendsPrefix (K.written sink.old) (K.written sink.new) bytes.now) }
     ensures failed { K.is_failed sink.new ≡ (K.is_failed sink.old || is_err result) }
 {

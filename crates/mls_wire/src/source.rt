@@ -79,7 +79,7 @@ pub fn fill<S: Source>(source: &mut S, into: &mut [u8]) -> Result<usize, DeviceF
         (λ n. Consumes (S.left source.old) (S.left source.new) (take n into.new)) }
     ensures end { IfOk result (λ n. n < length into.new → IsAtEnd (S.left source.new)) }
     ensures len { length into.new ≡ length into.old }
-    ensures part { OnErr result
+    ensures effect_on_error { OnErr result
         ((got : List ℕ)
         × (length got < length into.old)
         × Consumes (S.left source.old) (S.left source.new) got) }

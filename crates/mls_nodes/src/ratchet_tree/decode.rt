@@ -7,9 +7,9 @@ ghost use Rattle.mls_wire.specs.Parsing.{Gives, flag_at, body_at, items_at, opti
 ghost use Rattle.mls_wire.specs.ReadContracts.{seen};
 ghost use Rattle.mls_nodes.specs.Limits.{entry_limit};
 ghost use Rattle.mls_nodes.specs.NodeModel.{node_value, entry_value};
-ghost use Rattle.mls_nodes.specs.RatchetTreeEncoding.{ends_set, full_size, filled};
+ghost use Rattle.mls_nodes.specs.RatchetTreeEncoding.{ends_non_blank, full_size, filled};
 ghost use Rattle.mls_nodes.specs.RatchetTreeContracts.{DecodesTree};
-ghost use Rattle.mls_nodes.specs.Parsing.{node_at, node_in, well_laid_out, tree_at, FindsNodes, GivesNode};
+ghost use Rattle.mls_nodes.specs.Parsing.{node_model_at, node_in, well_laid_out, tree_at, FindsNodes, GivesNode};
 ghost use Rattle.mls_nodes.specs.declared.fault.NodeFault.TheVariants as faults;
 
 use crate::fault::NodeFault;
@@ -76,7 +76,7 @@ fn read_entry(
 /// Reads the entries of a tree, one after the other.
 fn read_entries(alloc: Global, mut body: Reader<'_>) -> Result<Vec<Option<Node>>, NodeFault>
     ensures { FindsNodes
-        (well_laid_out (items_at (optional_at node_at) (length body.entry.left) body.entry))
+        (well_laid_out (items_at (optional_at node_model_at) (length body.entry.left) body.entry))
         (seen (λ v. map entry_value v.items) result) }
 {
     let mut entries = Vec::new(alloc);
@@ -92,8 +92,8 @@ fn read_entries(alloc: Global, mut body: Reader<'_>) -> Result<Vec<Option<Node>>
 }
 
 /// Returns whether there is a last entry, and it is non-blank.
-fn is_last_set(entries: &[Option<Node>]) -> bool
-    ensures { result ≡ ends_set (map entry_value entries.now) }
+fn is_last_non_blank(entries: &[Option<Node>]) -> bool
+    ensures { result ≡ ends_non_blank (map entry_value entries.now) }
 {
     match entries.last() {
         Some(Some(_)) => true,
@@ -109,7 +109,7 @@ fn read_tree(alloc: Global, bytes: &[u8]) -> Result<Vec<Option<Node>>, NodeFault
     let mut reader = Reader::new(bytes);
     let body = read_body(&mut reader)?;
     let entries = read_entries(alloc, body)?;
-    if !is_last_set(entries.as_slice()) {
+    if !is_last_non_blank(entries.as_slice()) {
         if entries.as_slice().iter().any(|entry| entry.is_some()) {
             return Err(NodeFault::LastBlank);
         }

@@ -91,7 +91,7 @@ fn put_entry(alloc: Global, entry: &Option<Node>, draft: &mut Draft) -> Result<(
 }
 
 /// Returns the size of a node, with its type.
-#[tactic(auto, using(crate::specs::TagSizes::sizes), unfolding(crate::specs::Layout::node))]
+#[tactic(auto, using(crate::specs::TagSizes::tag_sizes), unfolding(crate::specs::Layout::node))]
 fn size_of_node(value: &Node) -> Option<usize>
     ensures { result ≡ size (node (node_value value.now)) }
 {

@@ -2,7 +2,7 @@ use Rattle.std.proofs.Common.{◌∙◌, ◌+◌, ◌++◌, [], take, drop, filt
 use Rattle.std.specs.List.{cons_option}
 use Rattle.std.proofs.lemmas.List.{take_all, append-nil}
 use Rattle.mls_check.specs.DistinctKeys.{are_distinct}
-use Rattle.mls_apply.specs.AddedKeys.{added_key, have_distinct_added_keys}
+use Rattle.mls_apply.specs.AddedKeys.{added_encryption_key, have_distinct_added_keys}
 use Rattle.mls_apply.proofs.PskSets.{chosen_next, chosen_parted}
 use Rattle.mls_apply.proofs.KeySets.{IsWalked, walk-start, walk-next, walk-met}
 use Rattle.mls_apply.proofs.added_keys.have_distinct_added_keys.Goals.{in-Some+in_ok-insert+else-not-branch, in_default}
@@ -16,15 +16,15 @@ loop-item-preserved c =
     let items = c.args.items.now in
     let i = c.loop-item.item-index in
     let x = c.item-item.result in
-    let before = filter_map added_key (take i items) in
-    let next = chosen_next added_key items i x c.loop-item-test.true c.item-item.is in
-    elim c.match-added_key.branch [
+    let before = filter_map added_encryption_key (take i items) in
+    let next = chosen_next added_encryption_key items i x c.loop-item-test.true c.item-item.is in
+    elim c.match-added_encryption_key.branch [
       | in-Some+in_ok-insert+else-not-branch w ↦
           let more = walk-next before c.loop-item.met c.loop-item.invariant w.in-Some.key w.insert.new.self _ w.in_ok-insert.ensures.added w.if-not-branch.false w.in_ok-insert.ensures.updates.0 in
-          subst (λ set. IsWalked (filter_map added_key (take (i + 1) items)) set) (sym w.met-is)
+          subst (λ set. IsWalked (filter_map added_encryption_key (take (i + 1) items)) set) (sym w.met-is)
           (subst (λ keys. IsWalked keys w.insert.new.self) (sym (next ∙ ap (λ o. before ++ cons_option o []) (sym w.in-Some.ensures))) more)
       | in_default w ↦
-          subst (λ set. IsWalked (filter_map added_key (take (i + 1) items)) set) (sym w.met-is)
+          subst (λ set. IsWalked (filter_map added_encryption_key (take (i + 1) items)) set) (sym w.met-is)
           (subst (λ keys. IsWalked keys c.loop-item.met) (sym (next ∙ ap (λ o. before ++ cons_option o []) (sym w.in_default.ensures) ∙ append-nil before)) c.loop-item.invariant)
     ]
 
@@ -34,13 +34,13 @@ returns-then-not-branch c =
     let items = c.args.items.now in
     let i = c.loop-item.item-index in
     let x = c.item-item.result in
-    let before = filter_map added_key (take i items) in
-    let rest = filter_map added_key (drop (i + 1) items) in
+    let before = filter_map added_encryption_key (take i items) in
+    let rest = filter_map added_encryption_key (drop (i + 1) items) in
     sym
-    (ap are_distinct (chosen_parted added_key items i x c.loop-item-test.true c.item-item.is ∙ ap (λ o. before ++ cons_option o rest) (sym c.in-Some.ensures))
+    (ap are_distinct (chosen_parted added_encryption_key items i x c.loop-item-test.true c.item-item.is ∙ ap (λ o. before ++ cons_option o rest) (sym c.in-Some.ensures))
     ∙ walk-met before c.loop-item.met c.loop-item.invariant c.in-Some.key _ c.in_ok-insert.ensures.added c.if-not-branch.true rest)
 
 pub returns : goal.returns
 unfolding have_distinct_added_keys
 returns c =
-    sym (ap (λ xs. are_distinct (filter_map added_key xs)) (sym (take_all c.loop-item.item-index c.args.items.now c.loop-item-test.false)) ∙ c.loop-item.invariant.distinct)
+    sym (ap (λ xs. are_distinct (filter_map added_encryption_key xs)) (sym (take_all c.loop-item.item-index c.args.items.now c.loop-item-test.false)) ∙ c.loop-item.invariant.distinct)

@@ -1,7 +1,7 @@
 use Rattle.std.proofs.Common.{◌≡◌, ◌∙◌, Some, Err, sym, ap, inl, inr, arith, rules}
 use Rattle.mls_tree.specs.Tree.{height, leaf_count}
 use Rattle.mls_tree.specs.BlankLeaves.{first_blank_leaf}
-use Rattle.mls_tree.specs.TreeOperations.{blank_tree, number_or, grown_for}
+use Rattle.mls_tree.specs.TreeOperations.{blank_tree, number_or, extended_if_full}
 use Rattle.mls_tree.proofs.Trees.{leaf_count-positive}
 use Rattle.mls_tree.proofs.FirstBlanks.{next_blank_leaf-first}
 use Rattle.mls_apply.proofs.Adding.{blank_inside, room_to_grow}
@@ -18,7 +18,7 @@ pub returns-in-Some-clause-inside : goal.returns-in-Some-clause-inside
 returns-in-Some-clause-inside c = blank_inside c.args.tree.now.tree c.in-Some.index (found c)
 
 pub returns-in-Some-clause-tree : goal.returns-in-Some-clause-tree
-returns-in-Some-clause-tree c = ap (λ o. grown_for o c.args.tree.now.tree) (sym (found c))
+returns-in-Some-clause-tree c = ap (λ o. extended_if_full o c.args.tree.now.tree) (sym (found c))
 
 pub unreachable-requires : goal.unreachable-requires
 unreachable-requires c =
@@ -45,4 +45,4 @@ pub returns-in-Ok-clause-tree : goal.returns-in-Ok-clause-tree
 returns-in-Ok-clause-tree c =
     let t = c.args.tree.now.tree in
     let none = sym (next_blank_leaf-first t c.args.start c.requires.set) ∙ sym c.in_default.ensures in
-    c.in-Ok.ensures.changed ∙ ap (λ o. grown_for o t) (sym none)
+    c.in-Ok.ensures.changed ∙ ap (λ o. extended_if_full o t) (sym none)

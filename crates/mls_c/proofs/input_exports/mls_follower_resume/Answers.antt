@@ -10,7 +10,7 @@ use Rattle.mls_c.proofs.input_exports.mls_follower_resume.Goals as goal
 pub returns-in-Ok-clause-resumes : goal.returns-in-Ok-clause-resumes
 returns-in-Ok-clause-resumes c =
     λ p is _.
-    let same : c.in-Some.named ≡ p = same_Some c.in-Some.named p (sym c.in-Some.is ∙ c.profile_of.ensures ∙ is) in
+    let same : c.in-Some.named ≡ p = same_Some c.in-Some.named p (sym c.in-Some.is ∙ c.profile_with_number.ensures ∙ is) in
     subst (λ (q : Profile). Resumes q (good_by c.args.receipts.now) c.args.state.now c.args.follower.now.value c.put_resumed.new.handle.value c.put_resumed.result) same
     (subst (λ (G : VerifyFn). Resumes c.in-Some.named G c.args.state.now c.args.follower.now.value c.put_resumed.new.handle.value c.put_resumed.result)
     c.in-Ok.ensures.receipts c.put_resumed.ensures)

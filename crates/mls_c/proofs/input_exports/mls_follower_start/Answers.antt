@@ -10,7 +10,7 @@ use Rattle.mls_c.proofs.input_exports.mls_follower_start.Goals as goal
 pub returns-in-Ok-clause-starts : goal.returns-in-Ok-clause-starts
 returns-in-Ok-clause-starts c =
     λ p is _.
-    let same : c.in-Some.named ≡ p = same_Some c.in-Some.named p (sym c.in-Some.is ∙ c.profile_of.ensures ∙ is) in
+    let same : c.in-Some.named ≡ p = same_Some c.in-Some.named p (sym c.in-Some.is ∙ c.profile_with_number.ensures ∙ is) in
     subst (λ (q : Profile). Starts q (good_by c.args.receipts.now) c.args.info.now c.args.tree.now c.args.follower.now.value c.put_started.new.handle.value c.put_started.result) same
     (subst (λ (G : VerifyFn). Starts c.in-Some.named G c.args.info.now c.args.tree.now c.args.follower.now.value c.put_started.new.handle.value c.put_started.result)
     c.in-Ok.ensures.receipts c.put_started.ensures)

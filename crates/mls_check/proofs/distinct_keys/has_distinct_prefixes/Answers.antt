@@ -1,5 +1,5 @@
 use Rattle.std.proofs.Common.{sym, arith}
-use Rattle.mls_check.specs.DistinctKeys.{key_at, IsDistinct}
+use Rattle.mls_check.specs.DistinctKeys.{encryption_key_at, IsDistinct}
 use Rattle.mls_check.proofs.Differing.{Begun-blank, Begun-key, apart-answered}
 use Rattle.mls_check.proofs.Repeats.{distinct-apart}
 use Rattle.mls_check.proofs.distinct_keys.has_distinct_prefixes.Goals as goal
@@ -7,11 +7,11 @@ use Rattle.mls_check.proofs.distinct_keys.has_distinct_prefixes.Goals.{in-Some+i
 
 pub loop-node_index-preserved : goal.loop-node_index-preserved
 loop-node_index-preserved c =
-    let keys = key_at c.args.tree.now.tree in
+    let keys = encryption_key_at c.args.tree.now.tree in
     let p = c.loop-node_index.node_index in
     let numbers = c.loop-node_index.prefixes.items in
     let known = c.loop-node_index.invariant in
-    elim c.match-key_at.branch [
+    elim c.match-encryption_key_at.branch [
       | in-Some+in_ok-push w ↦
           let set = sym w.in-Some.ensures in
           rw w.prefixes-is
@@ -27,5 +27,5 @@ returns c =
     let p = c.loop-node_index.node_index in
     let numbers = c.loop-node_index.prefixes.items in
     let distinct = distinct-apart t p (omega (arith, c.node_index_count-node_indices.ensures.count)) in
-    apart-answered (key_at t) p numbers c.loop-node_index.invariant (IsDistinct t) distinct
+    apart-answered (encryption_key_at t) p numbers c.loop-node_index.invariant (IsDistinct t) distinct
     c.all_differ.result c.all_differ.ensures.0

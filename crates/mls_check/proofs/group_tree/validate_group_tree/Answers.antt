@@ -14,4 +14,4 @@ none_found (Some body) fault h r found = h r found
 pub returns-in-Err-Wire-clause-refused : goal.returns-in-Err-Wire-clause-refused
 returns-in-Err-Wire-clause-refused g c =
     let fails = rw c.in-Err-Wire.field-0-is at c.in-Err-Wire.ensures in
-    requirements_fail (g.C.SignatureCheck.meaning c.args.checker.now) c.args.context.now (plain c.args.tree.now) c.requires.followed (none_found _ c.in-Err-Wire.field-0-0 fails)
+    requirements_fail (g.C.SignatureCheck.meaning c.args.checker.now) c.args.context.now (plain c.args.tree.now) c.requires.supported (none_found _ c.in-Err-Wire.field-0-0 fails)

@@ -10,7 +10,7 @@ pub mark_reached-requires-2 : goal.mark_reached-requires-2
 mark_reached-requires-2 t c =
     let tree : RatchetTree = plain c.args.tree.now in
     let h = rw c.in-Some-Parent.field-0-is at c.in-Some-Parent.ensures in
-    (omega (arith, c.decreases, right_lower tree _ _ _ _ _ h), (c.mark_reached.ensures.known, (c.requires.sorted, (c.requires.consistent, (omega (arith, c.requires.capacity, c.mark_reached.auto.marks), c.in_ok-mark_reached.ensures.sound)))))
+    (omega (arith, c.decreases, right_lower tree _ _ _ _ _ h), (c.mark_reached.ensures.known, (c.requires.sorted, (c.requires.consistent, (omega (arith, c.requires.capacity, c.mark_reached.auto.marks), c.in_ok-mark_reached.ensures.marks_valid)))))
 
 pub is_parent_hash_valid-requires-clause-marked : goal.is_parent_hash_valid-requires-clause-marked
 is_parent_hash_valid-requires-clause-marked t c =

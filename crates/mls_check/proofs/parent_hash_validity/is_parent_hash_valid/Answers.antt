@@ -28,7 +28,7 @@ returns-then-branch-clause-marks c =
     let t = c.args.tree.now.tree in
     let h = subst (λ o. HasChildren t c.args.node_index w.left w.right w.field-0-3 (option_copied o)) w.field-0-0-is (rw w.field-0-is at w.ensures) in
     let k = subst (λ xs. IsChainPredecessorIn t xs w.left c.args.marks.now c.in_ok-from_left.from_left) c.as_slice-list.ensures.items c.in_ok-from_left.ensures in (
-      λ _. marks-left (hash_of c.args.suite) t c.args.node_index w.left w.right w.field-0-3 w.parent.now h c.requires.consistent c.args.marks.now c.requires.sound c.in_ok-from_left.from_left k (c.in_ok-is_linked.ensures.linked.0 c.if-branch.true),
+      λ _. marks-left (hash_of c.args.suite) t c.args.node_index w.left w.right w.field-0-3 w.parent.now h c.requires.consistent c.args.marks.now c.requires.marks_valid c.in_ok-from_left.from_left k (c.in_ok-is_linked.ensures.linked.0 c.if-branch.true),
       λ _. refl,
     )
 
@@ -40,7 +40,7 @@ returns-clause-marks c =
     let k = subst (λ xs. IsChainPredecessorIn t xs w.left c.args.marks.now c.in_ok-from_left.from_left) c.as_slice-list.ensures.items c.in_ok-from_left.ensures in
     let j = subst (λ xs. IsChainPredecessorIn t xs w.right c.args.marks.now c.in_ok-from_right.from_right) c.as_slice-list.ensures.items c.in_ok-from_right.ensures in
     IfOk-same c.is_linked-2.result
-    (marks-right (hash_of c.args.suite) t c.args.node_index w.left w.right w.field-0-3 w.parent.now h c.requires.consistent c.args.marks.now c.requires.sound c.in_ok-from_right.from_right j)
+    (marks-right (hash_of c.args.suite) t c.args.node_index w.left w.right w.field-0-3 w.parent.now h c.requires.consistent c.args.marks.now c.requires.marks_valid c.in_ok-from_right.from_right j)
     (λ r. other_way (λ n. false≢true (sym c.if-branch.false ∙ c.in_ok-is_linked.ensures.linked.1 n))
     (marks-through (hash_of c.args.suite) t c.args.node_index w.left w.right w.field-0-3 w.parent.now h c.requires.consistent c.args.marks.now c.requires.marked c.in_ok-from_left.from_left k c.in_ok-from_right.from_right j r))
     c.is_linked-2.ensures.linked

@@ -5,8 +5,8 @@ use Rattle.mls_cli.proofs.Saving.{going, fault_means, outcome_means, unfailed, s
 use Rattle.mls_report.specs.declared.verdict.RunFault.TheVariants.{Read, Write}
 use Rattle.mls_cli.proofs.execution.replay_stored.Goals as goal
 
-pub returns-in-Ok-clause-carried : goal.returns-in-Ok-clause-carried
-returns-in-Ok-clause-carried g c =
+pub returns-in-Ok-clause-executed : goal.returns-in-Ok-clause-executed
+returns-in-Ok-clause-executed g c =
     let last = option_map (λ f. state_of f) c.in-Ok.replayed.follower in
     inr (inr (record {
       state_opened = c.in-Some.input;
@@ -29,8 +29,8 @@ pub returns-in-Ok-clause-write : goal.returns-in-Ok-clause-write
 returns-in-Ok-clause-write g c =
     saved-write _ c.store_after.result _ c.store_after.ensures.write (going c.replay_state.result c.in-Ok.replayed _ c.in-Ok.is c.replay_state.ensures.write)
 
-pub returns-clause-carried : goal.returns-clause-carried
-returns-clause-carried g c =
+pub returns-clause-executed : goal.returns-clause-executed
+returns-clause-executed g c =
     inr (inr (record {
       state_opened = c.in-Some.input;
       state_ended = c.replay_state.new.state;
@@ -41,7 +41,7 @@ returns-clause-carried g c =
       replayed = inr (record {
         fault = c.in-Err.fault;
         outcome_is = refl;
-        part = c.in-Err.ensures.part;
+        part = c.in-Err.ensures.effect_on_error;
         write = fault_means c.replay_state.result c.in-Err.fault _ c.in-Err.is c.replay_state.ensures.write;
       });
       failed = outcome_means c.replay_state.result c.in-Err.fault Read c.in-Err.is c.replay_state.ensures.read;

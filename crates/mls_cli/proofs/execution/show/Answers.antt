@@ -1,14 +1,14 @@
 use Rattle.std.proofs.Common.{inr, rules}
 use Rattle.mls_cli.proofs.execution.show.Goals as goal
 
-pub returns-clause-carried : goal.returns-clause-carried
-returns-clause-carried g c =
+pub returns-clause-executed : goal.returns-clause-executed
+returns-clause-executed g c =
     inr (record {
       opened = c.in-Some.input;
       ended = c.run_show_in.new.input;
       given = search rules;
       shown = c.run_show_in.ensures.shown;
-      part = c.run_show_in.ensures.part;
+      part = c.run_show_in.ensures.effect_on_error;
       memory = c.run_show_in.ensures.memory;
       failed = c.run_show_in.ensures.read;
     })

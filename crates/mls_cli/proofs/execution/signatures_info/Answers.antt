@@ -1,8 +1,8 @@
 use Rattle.std.proofs.Common.{inr, rules}
 use Rattle.mls_cli.proofs.execution.signatures_info.Goals as goal
 
-pub returns-clause-carried : goal.returns-clause-carried
-returns-clause-carried g c =
+pub returns-clause-executed : goal.returns-clause-executed
+returns-clause-executed g c =
     inr (inr (inr (record {
       info_opened = c.in-Some.info;
       info_ended = c.run_signatures_in.new.info;
@@ -14,6 +14,6 @@ returns-clause-carried g c =
       tree_given = c.in-Some-open_named.ensures.given;
       log_given = c.in-Some-open_named-2.ensures.given;
       printed = c.run_signatures_in.ensures.printed;
-      part = c.run_signatures_in.ensures.part;
+      part = c.run_signatures_in.ensures.effect_on_error;
       failed = c.run_signatures_in.ensures.read;
     })))

@@ -1,7 +1,7 @@
 use Rattle.std.proofs.Common.{Some, refl, sym, subst}
 use Rattle.mls_tree.specs.PublicTreeModel.{plain}
 use Rattle.mls_tree.specs.Tree.{Tree}
-use Rattle.mls_follow.specs.CommitTree.{state_in}
+use Rattle.mls_follow.specs.CommitTree.{initial_state_of_tree}
 use Rattle.mls_follow.specs.Start.{IsStart}
 use Rattle.mls_follow.proofs.start.check_start.Goals as goal
 
@@ -9,5 +9,5 @@ pub returns-in-Ok-clause-started : goal.returns-in-Ok-clause-started
 returns-in-Ok-clause-started g c =
     let info = c.args.info.now in
     let supplied = Some (plain c.in-Some.tree) in
-    rw c.in-Some.is (λ profile. subst (λ (t : Tree). IsStart profile (g.C.SignatureCheck.meaning c.args.checker.now) info supplied (state_in profile info t c.in-Ok.found.1.interim))
+    rw c.in-Some.is (λ profile. subst (λ (t : Tree). IsStart profile (g.C.SignatureCheck.meaning c.args.checker.now) info supplied (initial_state_of_tree profile info t c.in-Ok.found.1.interim))
     (sym c.in-Ok.ensures.tree) (c.in-Ok.ensures.started profile supplied refl))

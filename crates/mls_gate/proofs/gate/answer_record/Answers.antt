@@ -13,11 +13,11 @@ returns-clause-printed g c = record {
   wrote = subst (Appends _ _) c.as_str.ensures.value c.in_ok-write_text.ensures.all;
 }
 
-pub returns-in_err-write_text-clause-part : goal.returns-in_err-write_text-clause-part
-returns-in_err-write_text-clause-part g c =
+pub returns-in_err-write_text-clause-effect_on_error : goal.returns-in_err-write_text-clause-effect_on_error
+returns-in_err-write_text-clause-effect_on_error g c =
     IfErr-is c.from_residual-in_err-write_text.result _ Write (search rules) (record {
       text = string_bytes c.in_ok-answer.answer.text;
       last = c.in_ok-answer.answer.is_last;
       replies = c.in_ok-answer.ensures.answered;
-      wrote = subst (AppendsPrefix _ _) c.as_str.ensures.value c.in_err-write_text.ensures.part;
+      wrote = subst (AppendsPrefix _ _) c.as_str.ensures.value c.in_err-write_text.ensures.effect_on_error;
     })

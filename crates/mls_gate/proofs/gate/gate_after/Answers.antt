@@ -22,8 +22,8 @@ returns-clause-printed g c =
       reports = h;
     })) c.serve.ensures.printed
 
-pub returns-clause-part : goal.returns-clause-part
-returns-clause-part g c =
+pub returns-clause-effect_on_error : goal.returns-clause-effect_on_error
+returns-clause-effect_on_error g c =
     IfErr-weaker c.serve.result _ _ (λ e h. inr (record {
       i = OfGroup (files_of c.args.inputs);
       read = refl;
@@ -32,10 +32,10 @@ returns-clause-part g c =
       between = g.K.Sink.written c.write_start_query.new.out;
       wrote = c.in_ok-write_start_query.ensures.all;
       reports = h;
-    })) c.serve.ensures.part
+    })) c.serve.ensures.effect_on_error
 
-pub returns-in_err-write_start_query-clause-part : goal.returns-in_err-write_start_query-clause-part
-returns-in_err-write_start_query-clause-part g c =
+pub returns-in_err-write_start_query-clause-effect_on_error : goal.returns-in_err-write_start_query-clause-effect_on_error
+returns-in_err-write_start_query-clause-effect_on_error g c =
     let i = OfGroup (files_of c.args.inputs) in
     IfErr-is c.from_residual.result _ c.in_err-write_start_query.field-0.0 (search rules)
-    (part-opening (Are i) (g.C.SignatureCheck.meaning c.args.checker) i refl _ (c.requires.opens) _ _ _ c.in_err-write_start_query.field-0.0 c.in_err-write_start_query.ensures.part)
+    (part-opening (Are i) (g.C.SignatureCheck.meaning c.args.checker) i refl _ (c.requires.opens) _ _ _ c.in_err-write_start_query.field-0.0 c.in_err-write_start_query.ensures.effect_on_error)

@@ -18,10 +18,10 @@ returns-in-Err-Found-clause-printed g c =
       verdict_is = printed.1 ∙ declines.verdict;
     })) c.report_finding.ensures.printed
 
-pub returns-in-Err-Found-clause-part : goal.returns-in-Err-Found-clause-part
-returns-in-Err-Found-clause-part g c =
+pub returns-in-Err-Found-clause-effect_on_error : goal.returns-in-Err-Found-clause-effect_on_error
+returns-in-Err-Found-clause-effect_on_error g c =
     let declines = rw c.in-Err-Found.field-0-is at c.in-Err-Found.ensures.refused in
-    line-part c.report_finding.result _ c.report_finding.ensures.part (λ wrote. inl (inl (record {
+    line-part c.report_finding.result _ c.report_finding.ensures.effect_on_error (λ wrote. inl (inl (record {
       i = OfGroup (files_of c.args.inputs);
       read = refl;
       finding = c.in-Err-Found.finding;

@@ -11,11 +11,11 @@ returns-clause-printed g c =
     let i = OfGroup (files_of (record { profile = c.args.profile; bytes = c.in_ok-bytes.bytes })) in
     IfOk-weaker c.gate_from.result _ _ (λ v h. printed-read _ _ i (refl, c.in_ok-bytes.ensures.both) _ _ _ _ v h) c.gate_from.ensures.printed
 
-pub returns-clause-part : goal.returns-clause-part
-returns-clause-part g c =
+pub returns-clause-effect_on_error : goal.returns-clause-effect_on_error
+returns-clause-effect_on_error g c =
     let i = OfGroup (files_of (record { profile = c.args.profile; bytes = c.in_ok-bytes.bytes })) in
-    IfErr-weaker c.gate_from.result _ _ (λ e h. part-read _ _ i (refl, c.in_ok-bytes.ensures.both) _ _ _ _ e h) c.gate_from.ensures.part
+    IfErr-weaker c.gate_from.result _ _ (λ e h. part-read _ _ i (refl, c.in_ok-bytes.ensures.both) _ _ _ _ e h) c.gate_from.ensures.effect_on_error
 
-pub returns-in_err-bytes-clause-part : goal.returns-in_err-bytes-clause-part
-returns-in_err-bytes-clause-part g c =
+pub returns-in_err-bytes-clause-effect_on_error : goal.returns-in_err-bytes-clause-effect_on_error
+returns-in_err-bytes-clause-effect_on_error g c =
     IfErr-is c.from_residual.result _ c.in_err-bytes.field-0.0 (search rules) (part-unread _ _ _ _ c.in_err-bytes.field-0.0 c.in_err-bytes.ensures.fault)

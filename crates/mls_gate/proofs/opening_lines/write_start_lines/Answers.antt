@@ -7,20 +7,20 @@ use Rattle.mls_gate.specs.Answers.{verify_lines}
 use Rattle.mls_gate.proofs.OpeningLines.{verify_lines-both, unknown_count-both, unknown_count-most}
 use Rattle.mls_gate.proofs.opening_lines.write_start_lines.Goals as goal
 
-pub returns-in_err-of_info-clause-part : goal.returns-in_err-of_info-clause-part
-returns-in_err-of_info-clause-part g c =
+pub returns-in_err-of_info-clause-effect_on_error : goal.returns-in_err-of_info-clause-effect_on_error
+returns-in_err-of_info-clause-effect_on_error g c =
     let G = g.C.SignatureCheck.meaning c.args.checker.now in
-    let stops = rw c.as_slice.ensures.value at c.in_err-of_info.ensures.part in
+    let stops = rw c.as_slice.ensures.value at c.in_err-of_info.ensures.effect_on_error in
     IfErr-is c.from_residual.result _ c.in_err-of_info.field-0.0 (search rules)
     (stops-before (verify_lines G) (verify_lines-both G) _ _ c.args.info_signatures.items (state_signatures (state_of c.args.follower.now)) c.in_err-of_info.field-0.0 stops)
 
-pub returns-in_err-of_leaves-clause-part : goal.returns-in_err-of_leaves-clause-part
-returns-in_err-of_leaves-clause-part g c =
+pub returns-in_err-of_leaves-clause-effect_on_error : goal.returns-in_err-of_leaves-clause-effect_on_error
+returns-in_err-of_leaves-clause-effect_on_error g c =
     let G = g.C.SignatureCheck.meaning c.args.checker.now in
     let first = rw c.as_slice.ensures.value at c.in_ok-of_info.ensures.all in
     IfErr-is c.from_residual-in_err-of_leaves.result _ c.in_err-of_leaves.field-0.0 (search rules)
     (stops-behind (verify_lines G) (verify_lines-both G) _ _ _ c.args.info_signatures.items (state_signatures (state_of c.args.follower.now)) c.in_err-of_leaves.field-0.0 first
-    c.in_err-of_leaves.ensures.part)
+    c.in_err-of_leaves.ensures.effect_on_error)
 
 pub overflow_add-result : goal.overflow_add-result
 overflow_add-result g c =

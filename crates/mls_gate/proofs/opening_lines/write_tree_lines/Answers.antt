@@ -18,12 +18,12 @@ loop-index-preserved g c =
       search rules,
     )
 
-pub returns-in_err-count-clause-part : goal.returns-in_err-count-clause-part
-returns-in_err-count-clause-part g c =
+pub returns-in_err-count-clause-effect_on_error : goal.returns-in_err-count-clause-effect_on_error
+returns-in_err-count-clause-effect_on_error g c =
     let G = g.C.SignatureCheck.meaning c.args.checker.now in
     IfErr-is c.from_residual.result _ c.in_err-count.field-0.0 (search rules)
     (stops-at-leaf (verify_lines G) (verify_lines-both G) _ _ _ (state_of c.args.follower.now) c.loop-index.index c.in_err-count.field-0.0 (search rules)
-    c.loop-index.invariant.0 c.in_err-count.ensures.part)
+    c.loop-index.invariant.0 c.in_err-count.ensures.effect_on_error)
 
 pub returns-clause-all : goal.returns-clause-all
 returns-clause-all g c = rw (leaves-all (state_of c.args.follower.now) c.loop-index.index (search rules) (search rules)) at c.loop-index.invariant.0

@@ -8,4 +8,4 @@ returns-clause-replied g c =
     let t = c.take-answer.ensures in
     judged _ _ _ _ _ c.take-answer.result _
     (answered _ _ _ c.take-answer.result _ t.accepted t.next t.refused t.unchanged_on_error (first_of (search rules, grind arith)))
-    c.in_ok-processed_line.ensures t.checker
+    c.in_ok-message_answer_line.ensures t.checker

@@ -16,12 +16,12 @@ loop-signature-preserved g c =
       search rules,
     )
 
-pub returns-in_err-count-clause-part : goal.returns-in_err-count-clause-part
-returns-in_err-count-clause-part g c =
+pub returns-in_err-count-clause-effect_on_error : goal.returns-in_err-count-clause-effect_on_error
+returns-in_err-count-clause-effect_on_error g c =
     let G = g.C.SignatureCheck.meaning c.args.checker.now in
     IfErr-is c.from_residual.result _ c.in_err-count.field-0.0 (search rules)
     (stops-next G c.args.signatures.now c.loop-signature.signature-index c.signature-item.result c.loop-signature-test.true c.signature-item.is _ _ _ c.in_err-count.field-0.0
-    c.loop-signature.invariant.0 c.in_err-count.ensures.part)
+    c.loop-signature.invariant.0 c.in_err-count.ensures.effect_on_error)
 
 pub returns-clause-all : goal.returns-clause-all
 returns-clause-all g c =

@@ -5,8 +5,8 @@ use Rattle.mls_report.proofs.Outcomes.{IfErr-is}
 use Rattle.mls_gate.specs.Answers.{verify_line}
 use Rattle.mls_gate.proofs.state_lines.write_line.Goals as goal
 
-pub returns-in_err-write_text-clause-part : goal.returns-in_err-write_text-clause-part
-returns-in_err-write_text-clause-part g c =
+pub returns-in_err-write_text-clause-effect_on_error : goal.returns-in_err-write_text-clause-effect_on_error
+returns-in_err-write_text-clause-effect_on_error g c =
     let own = verify_line (g.C.SignatureCheck.meaning c.args.checker.now) c.args.signature.now in
     let line = c.as_str.ensures.value ∙ c.in_ok-count.ensures.line ∙ ap (λ (t : List ℕ). t ++ own) c.new-text.ensures.bytes ∙ sym (append-nil own) in
-    IfErr-is c.from_residual-in_err-write_text.result _ Write (search rules) (subst (AppendsPrefix _ _) line c.in_err-write_text.ensures.part)
+    IfErr-is c.from_residual-in_err-write_text.result _ Write (search rules) (subst (AppendsPrefix _ _) line c.in_err-write_text.ensures.effect_on_error)

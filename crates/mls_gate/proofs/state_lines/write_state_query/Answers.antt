@@ -6,26 +6,26 @@ use Rattle.mls_wire.specs.Devices.{AppendsPrefix}
 use Rattle.mls_report.specs.declared.verdict.RunFault.TheVariants.{Memory}
 use Rattle.mls_report.proofs.Outcomes.{IfErr-is}
 use Rattle.mls_follow.specs.FollowerModel.{state_of}
-use Rattle.mls_gate.specs.Answers.{count_line}
+use Rattle.mls_gate.specs.Answers.{query_count_line}
 use Rattle.mls_gate.specs.GateSteps.{signatures_of}
 use Rattle.mls_gate.proofs.OpeningLines.{in-lines, before-count, in-count}
 use Rattle.mls_gate.proofs.Serving.{write-part}
 use Rattle.mls_gate.proofs.StateLines.{before-lines, moved, moved-count, moved-stops}
 use Rattle.mls_gate.proofs.state_lines.write_state_query.Goals as goal
 
-pub returns-in_err-signatures-clause-part : goal.returns-in_err-signatures-clause-part
-returns-in_err-signatures-clause-part g c =
+pub returns-in_err-signatures-clause-effect_on_error : goal.returns-in_err-signatures-clause-effect_on_error
+returns-in_err-signatures-clause-effect_on_error g c =
     IfErr-is c.from_residual.result _ Memory (search rules) (before-lines (g.C.SignatureCheck.meaning c.args.checker.now) (signatures_of (state_of c.args.follower)) _)
 
-pub returns-in_err-count-clause-part : goal.returns-in_err-count-clause-part
-returns-in_err-count-clause-part g c =
+pub returns-in_err-count-clause-effect_on_error : goal.returns-in_err-count-clause-effect_on_error
+returns-in_err-count-clause-effect_on_error g c =
     let G = g.C.SignatureCheck.meaning c.args.checker.now in
     let same = c.as_slice.ensures.value ∙ c.in_ok-signatures.ensures.signatures in
     IfErr-is c.from_residual-in_err-count.result _ c.in_err-count.field-0.0 (search rules)
-    (in-lines G (signatures_of (state_of c.args.follower)) _ _ c.in_err-count.field-0.0 (moved-stops G _ _ same _ _ c.in_err-count.field-0.0 c.in_err-count.ensures.part))
+    (in-lines G (signatures_of (state_of c.args.follower)) _ _ c.in_err-count.field-0.0 (moved-stops G _ _ same _ _ c.in_err-count.field-0.0 c.in_err-count.ensures.effect_on_error))
 
-pub returns-in_err-line-clause-part : goal.returns-in_err-line-clause-part
-returns-in_err-line-clause-part g c =
+pub returns-in_err-line-clause-effect_on_error : goal.returns-in_err-line-clause-effect_on_error
+returns-in_err-line-clause-effect_on_error g c =
     let G = g.C.SignatureCheck.meaning c.args.checker.now in
     let same = c.as_slice.ensures.value ∙ c.in_ok-signatures.ensures.signatures in
     IfErr-is c.from_residual-in_err-line.result _ Memory (search rules)
@@ -35,14 +35,14 @@ pub returns-clause-all : goal.returns-clause-all
 returns-clause-all g c =
     let G = g.C.SignatureCheck.meaning c.args.checker.now in
     let same = c.as_slice.ensures.value ∙ c.in_ok-signatures.ensures.signatures in
-    let line = c.as_str.ensures.value ∙ c.in_ok-line.ensures ∙ ap count_line (moved-count G _ _ same _ c.in_ok-count.ensures.count) in
+    let line = c.as_str.ensures.value ∙ c.in_ok-line.ensures ∙ ap query_count_line (moved-count G _ _ same _ c.in_ok-count.ensures.count) in
     on_ok_weaker c.write_text.result (λ more. Appends-trans _ _ _ _ _ (moved G _ _ same _ _ c.in_ok-count.ensures.all) (subst (Appends _ _) line more)) c.write_text.ensures.all
 
-pub returns-clause-part : goal.returns-clause-part
-returns-clause-part g c =
+pub returns-clause-effect_on_error : goal.returns-clause-effect_on_error
+returns-clause-effect_on_error g c =
     let G = g.C.SignatureCheck.meaning c.args.checker.now in
     let same = c.as_slice.ensures.value ∙ c.in_ok-signatures.ensures.signatures in
-    let line = c.as_str.ensures.value ∙ c.in_ok-line.ensures ∙ ap count_line (moved-count G _ _ same _ c.in_ok-count.ensures.count) in
-    write-part c.write_text.result _ c.write_text.ensures.part
+    let line = c.as_str.ensures.value ∙ c.in_ok-line.ensures ∙ ap query_count_line (moved-count G _ _ same _ c.in_ok-count.ensures.count) in
+    write-part c.write_text.result _ c.write_text.ensures.effect_on_error
     (λ more. in-count G (signatures_of (state_of c.args.follower)) _ _ _ (moved G _ _ same _ _ c.in_ok-count.ensures.all) (subst (AppendsPrefix _ _) line more))
     c.write_text.ensures.fault

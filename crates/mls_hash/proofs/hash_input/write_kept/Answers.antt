@@ -10,10 +10,10 @@ pub loop-number-preserved : goal.loop-number-preserved
 loop-number-preserved c =
     elim c.if-not-contains.branch [
       | then-not-contains+in_ok-write_number w ↦
-          written_more c.args.left_out.now c.args.numbers.now c.loop-number.number-index c.loop-number-test.true c.args.writer.now c.loop-number.writer w.write_number.new.writer c.if-not-contains.writer (sym c.contains.ensures ∙ w.if-not-contains.true) c.loop-number.invariant w.in_ok-write_number.ensures w.writer-is
+          written_more c.args.left_out.now c.args.indices.now c.loop-number.number-index c.loop-number-test.true c.args.writer.now c.loop-number.writer w.write_number.new.writer c.if-not-contains.writer (sym c.contains.ensures ∙ w.if-not-contains.true) c.loop-number.invariant w.in_ok-write_number.ensures w.writer-is
       | else-not-contains w ↦
-          written_less c.args.left_out.now c.args.numbers.now c.loop-number.number-index c.loop-number-test.true c.args.writer.now c.loop-number.writer c.if-not-contains.writer (sym c.contains.ensures ∙ w.if-not-contains.false) c.loop-number.invariant w.writer-is
+          written_less c.args.left_out.now c.args.indices.now c.loop-number.number-index c.loop-number-test.true c.args.writer.now c.loop-number.writer c.if-not-contains.writer (sym c.contains.ensures ∙ w.if-not-contains.false) c.loop-number.invariant w.writer-is
     ]
 
 pub returns : goal.returns
-returns c = written_all c.args.left_out.now c.args.numbers.now c.loop-number.number-index c.args.writer.now c.loop-number.writer c.loop-number-test.false c.loop-number.invariant
+returns c = written_all c.args.left_out.now c.args.indices.now c.loop-number.number-index c.args.writer.now c.loop-number.writer c.loop-number-test.false c.loop-number.invariant

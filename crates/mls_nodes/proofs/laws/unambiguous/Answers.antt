@@ -3,7 +3,7 @@ use Rattle.mls_wire.specs.Encoding.{list, vector}
 use Rattle.mls_wire.specs.Parsing.{list_at, vector_at}
 use Rattle.mls_nodes.specs.Extension.{extension}
 use Rattle.mls_nodes.specs.Layout.{credential, codes, capabilities, lifetime, source, leaf, unmerged, parent, node, required_capabilities, external_sender, group_context}
-use Rattle.mls_nodes.specs.Parsing.{credential_at, codes_at, capabilities_at, extension_at, lifetime_at, source_at, leaf_at, unmerged_at, parent_at, node_at, required_capabilities_at, external_sender_at, group_context_at}
+use Rattle.mls_nodes.specs.Parsing.{credential_at, codes_at, capabilities_at, extension_at, lifetime_at, source_at, leaf_node_at, unmerged_at, parent_node_at, node_model_at, required_capabilities_at, external_sender_at, group_context_at}
 use Rattle.mls_nodes.specs.NodesExact.{codes_exact, chain_exact, credential_exact, capabilities_exact, extension_exact, extensions_exact, lifetime_exact, source_exact, leaf_exact, unmerged_exact, parent_exact, node_exact, required_capabilities_exact, external_sender_exact, external_senders_exact, group_context_exact}
 use Rattle.mls_nodes.proofs.Trimming.{ratchet_tree_unambiguous}
 use Rattle.mls_nodes.proofs.laws.unambiguous.Goals as goal
@@ -33,16 +33,16 @@ pub returns-clause-source : goal.returns-clause-source
 returns-clause-source c = unambiguous source source_at source_exact
 
 pub returns-clause-leaf : goal.returns-clause-leaf
-returns-clause-leaf c = unambiguous leaf leaf_at leaf_exact
+returns-clause-leaf c = unambiguous leaf leaf_node_at leaf_exact
 
 pub returns-clause-unmerged : goal.returns-clause-unmerged
 returns-clause-unmerged c = unambiguous unmerged unmerged_at unmerged_exact
 
 pub returns-clause-parent : goal.returns-clause-parent
-returns-clause-parent c = unambiguous parent parent_at parent_exact
+returns-clause-parent c = unambiguous parent parent_node_at parent_exact
 
 pub returns-clause-node : goal.returns-clause-node
-returns-clause-node c = unambiguous node node_at node_exact
+returns-clause-node c = unambiguous node node_model_at node_exact
 
 pub returns-clause-ratchet_tree : goal.returns-clause-ratchet_tree
 returns-clause-ratchet_tree c = ratchet_tree_unambiguous

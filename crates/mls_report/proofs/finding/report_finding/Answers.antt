@@ -3,7 +3,7 @@ use Rattle.mls_wire.specs.Devices.{AppendsPrefix}
 use Rattle.mls_report.proofs.Outcomes.{OnErr-any}
 use Rattle.mls_report.proofs.finding.report_finding.Goals as goal
 
-pub returns-in_err-write_text-clause-part : goal.returns-in_err-write_text-clause-part
-returns-in_err-write_text-clause-part g c =
+pub returns-in_err-write_text-clause-effect_on_error : goal.returns-in_err-write_text-clause-effect_on_error
+returns-in_err-write_text-clause-effect_on_error g c =
     let line = c.as_str.ensures.value ∙ c.in_ok-line.ensures in
-    OnErr-any c.from_residual-in_err-write_text.result (subst (AppendsPrefix _ _) line c.in_err-write_text.ensures.part)
+    OnErr-any c.from_residual-in_err-write_text.result (subst (AppendsPrefix _ _) line c.in_err-write_text.ensures.effect_on_error)

@@ -4,8 +4,8 @@ use Rattle.mls_wire.proofs.KnownBytes.{Consumes-trans}
 use Rattle.mls_report.proofs.Outcomes.{OnErr-any}
 use Rattle.mls_report.proofs.read_to_end.read_all.Goals as goal
 
-pub returns-in_err-extend_from_slice-clause-part : goal.returns-in_err-extend_from_slice-clause-part
-returns-in_err-extend_from_slice-clause-part g c =
+pub returns-in_err-extend_from_slice-clause-effect_on_error : goal.returns-in_err-extend_from_slice-clause-effect_on_error
+returns-in_err-extend_from_slice-clause-effect_on_error g c =
     let old = c.pieces.bytes.items in
     let new : List ℕ = take c.in_ok-n.n c.pull_piece.new.piece in
     let taken : length new ≡ c.in_ok-n.n = length-take-le c.in_ok-n.n c.pull_piece.new.piece c.in_ok-n.ensures.bound in

@@ -16,6 +16,6 @@ returns-in-Err-clause-replayed g c =
     (λ r printed none. group-none _ _ _ _ _ _ _ _ c.in_ok-bytes.ensures.both c.in-Err.failure c.in-Err.ensures.refused _ _ _ _ _ (ap (option_map (λ f. state_of f)) none) printed)
     c.replay_nothing.ensures.printed c.replay_nothing.ensures.none
 
-pub returns-in-Err-clause-part : goal.returns-in-Err-clause-part
-returns-in-Err-clause-part g c =
-    IfErr-weaker c.replay_nothing.result _ _ (λ e h. group-before _ _ _ _ _ _ _ _ c.in_ok-bytes.ensures.both c.in-Err.failure c.in-Err.ensures.refused _ _ _ e h) c.replay_nothing.ensures.part
+pub returns-in-Err-clause-effect_on_error : goal.returns-in-Err-clause-effect_on_error
+returns-in-Err-clause-effect_on_error g c =
+    IfErr-weaker c.replay_nothing.result _ _ (λ e h. group-before _ _ _ _ _ _ _ _ c.in_ok-bytes.ensures.both c.in-Err.failure c.in-Err.ensures.refused _ _ _ e h) c.replay_nothing.ensures.effect_on_error

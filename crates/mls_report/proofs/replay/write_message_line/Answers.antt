@@ -5,8 +5,8 @@ use Rattle.mls_report.proofs.Answered.{answered}
 use Rattle.mls_report.proofs.Outcomes.{IfErr-is}
 use Rattle.mls_report.proofs.replay.write_message_line.Goals as goal
 
-pub returns-in_err-write_text-clause-part : goal.returns-in_err-write_text-clause-part
-returns-in_err-write_text-clause-part g c =
+pub returns-in_err-write_text-clause-effect_on_error : goal.returns-in_err-write_text-clause-effect_on_error
+returns-in_err-write_text-clause-effect_on_error g c =
     IfErr-is c.from_residual-in_err-write_text.result _ Write (search rules) (record {
       answer = c.take-answer.result;
       new = state_of c.take-answer.new.self;

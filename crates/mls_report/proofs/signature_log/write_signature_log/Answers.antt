@@ -15,12 +15,12 @@ messages-init g c =
     let going : c.new-reader.result.is_over ≡ false = ap (λ (r : LogState). r.is_over) c.new-reader.ensures in
     (([], so_far-none _ _ _ _, omega arith, omega arith, refl), going, c.requires.log, c.requires.out)
 
-pub returns-in_err-readable-in-Record-clause-part : goal.returns-in_err-readable-in-Record-clause-part
-returns-in_err-readable-in-Record-clause-part g c =
+pub returns-in_err-readable-in-Record-clause-effect_on_error : goal.returns-in_err-readable-in-Record-clause-effect_on_error
+returns-in_err-readable-in-Record-clause-effect_on_error g c =
     let so_far = c.messages.invariant.0 in
-    let meets = rw c.in-Record.is at c.in_ok-next_record.ensures.meets in
+    let meets = rw c.in-Record.is at c.in_ok-next_record.ensures.record_read in
     let below : length so_far.0 < message_limit = omega (arith, so_far.3, meets.0) in
-    let stops = rw c.body.ensures at c.in_err-readable-in-Record.ensures.part in
+    let stops = rw c.body.ensures at c.in_err-readable-in-Record.ensures.effect_on_error in
     IfErr-is c.from_residual-in_err-readable-in-Record.result _ c.in_err-readable-in-Record.field-0.0 (search rules)
     (part-turn _ _ _ _ _ _ _ so_far.0 (state_of c.messages.follower) c.messages.n c.next_record.new.reader.body meets.1 so_far.1 so_far.2 below meets.3 meets.2 _
     c.in_err-readable-in-Record.field-0.0 stops)
@@ -28,7 +28,7 @@ returns-in_err-readable-in-Record-clause-part g c =
 pub messages-preserved : goal.messages-preserved
 messages-preserved g c =
     let so_far = c.messages.invariant.0 in
-    let meets = rw c.in-Record.is at c.in_ok-next_record.ensures.meets in
+    let meets = rw c.in-Record.is at c.in_ok-next_record.ensures.record_read in
     let goes_on = rw c.in-Record.is at c.in_ok-next_record.ensures.goes_on in
     let below : length so_far.0 < message_limit = omega (arith, so_far.3, meets.0) in
     let printed = rw c.body.ensures at c.in_ok-readable-in-Record.ensures.printed in
@@ -48,15 +48,15 @@ messages-preserved g c =
 pub returns-in-Broken-clause-printed : goal.returns-in-Broken-clause-printed
 returns-in-Broken-clause-printed g c =
     let so_far = c.messages.invariant.0 in
-    let meets = rw c.in-Broken.is at c.in_ok-next_record.ensures.meets in
+    let meets = rw c.in-Broken.is at c.in_ok-next_record.ensures.record_read in
     IfOk-weaker c.report_break.result _ _ (λ v printed. printed-break _ _ _ _ _ _ _ so_far.0 (state_of c.messages.follower) so_far.1 c.messages.reader.most c.messages.n meets.0 so_far.3 so_far.2
     meets.1 meets.2 _ v printed.0 printed.1) c.report_break.ensures.printed
 
-pub returns-in-Broken-clause-part : goal.returns-in-Broken-clause-part
-returns-in-Broken-clause-part g c =
+pub returns-in-Broken-clause-effect_on_error : goal.returns-in-Broken-clause-effect_on_error
+returns-in-Broken-clause-effect_on_error g c =
     let so_far = c.messages.invariant.0 in
-    let meets = rw c.in-Broken.is at c.in_ok-next_record.ensures.meets in
-    line-part c.report_break.result _ c.report_break.ensures.part
+    let meets = rw c.in-Broken.is at c.in_ok-next_record.ensures.record_read in
+    line-part c.report_break.result _ c.report_break.ensures.effect_on_error
     (λ part. in-break _ _ _ _ _ _ _ so_far.0 (state_of c.messages.follower) so_far.1 c.messages.reader.most c.messages.n meets.0 so_far.3 so_far.2 meets.1 meets.2 _ part)
     c.report_break.ensures.memory
     (λ none. before-break _ _ _ _ _ _ _ so_far.0 (state_of c.messages.follower) so_far.1 c.messages.reader.most c.messages.n meets.0 so_far.3 so_far.2 meets.1 meets.2 _ none)

@@ -23,8 +23,8 @@ returns-clause-printed g c =
       read = printed.read;
     }
 
-pub returns-in_err-write_text-clause-part : goal.returns-in_err-write_text-clause-part
-returns-in_err-write_text-clause-part g c =
+pub returns-in_err-write_text-clause-effect_on_error : goal.returns-in_err-write_text-clause-effect_on_error
+returns-in_err-write_text-clause-effect_on_error g c =
     let printed = c.in_ok-printed.ensures.printed in
     IfErr-is c.from_residual-in_err-write_text.result _ Write (search rules) (record {
       needed = printed.needed;
@@ -33,5 +33,5 @@ returns-in_err-write_text-clause-part g c =
       new = state_of c.take-answer.new.self;
       is_answer = subst (λ (s : State). IsAnswer all_good s c.args.body.now c.take-answer.result (state_of c.take-answer.new.self))
           c.in_ok-printed.ensures.state (let t = c.take-answer.ensures in answered _ _ _ c.take-answer.result _ t.accepted t.next t.refused t.unchanged_on_error (first_of (search rules, grind arith)));
-      wrote = subst (AppendsPrefix _ _) (c.as_str.ensures.value ∙ printed.text_is) c.in_err-write_text.ensures.part;
+      wrote = subst (AppendsPrefix _ _) (c.as_str.ensures.value ∙ printed.text_is) c.in_err-write_text.ensures.effect_on_error;
     })

@@ -12,12 +12,12 @@ loop-signature-preserved g c =
       search rules,
     )
 
-pub returns-in_err-write_line-clause-part : goal.returns-in_err-write_line-clause-part
-returns-in_err-write_line-clause-part g c =
+pub returns-in_err-write_line-clause-effect_on_error : goal.returns-in_err-write_line-clause-effect_on_error
+returns-in_err-write_line-clause-effect_on_error g c =
     let R = g.R.SignatureCheck.meaning c.args.receipts.now in
     IfErr-is c.from_residual.result _ c.in_err-write_line.field-0.0 (search rules)
     (stops-next (needed_lines R) (needed_lines-both R) c.args.signatures.now c.loop-signature.signature-index c.signature-item.result c.loop-signature-test.true c.signature-item.is _ _ _
-    c.in_err-write_line.field-0.0 c.loop-signature.invariant.0 c.in_err-write_line.ensures.part)
+    c.in_err-write_line.field-0.0 c.loop-signature.invariant.0 c.in_err-write_line.ensures.effect_on_error)
 
 pub returns-clause-all : goal.returns-clause-all
 returns-clause-all g c =

@@ -15,17 +15,17 @@ returns-clause-all g c =
     (λ rest. wrote-both (needed_lines R) (needed_lines-both R) _ _ _ c.args.info_signatures.items (state_signatures (state_of c.args.follower.now)) first rest)
     c.write_tree_lines.ensures.all
 
-pub returns-clause-part : goal.returns-clause-part
-returns-clause-part g c =
+pub returns-clause-effect_on_error : goal.returns-clause-effect_on_error
+returns-clause-effect_on_error g c =
     let R = g.R.SignatureCheck.meaning c.args.receipts.now in
     let first = rw c.as_slice.ensures.value at c.in_ok-written.ensures.all in
     IfErr-weaker c.write_tree_lines.result _ _
     (λ e stops. stops-behind (needed_lines R) (needed_lines-both R) _ _ _ c.args.info_signatures.items (state_signatures (state_of c.args.follower.now)) e first stops)
-    c.write_tree_lines.ensures.part
+    c.write_tree_lines.ensures.effect_on_error
 
-pub returns-in_err-written-clause-part : goal.returns-in_err-written-clause-part
-returns-in_err-written-clause-part g c =
+pub returns-in_err-written-clause-effect_on_error : goal.returns-in_err-written-clause-effect_on_error
+returns-in_err-written-clause-effect_on_error g c =
     let R = g.R.SignatureCheck.meaning c.args.receipts.now in
-    let stops = rw c.as_slice.ensures.value at c.in_err-written.ensures.part in
+    let stops = rw c.as_slice.ensures.value at c.in_err-written.ensures.effect_on_error in
     IfErr-is c.from_residual.result _ c.in_err-written.field-0.0 (search rules)
     (stops-before (needed_lines R) (needed_lines-both R) _ _ c.args.info_signatures.items (state_signatures (state_of c.args.follower.now)) c.in_err-written.field-0.0 stops)

@@ -12,12 +12,12 @@ loop-index-preserved g c =
       search rules,
     )
 
-pub returns-in_err-write_leaf_lines-clause-part : goal.returns-in_err-write_leaf_lines-clause-part
-returns-in_err-write_leaf_lines-clause-part g c =
+pub returns-in_err-write_leaf_lines-clause-effect_on_error : goal.returns-in_err-write_leaf_lines-clause-effect_on_error
+returns-in_err-write_leaf_lines-clause-effect_on_error g c =
     let R = g.R.SignatureCheck.meaning c.args.receipts.now in
     IfErr-is c.from_residual.result _ c.in_err-write_leaf_lines.field-0.0 (search rules)
     (stops-at-leaf (needed_lines R) (needed_lines-both R) _ _ _ (state_of c.args.follower.now) c.loop-index.index c.in_err-write_leaf_lines.field-0.0 (search rules)
-    c.loop-index.invariant.0 c.in_err-write_leaf_lines.ensures.part)
+    c.loop-index.invariant.0 c.in_err-write_leaf_lines.ensures.effect_on_error)
 
 pub returns-clause-all : goal.returns-clause-all
 returns-clause-all g c =

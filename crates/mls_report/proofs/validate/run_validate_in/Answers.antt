@@ -21,8 +21,8 @@ returns-clause-validated g c =
       verdict_is = printed.1;
     }) c.report_finding.ensures.printed
 
-pub returns-clause-part : goal.returns-clause-part
-returns-clause-part g c =
+pub returns-clause-effect_on_error : goal.returns-clause-effect_on_error
+returns-clause-effect_on_error g c =
     on_err_weaker c.report_finding.result (λ printed. inr (record {
       finding = c.in_ok-finding.finding;
       found = record {
@@ -32,4 +32,4 @@ returns-clause-part g c =
         found = c.in_ok-finding.ensures.found;
       };
       wrote = printed;
-    })) c.report_finding.ensures.part
+    })) c.report_finding.ensures.effect_on_error

@@ -1,6 +1,6 @@
 use Rattle.std.proofs.Common.{◌≡◌, ◌∙◌, ◌++◌, ap, refl, subst, sym}
 use Rattle.std.specs.Prelude.{OnOk}
-use Rattle.mls_signatures.specs.AddedLeaves.{Extends, IsAfter, indices, leaf_nodes}
+use Rattle.mls_signatures.specs.AddedLeaves.{AppendsSignatures, IsAfter, indices, leaf_nodes}
 use Rattle.mls_apply.specs.AppliedList.{new_members}
 use Rattle.mls_signatures.specs.SignaturesToVerify.{path_signatures, replaced_leaves, signatures_at}
 use Rattle.mls_signatures.proofs.AddedLeaves.{outline_after, outline_count}
@@ -39,7 +39,7 @@ returns-clause-signatures c =
     (subst
     (λ js.
     OnOk c.push_new_leaf_signatures-answer.result
-    (Extends c.args.list.now.items
+    (AppendsSignatures c.args.list.now.items
     (signatures_at context.cipher_suite context.group_id o.tree (replaced_leaves items ++ js) ++ path_signatures context commit.committer commit.commit.now.path)
     c.push_new_leaf_signatures-answer.new.list.items))
     node_indices (c.push_new_leaf_signatures-answer.ensures o.tree after))

@@ -1,5 +1,5 @@
 use Rattle.std.proofs.Common.{◌∙◌, ◌+◌, take, ap, arith, refl, sym, subst}
-use Rattle.mls_signatures.specs.AddedLeaves.{Extends, IsRepeat, added_signatures}
+use Rattle.mls_signatures.specs.AddedLeaves.{AppendsSignatures, IsRepeat, added_signatures}
 use Rattle.mls_signatures.proofs.AddedLeaves.{added-push, added-skip, added-all}
 use Rattle.mls_signatures.proofs.Repeats.{extends-none}
 use Rattle.mls_signatures.proofs.new_leaf_signatures.push_added_leaf_signatures.Goals.{then-not-is_repeat+in_ok-push_leaf_signature, else-not-is_repeat}
@@ -28,7 +28,7 @@ loop-leaf-preserved c =
       | else-not-is_repeat w ↦ record {
         at = ap (λ n. n + 1) c.loop-leaf.invariant.at;
         walked =
-            subst (λ l. Extends old (added_signatures context.cipher_suite context.group_id (take (i + 1) xs)) l.items) (sym w.list-is)
+            subst (λ l. AppendsSignatures old (added_signatures context.cipher_suite context.group_id (take (i + 1) xs)) l.items) (sym w.list-is)
             (added-skip context.cipher_suite context.group_id old xs i c.loop-leaf.list.items known c.leaf-item.result c.loop-leaf-test.true c.leaf-item.is c.requires
             (subst (λ n. IsRepeat xs n) c.loop-leaf.invariant.at (c.is_repeat.ensures w.if-not-is_repeat.false)));
       }

@@ -1,9 +1,9 @@
 use Rattle.std.proofs.Common.{◌≡◌, take}
-use Rattle.mls_signatures.specs.AddedLeaves.{Extends, added_signatures}
+use Rattle.mls_signatures.specs.AddedLeaves.{AppendsSignatures, added_signatures}
 use Rattle.mls_signatures.proofs.new_leaf_signatures.push_added_leaf_signatures.Given as goal
 
 abbrev pub invariant-loop-leaf : goal.invariant-loop-leaf
 invariant-loop-leaf l = record {
   at : l.position ≡ l.leaf-index;
-  walked : Extends l.initial.list.items (added_signatures l.context.cipher_suite l.context.group_id (take l.leaf-index l.leaves)) l.list.items;
+  walked : AppendsSignatures l.initial.list.items (added_signatures l.context.cipher_suite l.context.group_id (take l.leaf-index l.leaves)) l.list.items;
 }

@@ -25,7 +25,7 @@ returns-then-count-leaves-clause-leaves c =
     let old = c.args.out.now.items in
     let new = c.args.out.now.items in
     let n = c.args.leaves in
-    let changes_listed : Lists old new n n c.args.former.now = subst (λ f. Lists old new n n f) (sym c.in-Halved.is) (lists_changes-no_whole old old n c.in-Halved.whole (λ e. c.if-count-leaves.true (c.leaf_count-count.ensures ∙ ap (λ (v : KeptTree). leaf_count v.tree) c.deref.ensures ∙ e)) refl) in
+    let changes_listed : Lists old new n n c.args.former.now = subst (λ f. Lists old new n n f) (sym c.in-Truncated.is) (lists_changes-no_whole old old n c.in-Truncated.whole (λ e. c.if-count-leaves.true (c.leaf_count-count.ensures ∙ ap (λ (v : KeptTree). leaf_count v.tree) c.deref.ensures ∙ e)) refl) in
     changes_listed.count
 
 pub returns-then-count-leaves-clause-node_indices : goal.returns-then-count-leaves-clause-node_indices
@@ -33,7 +33,7 @@ returns-then-count-leaves-clause-node_indices c =
     let old = c.args.out.now.items in
     let new = c.args.out.now.items in
     let n = c.args.leaves in
-    let changes_listed : Lists old new n n c.args.former.now = subst (λ f. Lists old new n n f) (sym c.in-Halved.is) (lists_changes-no_whole old old n c.in-Halved.whole (λ e. c.if-count-leaves.true (c.leaf_count-count.ensures ∙ ap (λ (v : KeptTree). leaf_count v.tree) c.deref.ensures ∙ e)) refl) in
+    let changes_listed : Lists old new n n c.args.former.now = subst (λ f. Lists old new n n f) (sym c.in-Truncated.is) (lists_changes-no_whole old old n c.in-Truncated.whole (λ e. c.if-count-leaves.true (c.leaf_count-count.ensures ∙ ap (λ (v : KeptTree). leaf_count v.tree) c.deref.ensures ∙ e)) refl) in
     changes_listed.node_indices
 
 pub returns-in_ok-push-in-Leaf-clause-leaves : goal.returns-in_ok-push-in-Leaf-clause-leaves
@@ -100,18 +100,18 @@ returns-in_ok-push_range-in-Extended-clause-node_indices c =
     let changes_listed : Lists old new n (n / 2) c.args.former.now = subst (λ f. Lists old new n (n / 2) f) (sym c.in-Extended.is) (lists_changes-grown old new n (n / 2) c.if-leaves-eq1.false refl c.in_ok-push_range-in-Extended.ensures) in
     changes_listed.node_indices
 
-pub returns-in_ok-push_range-in-Halved-clause-leaves : goal.returns-in_ok-push_range-in-Halved-clause-leaves
-returns-in_ok-push_range-in-Halved-clause-leaves c =
+pub returns-in_ok-push_range-in-Truncated-clause-leaves : goal.returns-in_ok-push_range-in-Truncated-clause-leaves
+returns-in_ok-push_range-in-Truncated-clause-leaves c =
     let old = c.args.out.now.items in
-    let new = c.push_range-in-Halved.new.out.items in
+    let new = c.push_range-in-Truncated.new.out.items in
     let n = c.args.leaves in
-    let changes_listed : Lists old new n c.leaf_count-count.result c.args.former.now = subst (λ f. Lists old new n c.leaf_count-count.result f) (sym c.in-Halved.is) (lists_changes-halved old new n c.leaf_count-count.result c.in-Halved.whole (c.leaf_count-count.ensures ∙ ap (λ (v : KeptTree). leaf_count v.tree) c.deref.ensures) c.if-count-leaves.false c.in_ok-push_range-in-Halved.ensures) in
+    let changes_listed : Lists old new n c.leaf_count-count.result c.args.former.now = subst (λ f. Lists old new n c.leaf_count-count.result f) (sym c.in-Truncated.is) (lists_changes-halved old new n c.leaf_count-count.result c.in-Truncated.whole (c.leaf_count-count.ensures ∙ ap (λ (v : KeptTree). leaf_count v.tree) c.deref.ensures) c.if-count-leaves.false c.in_ok-push_range-in-Truncated.ensures) in
     changes_listed.count
 
-pub returns-in_ok-push_range-in-Halved-clause-node_indices : goal.returns-in_ok-push_range-in-Halved-clause-node_indices
-returns-in_ok-push_range-in-Halved-clause-node_indices c =
+pub returns-in_ok-push_range-in-Truncated-clause-node_indices : goal.returns-in_ok-push_range-in-Truncated-clause-node_indices
+returns-in_ok-push_range-in-Truncated-clause-node_indices c =
     let old = c.args.out.now.items in
-    let new = c.push_range-in-Halved.new.out.items in
+    let new = c.push_range-in-Truncated.new.out.items in
     let n = c.args.leaves in
-    let changes_listed : Lists old new n c.leaf_count-count.result c.args.former.now = subst (λ f. Lists old new n c.leaf_count-count.result f) (sym c.in-Halved.is) (lists_changes-halved old new n c.leaf_count-count.result c.in-Halved.whole (c.leaf_count-count.ensures ∙ ap (λ (v : KeptTree). leaf_count v.tree) c.deref.ensures) c.if-count-leaves.false c.in_ok-push_range-in-Halved.ensures) in
+    let changes_listed : Lists old new n c.leaf_count-count.result c.args.former.now = subst (λ f. Lists old new n c.leaf_count-count.result f) (sym c.in-Truncated.is) (lists_changes-halved old new n c.leaf_count-count.result c.in-Truncated.whole (c.leaf_count-count.ensures ∙ ap (λ (v : KeptTree). leaf_count v.tree) c.deref.ensures) c.if-count-leaves.false c.in_ok-push_range-in-Truncated.ensures) in
     changes_listed.node_indices

@@ -4,7 +4,7 @@ use Rattle.serde_json.specs.View.{view}
 use Rattle.mls_tree.specs.RatchetTree.{RatchetTree}
 use Rattle.mls_tree.specs.Tree.{leaf_count}
 use Rattle.mls_tree.proofs.Coordinates.{root-seen}
-use Rattle.mls_vectors.specs.TreeMath.{Relation, IsLeft, IsRight, IsParent, IsSibling, IsEntry}
+use Rattle.mls_vectors.specs.TreeMath.{Relation, IsLeftOrNone, IsRightOrNone, IsParentOrNone, IsSiblingOrNone, IsEntry}
 use Rattle.mls_vectors.specs.VectorFile.{HasEntries}
 use Rattle.mls_vectors.proofs.tree_math.node_index_outcome.Goals as goal
 
@@ -28,7 +28,7 @@ returns-then-not-has_entries c = λ t e.
     let nodes = c.has_number.ensures.0 c.if-not-has_number.false ∙ count in
     let node_index = ap (λ (n : ℕ). Some n) (let from = c.from-2.ensures in omega (arith, root-seen t c.args.leaves e, from)) in
     let root = c.has_number-2.ensures.0 c.if-not-has_number-2.false ∙ node_index in
-    inr (nodes, inr (root, inl (refl, λ h. let bad = (c.has_entries.ensures t e).1 (of_size IsLeft (codes "left") (view c.args.vector.now) t c.args.leaves e h) in let known = c.if-not-has_entries.true in true≢false (sym bad ∙ known))))
+    inr (nodes, inr (root, inl (refl, λ h. let bad = (c.has_entries.ensures t e).1 (of_size IsLeftOrNone (codes "left") (view c.args.vector.now) t c.args.leaves e h) in let known = c.if-not-has_entries.true in true≢false (sym bad ∙ known))))
 
 pub returns-then-not-has_entries-2 : goal.returns-then-not-has_entries-2
 returns-then-not-has_entries-2 c = λ t e.
@@ -36,8 +36,8 @@ returns-then-not-has_entries-2 c = λ t e.
     let nodes = c.has_number.ensures.0 c.if-not-has_number.false ∙ count in
     let node_index = ap (λ (n : ℕ). Some n) (let from = c.from-2.ensures in omega (arith, root-seen t c.args.leaves e, from)) in
     let root = c.has_number-2.ensures.0 c.if-not-has_number-2.false ∙ node_index in
-    let left = of_tree IsLeft (codes "left") (view c.args.vector.now) t c.args.leaves e ((c.has_entries.ensures t e).0 c.if-not-has_entries.false) in
-    inr (nodes, inr (root, inr (left, inl (refl, λ h. let bad = (c.has_entries-2.ensures t e).1 (of_size IsRight (codes "right") (view c.args.vector.now) t c.args.leaves e h) in let known = c.if-not-has_entries-2.true in true≢false (sym bad ∙ known)))))
+    let left = of_tree IsLeftOrNone (codes "left") (view c.args.vector.now) t c.args.leaves e ((c.has_entries.ensures t e).0 c.if-not-has_entries.false) in
+    inr (nodes, inr (root, inr (left, inl (refl, λ h. let bad = (c.has_entries-2.ensures t e).1 (of_size IsRightOrNone (codes "right") (view c.args.vector.now) t c.args.leaves e h) in let known = c.if-not-has_entries-2.true in true≢false (sym bad ∙ known)))))
 
 pub returns-then-not-has_entries-3 : goal.returns-then-not-has_entries-3
 returns-then-not-has_entries-3 c = λ t e.
@@ -45,9 +45,9 @@ returns-then-not-has_entries-3 c = λ t e.
     let nodes = c.has_number.ensures.0 c.if-not-has_number.false ∙ count in
     let node_index = ap (λ (n : ℕ). Some n) (let from = c.from-2.ensures in omega (arith, root-seen t c.args.leaves e, from)) in
     let root = c.has_number-2.ensures.0 c.if-not-has_number-2.false ∙ node_index in
-    let left = of_tree IsLeft (codes "left") (view c.args.vector.now) t c.args.leaves e ((c.has_entries.ensures t e).0 c.if-not-has_entries.false) in
-    let right = of_tree IsRight (codes "right") (view c.args.vector.now) t c.args.leaves e ((c.has_entries-2.ensures t e).0 c.if-not-has_entries-2.false) in
-    inr (nodes, inr (root, inr (left, inr (right, inl (refl, λ h. let bad = (c.has_entries-3.ensures t e).1 (of_size IsParent (codes "parent") (view c.args.vector.now) t c.args.leaves e h) in let known = c.if-not-has_entries-3.true in true≢false (sym bad ∙ known))))))
+    let left = of_tree IsLeftOrNone (codes "left") (view c.args.vector.now) t c.args.leaves e ((c.has_entries.ensures t e).0 c.if-not-has_entries.false) in
+    let right = of_tree IsRightOrNone (codes "right") (view c.args.vector.now) t c.args.leaves e ((c.has_entries-2.ensures t e).0 c.if-not-has_entries-2.false) in
+    inr (nodes, inr (root, inr (left, inr (right, inl (refl, λ h. let bad = (c.has_entries-3.ensures t e).1 (of_size IsParentOrNone (codes "parent") (view c.args.vector.now) t c.args.leaves e h) in let known = c.if-not-has_entries-3.true in true≢false (sym bad ∙ known))))))
 
 pub returns-then-not-has_entries-4 : goal.returns-then-not-has_entries-4
 returns-then-not-has_entries-4 c = λ t e.
@@ -55,10 +55,10 @@ returns-then-not-has_entries-4 c = λ t e.
     let nodes = c.has_number.ensures.0 c.if-not-has_number.false ∙ count in
     let node_index = ap (λ (n : ℕ). Some n) (let from = c.from-2.ensures in omega (arith, root-seen t c.args.leaves e, from)) in
     let root = c.has_number-2.ensures.0 c.if-not-has_number-2.false ∙ node_index in
-    let left = of_tree IsLeft (codes "left") (view c.args.vector.now) t c.args.leaves e ((c.has_entries.ensures t e).0 c.if-not-has_entries.false) in
-    let right = of_tree IsRight (codes "right") (view c.args.vector.now) t c.args.leaves e ((c.has_entries-2.ensures t e).0 c.if-not-has_entries-2.false) in
-    let parent = of_tree IsParent (codes "parent") (view c.args.vector.now) t c.args.leaves e ((c.has_entries-3.ensures t e).0 c.if-not-has_entries-3.false) in
-    inr (nodes, inr (root, inr (left, inr (right, inr (parent, inl (refl, λ h. let bad = (c.has_entries-4.ensures t e).1 (of_size IsSibling (codes "sibling") (view c.args.vector.now) t c.args.leaves e h) in let known = c.if-not-has_entries-4.true in true≢false (sym bad ∙ known)))))))
+    let left = of_tree IsLeftOrNone (codes "left") (view c.args.vector.now) t c.args.leaves e ((c.has_entries.ensures t e).0 c.if-not-has_entries.false) in
+    let right = of_tree IsRightOrNone (codes "right") (view c.args.vector.now) t c.args.leaves e ((c.has_entries-2.ensures t e).0 c.if-not-has_entries-2.false) in
+    let parent = of_tree IsParentOrNone (codes "parent") (view c.args.vector.now) t c.args.leaves e ((c.has_entries-3.ensures t e).0 c.if-not-has_entries-3.false) in
+    inr (nodes, inr (root, inr (left, inr (right, inr (parent, inl (refl, λ h. let bad = (c.has_entries-4.ensures t e).1 (of_size IsSiblingOrNone (codes "sibling") (view c.args.vector.now) t c.args.leaves e h) in let known = c.if-not-has_entries-4.true in true≢false (sym bad ∙ known)))))))
 
 pub returns : goal.returns
 returns c = λ t e.
@@ -66,8 +66,8 @@ returns c = λ t e.
     let nodes = c.has_number.ensures.0 c.if-not-has_number.false ∙ count in
     let node_index = ap (λ (n : ℕ). Some n) (let from = c.from-2.ensures in omega (arith, root-seen t c.args.leaves e, from)) in
     let root = c.has_number-2.ensures.0 c.if-not-has_number-2.false ∙ node_index in
-    let left = of_tree IsLeft (codes "left") (view c.args.vector.now) t c.args.leaves e ((c.has_entries.ensures t e).0 c.if-not-has_entries.false) in
-    let right = of_tree IsRight (codes "right") (view c.args.vector.now) t c.args.leaves e ((c.has_entries-2.ensures t e).0 c.if-not-has_entries-2.false) in
-    let parent = of_tree IsParent (codes "parent") (view c.args.vector.now) t c.args.leaves e ((c.has_entries-3.ensures t e).0 c.if-not-has_entries-3.false) in
-    let sibling = of_tree IsSibling (codes "sibling") (view c.args.vector.now) t c.args.leaves e ((c.has_entries-4.ensures t e).0 c.if-not-has_entries-4.false) in
+    let left = of_tree IsLeftOrNone (codes "left") (view c.args.vector.now) t c.args.leaves e ((c.has_entries.ensures t e).0 c.if-not-has_entries.false) in
+    let right = of_tree IsRightOrNone (codes "right") (view c.args.vector.now) t c.args.leaves e ((c.has_entries-2.ensures t e).0 c.if-not-has_entries-2.false) in
+    let parent = of_tree IsParentOrNone (codes "parent") (view c.args.vector.now) t c.args.leaves e ((c.has_entries-3.ensures t e).0 c.if-not-has_entries-3.false) in
+    let sibling = of_tree IsSiblingOrNone (codes "sibling") (view c.args.vector.now) t c.args.leaves e ((c.has_entries-4.ensures t e).0 c.if-not-has_entries-4.false) in
     (nodes, (root, (left, (right, (parent, (sibling, tt))))))

@@ -3,7 +3,7 @@ use Rattle.mls_check.specs.Receipts.{listed}
 use Rattle.mls_signatures.specs.declared.signature_to_verify.SignatureToVerify.{SignatureToVerify}
 use Rattle.mls_c.specs.Buffers.{IsPut}
 use Rattle.mls_c.specs.Followers.{meaning_in}
-use Rattle.mls_c.specs.Messages.{Queries}
+use Rattle.mls_c.specs.Messages.{PutsQuery}
 use Rattle.mls_c.specs.Queries.{query_records}
 use Rattle.mls_c.proofs.group_follower.GroupFollower.query.Goals as goal
 
@@ -13,5 +13,5 @@ returns-in-Ok-records-clause-queries c =
     c.as_slice-in-Ok-records.ensures.value ∙ c.in-Ok-records.ensures
     ∙ ap (λ (digests : List (List ℕ)). query_records (listed digests) c.as_slice.result.now) (c.checker.ensures ∙ c.signatures_to_verify.ensures.checker)
     ∙ ap (λ (list : List SignatureToVerify). query_records (meaning_in c.args.self.now) list) c.as_slice.ensures.value in
-    Queries.lists c.in-Ok.signatures.items c.in-Ok.ensures.signatures
+    PutsQuery.lists c.in-Ok.signatures.items c.in-Ok.ensures.signatures
     (subst (λ (xs : List ℕ). IsPut xs c.args.buffer.now c.put_sized.new.buffer c.put_sized.new.needed c.put_sized.result) same c.put_sized.ensures)

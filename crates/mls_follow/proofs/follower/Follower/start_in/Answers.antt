@@ -8,11 +8,11 @@ use Rattle.mls_follow.proofs.follower.Follower.start_in.Goals as goal
 
 pub returns-in-Err-check_start-clause-unsupported_version : goal.returns-in-Err-check_start-clause-unsupported_version
 returns-in-Err-check_start-clause-unsupported_version g c =
-    version_followed _ c.args.info (option_map plain c.args.tree) c.in-Err-check_start.fault c.in-Ok.ensures.followed c.in-Err-check_start.ensures.refused
+    version_followed _ c.args.info (option_map plain c.args.tree) c.in-Err-check_start.fault c.in-Ok.ensures.supported c.in-Err-check_start.ensures.refused
 
 pub returns-in-Err-check_start-clause-unsupported_suite : goal.returns-in-Err-check_start-clause-unsupported_suite
 returns-in-Err-check_start-clause-unsupported_suite g c =
-    suite_followed _ c.args.info (option_map plain c.args.tree) c.in-Err-check_start.fault c.in-Ok.ensures.followed c.in-Err-check_start.ensures.refused
+    suite_followed _ c.args.info (option_map plain c.args.tree) c.in-Err-check_start.fault c.in-Ok.ensures.supported c.in-Err-check_start.ensures.refused
 
 -- the group's tree was judged
 pub invariant_of-result : goal.invariant_of-result

@@ -1,5 +1,5 @@
 use Rattle.std.proofs.Common.{◌≡◌, ◌<◌, ◌≤◌, ◌*◌, ◌/◌, ◌∙◌, ◌∷◌, ◌++◌, [], length, ap, arith}
-use Rattle.mls_index.specs.LeafCredentials.{undone}
+use Rattle.mls_index.specs.LeafCredentials.{classes_before}
 use Rattle.mls_index.proofs.Classes.{same_classes, replaced-back, class-beyond}
 use Rattle.mls_index.proofs.Counting.{but-same, but-replaced}
 use Rattle.mls_index.proofs.credential_counts.CredentialCounts.recount_at.Goals as goal
@@ -24,7 +24,7 @@ returns-clause-index_base c = λ t h.
     let ys = c.replace-was.new.self.list.items in
     let i = c.args.node_index / 2 in
     let was = c.replace-was.result in
-    same_classes t (undone es xs) (undone fs ys)
+    same_classes t (classes_before es xs) (classes_before fs ys)
     (replaced-back es fs xs ys i was c.at.result (c.push_reserved.ensures.items ∙ ap (λ gs. gs ++ (i, was) ∷ []) c.try_reserve.ensures.items) c.replace-was.ensures.replaced
     c.replace-was.ensures.before) h
 

@@ -1,6 +1,6 @@
 use Rattle.std.proofs.Common.{◌≡◌, sym, subst, arith}
 use Rattle.mls_index.specs.NodeKeys.{fingerprint_at}
-use Rattle.mls_index.specs.KeyTable.{IndexesFirst}
+use Rattle.mls_index.specs.KeyTable.{TableIndexesFirst}
 use Rattle.mls_index.proofs.Tables.{filled-all}
 use Rattle.mls_index.proofs.key_table.KeyTable.fill.Goals as goal
 
@@ -11,4 +11,4 @@ pub returns : goal.returns
 returns c =
     let last : c.loop-node_index.node_index ≡ c.node_index_count-node_index-end.result = omega arith in
     filled-all c.args.kind c.args.tree.now.tree c.node_index_count-node_index-end.result c.loop-node_index.self c.node_index_count-node_index-end.ensures.count
-    (subst (λ n. IndexesFirst (fingerprint_at c.args.kind c.args.tree.now.tree) n c.loop-node_index.self) last c.loop-node_index.invariant)
+    (subst (λ n. TableIndexesFirst (fingerprint_at c.args.kind c.args.tree.now.tree) n c.loop-node_index.self) last c.loop-node_index.invariant)

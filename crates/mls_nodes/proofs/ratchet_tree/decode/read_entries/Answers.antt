@@ -5,7 +5,7 @@ use Rattle.mls_wire.specs.Parsing.{optional_at}
 use Rattle.mls_wire.specs.ListLoops.{items_go_on, items_end}
 use Rattle.mls_nodes.specs.NodeModel.{entry_value}
 use Rattle.mls_nodes.specs.RatchetTreeEncoding.{fits_at}
-use Rattle.mls_nodes.specs.Parsing.{node_at}
+use Rattle.mls_nodes.specs.Parsing.{node_model_at}
 use Rattle.mls_nodes.proofs.Entries.{too_many_entries, stand_more, all_well_laid_out, entry_found, entry_fault, entry_short}
 use Rattle.mls_nodes.proofs.ratchet_tree.decode.read_entries.Goals as goal
 
@@ -30,7 +30,7 @@ loop-body-preserved c =
     let x = entry_value c.in_ok-entry.entry in
     let xs = map entry_value c.loop-body.entries.items in
     let found = entry_found c.len-node_index.result c.loop-body.body x c.read_entry.new.reader c.in_ok-entry.ensures in
-    let more = items_go_on (optional_at node_at) entry_short xs c.loop-body.body x c.read_entry.new.reader _
+    let more = items_go_on (optional_at node_model_at) entry_short xs c.loop-body.body x c.read_entry.new.reader _
     (λ e. let bad = c.loop-body-test.ensures.1 e in absurd cc) found.0 c.loop-body.invariant.so_far in
     let pushed : map entry_value c.push.new.self.items ≡ xs ++ x ∷ [] = rw c.in_ok-push.ensures.items (map_push _ c.loop-body.entries.items c.in_ok-entry.entry) in
     record {
@@ -41,5 +41,5 @@ loop-body-preserved c =
 
 pub returns : goal.returns
 returns c =
-    let whole = items_end (optional_at node_at) entry_short (map entry_value c.loop-body.entries.items) c.loop-body.body _ (c.loop-body-test.ensures.0 refl) c.loop-body.invariant.so_far in
+    let whole = items_end (optional_at node_model_at) entry_short (map entry_value c.loop-body.entries.items) c.loop-body.body _ (c.loop-body-test.ensures.0 refl) c.loop-body.invariant.so_far in
     rw whole (all_well_laid_out (map entry_value c.loop-body.entries.items) c.loop-body.invariant.stand (omega (arith, length-map c.loop-body.entries.items entry_value)))

@@ -4,7 +4,7 @@ use Rattle.mls_tree.specs.Tree.{leaf_count}
 use Rattle.mls_tree.specs.BlankLeaves.{first_blank_leaf}
 use Rattle.mls_tree.specs.CacheModel.{kind_in, slots_in}
 use Rattle.mls_tree.specs.PublicTreeModel.{KeptTree}
-use Rattle.mls_tree.specs.TreeOperations.{number_or, grown_for}
+use Rattle.mls_tree.specs.TreeOperations.{number_or, extended_if_full}
 use Rattle.mls_tree.proofs.KeptSlots.{slots-short}
 use Rattle.mls_tree.proofs.public_tree.PublicTree.seat.Goals as goal
 
@@ -16,7 +16,7 @@ pub returns-in-Some-clause-leaf : goal.returns-in-Some-clause-leaf
 returns-in-Some-clause-leaf c = ap (number_or (leaf_count c.args.self.now.tree)) (sym (found c))
 
 pub returns-in-Some-clause-tree : goal.returns-in-Some-clause-tree
-returns-in-Some-clause-tree c = ap (λ o. grown_for o c.args.self.now.tree) (sym (found c))
+returns-in-Some-clause-tree c = ap (λ o. extended_if_full o c.args.self.now.tree) (sym (found c))
 
 pub returns-in-Some-clause-front : goal.returns-in-Some-clause-front
 returns-in-Some-clause-front c =
@@ -29,4 +29,4 @@ returns-clause-leaf c =
     c.leaf_count-count.ensures ∙ ap (λ (v : KeptTree). leaf_count v.tree) c.self.view_is ∙ ap (number_or (leaf_count c.args.self.now.tree)) c.in_default.ensures.first
 
 pub returns-clause-tree : goal.returns-clause-tree
-returns-clause-tree c = c.in_ok-extend.ensures.changed ∙ ap (λ o. grown_for o c.args.self.now.tree) c.in_default.ensures.first
+returns-clause-tree c = c.in_ok-extend.ensures.changed ∙ ap (λ o. extended_if_full o c.args.self.now.tree) c.in_default.ensures.first

@@ -4,8 +4,8 @@ use Rattle.mls_tree.specs.NodeArray.{tree_in}
 use Rattle.mls_tree.specs.CountsModel.{AreCountsIfAny}
 use Rattle.mls_tree.specs.declared.subtree_counts.Count.{Count}
 use Rattle.mls_tree.proofs.Arrays.{leaf_count-tree_in}
-use Rattle.mls_tree.proofs.CountsRead.{has_set_leaf-subtree_count}
-use Rattle.mls_tree.proofs.blanks.counts_set_leaf.Goals as goal
+use Rattle.mls_tree.proofs.CountsRead.{has_non_blank_leaf-subtree_count}
+use Rattle.mls_tree.proofs.blanks.counts_non_blank_leaf.Goals as goal
 
 pub count_of-requires-clause-capacity : goal.count_of-requires-clause-capacity
 count_of-requires-clause-capacity c =
@@ -19,4 +19,4 @@ count_of-requires-clause-counts c =
     ok.1
 
 pub returns-in-Some : goal.returns-in-Some
-returns-in-Some c = ap (λ (v : Count). nat_lt 0 v.members) c.count_of.ensures ∙ sym (has_set_leaf-subtree_count (tree_in c.args.nodes.now c.args.level c.args.first))
+returns-in-Some c = ap (λ (v : Count). nat_lt 0 v.members) c.count_of.ensures ∙ sym (has_non_blank_leaf-subtree_count (tree_in c.args.nodes.now c.args.level c.args.first))

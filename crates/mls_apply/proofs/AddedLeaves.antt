@@ -13,7 +13,8 @@ use Rattle.mls_tree.proofs.FirstBlanks.{first_blank_leaf-leftmost}
 use Rattle.mls_tree.proofs.Added.{leaf_at-add_at_other}
 use Rattle.mls_apply.specs.declared.list_item.ListItem.{ListItem}
 use Rattle.mls_apply.specs.AppliedList.{AppliedTree, applied_tree, outcome, with_members, new_members, without_adds, after_leaf, after_adds}
-use Rattle.mls_apply.specs.Outline.{IsApart, AreAt}
+use Rattle.mls_apply.specs.Outline.{IsApart}
+use Rattle.mls_apply.specs.OutlineInternal.{AreAt}
 use Rattle.mls_apply.proofs.SoundOutcomes.{unless, where_so}
 use Rattle.mls_apply.proofs.RepeatedAdds.{added-at, leaf_stays}
 

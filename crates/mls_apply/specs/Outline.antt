@@ -1,7 +1,6 @@
 -- A tree that is like the tree after a proposal list (RFC 9420, 12.3), except for the leaf nodes of the added members.
 -- Used by contracts.
 use Rattle.std.specs.Prelude.{◌≡◌, ◌≢◌, ℕ, List, [], ◌∷◌, Option, Some, ⊤}
-use Rattle.mls_nodes.specs.declared.leaf.LeafNode.{LeafNode}
 use Rattle.mls_tree.specs.Tree.{Tree, leaf_at}
 use Rattle.mls_apply.specs.AppliedList.{AppliedTree, applied_tree}
 
@@ -9,13 +8,6 @@ use Rattle.mls_apply.specs.AppliedList.{AppliedTree, applied_tree}
 abbrev pub IsApart : List ℕ → ℕ → Type 0
 IsApart [] i = ⊤
 IsApart (j ∷ js) i = (i ≢ j) × IsApart js i
-
--- `AreAt t xs js`: each of the leaf nodes `xs` is the leaf of `t` at the leaf index in its place of `js`.
-abbrev pub AreAt : Tree → List LeafNode → List ℕ → Type 0
-AreAt t [] [] = ⊤
-AreAt t [] (j ∷ js) = ⊥
-AreAt t (x ∷ xs) [] = ⊥
-AreAt t (x ∷ xs) (j ∷ js) = (leaf_at 0 t j ≡ Some x) × AreAt t xs js
 
 -- `IsOutline o added u`: `o` is a tree with the added leaves `added`, and each leaf of `u` that was not added is that of the
 -- tree.

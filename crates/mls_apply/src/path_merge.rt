@@ -11,7 +11,8 @@ ghost use Rattle.mls_apply.specs.PathRules.{has_first_parent_hash, keys_refusal,
 ghost use Rattle.mls_apply.specs.ProposalRules.{is_from_commit};
 ghost use Rattle.mls_apply.specs.PathParents.{carried};
 ghost use Rattle.mls_apply.specs.PathModel.{hash_refusal, path_parents_model};
-ghost use Rattle.mls_apply.specs.CommitterPath.{committer_path_refusal, AreNewNodes};
+ghost use Rattle.mls_apply.specs.CommitterPath.{committer_path_refusal};
+ghost use Rattle.mls_apply.specs.CommitterPathInternal.{AreNewNodes};
 
 use crate::committer_path::CommitterPath;
 use crate::fault::ApplyFault;

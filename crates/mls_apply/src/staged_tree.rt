@@ -55,7 +55,8 @@ pub struct StagedTree {
 }
 
 impl Model for StagedTree {
-    ghost use Rattle.mls_apply.specs.Staged.{Staged, staged_coded};
+    ghost use Rattle.mls_apply.specs.Staged.{Staged};
+    ghost use Rattle.mls_apply.specs.StagedInternal.{staged_coded};
 
     ghost Value = { Staged };
 

@@ -17,7 +17,8 @@ use Rattle.mls_tree.proofs.Lookups.{leaf_at-past}
 use Rattle.mls_tree.proofs.Trees.{leaf_count-positive, subtree_at-stands}
 use Rattle.mls_hash.specs.ParentHash.{root_parent}
 use Rattle.mls_check.specs.ParentHashValid.{IsNonBlankParent, ParentHashStep}
-use Rattle.mls_check.specs.UnmergedLists.{HasSortedEntries, is_blank_or_lists, is_unmerged_in_all, is_consistent, HasConsistentUnmerged}
+use Rattle.mls_check.specs.UnmergedLists.{is_blank_or_lists, is_unmerged_in_all, is_consistent, HasConsistentUnmerged}
+use Rattle.mls_check.specs.UnmergedListsInternal.{HasSortedEntries}
 use Rattle.mls_check.proofs.Elements.{contains-head, contains-tail, contains-found, all-each, and-left, and-right}
 use Rattle.mls_check.proofs.Walks.{contained}
 use Rattle.mls_check.specs.PreservedValidity.{HasValidUnmergedLists, IsParentHashValidTree, IsStepAt}

@@ -12,7 +12,7 @@ use Rattle.mls_tree.proofs.Choices.{here, before, after, same, other}
 use Rattle.mls_tree.proofs.Trees.{length-listing}
 use Rattle.mls_tree.proofs.Growing.{slice_get-append_left}
 use Rattle.mls_tree.proofs.Listings.{slice_get-append_right}
-use Rattle.mls_check.specs.FirstFailure.{IsFirstFailureIn}
+use Rattle.mls_check.specs.FirstFailureInternal.{IsFirstFailureIn}
 use Rattle.mls_check.specs.DistinctKeys.{encryption_key, encryption_key_at, HasUniqueKeyAt, IsDistinct, parent_keys, tree_keys, has_key, are_distinct, has_distinct_keys}
 
 -- ---- the node at a place is the entry of the listing there

@@ -5,7 +5,8 @@ use Rattle.mls_nodes.specs.declared.context.GroupContext.{GroupContext}
 use Rattle.mls_nodes.specs.declared.required_capabilities.RequiredCapabilities.{RequiredCapabilities}
 use Rattle.mls_tree.specs.RatchetTree.{RatchetTree}
 use Rattle.mls_hash.specs.SuiteHash.{hash_of}
-use Rattle.mls_check.specs.GroupTree.{IsSupportedContext, HasTree, HasReadableRequirements, HasValidTree, HasMembers, FailsRequirements, FailsValid, FailsMembers, IsGroupTreeFault, tree_fault_of, member_fault_of}
+use Rattle.mls_check.specs.GroupTree.{IsSupportedContext, HasTree, HasReadableRequirements, HasValidTree, HasMembers, FailsRequirements, FailsValid, FailsMembers, IsGroupTreeFault}
+use Rattle.mls_check.specs.GroupTreeInternal.{tree_fault_of, member_fault_of}
 use Rattle.mls_check.specs.LeafValidation.{LeavesAreValid, IsMemberFault}
 use Rattle.mls_check.specs.Signatures.{VerifyFn}
 use Rattle.mls_check.specs.ValidTree.{Valid, IsFirstTreeFault}

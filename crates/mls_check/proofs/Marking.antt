@@ -7,7 +7,7 @@ use Rattle.std.proofs.lemmas.Bool.{cases_order, cases_lt}
 use Rattle.mls_nodes.specs.declared.parent.ParentNode.{ParentNode}
 use Rattle.mls_tree.specs.Tree.{Tree, leaf, branch, leaf_count, Subtree, subtree_at, root_node_index, root_entry}
 use Rattle.mls_tree.proofs.Trees.{subtree_at-stands, subtree_at-root, subtree_at-nested, subtree_at-in_left, subtree_at-in_right}
-use Rattle.mls_check.specs.FirstFailure.{IsFirstFailureIn}
+use Rattle.mls_check.specs.FirstFailureInternal.{IsFirstFailureIn}
 use Rattle.mls_tree.specs.NodeView.{HasChildren, parent_of}
 use Rattle.mls_check.specs.ParentHashValid.{ParentHashValid, IsParentHashValidAt, IsNonBlankParent, IsParentHashValidHere}
 use Rattle.mls_check.specs.ParentHashMarks.{IsMarked, IsMarkedAt, MarksAreValid, AreKept, AreAllMarkedAt, AreAllMarkedUnder}

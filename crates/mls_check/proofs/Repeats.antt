@@ -10,7 +10,7 @@ use Rattle.std.proofs.lemmas.Bool.{cases_lt, cases_order, false≢true}
 use Rattle.std.proofs.lemmas.Bool.Decides.{Decides-at, Decides-like, Decides-or}
 use Rattle.mls_tree.specs.Tree.{Tree, leaf_count, entry_of}
 use Rattle.mls_check.specs.DistinctKeys.{encryption_key_at, HaveOneKey, HasUniqueKeyAt, IsDistinct, encryption_key}
-use Rattle.mls_check.specs.FirstFailure.{IsFirstFailureIn}
+use Rattle.mls_check.specs.FirstFailureInternal.{IsFirstFailureIn}
 use Rattle.mls_check.proofs.Outside.{outside_above}
 use Rattle.mls_check.proofs.Differing.{AreApart}
 

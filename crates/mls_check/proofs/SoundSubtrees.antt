@@ -3,7 +3,8 @@ use Rattle.std.proofs.Common.{◌≡◌, ℕ, ◌+◌, IsTrue, List, Option, Som
 use Rattle.mls_tree.specs.Tree.{Tree, leaf, branch, leaf_count, Subtree, subtree_at, root_entry, entry_of}
 use Rattle.mls_hash.specs.ParentHash.{root_parent}
 use Rattle.mls_check.specs.ParentHashValid.{ParentHashValid, IsNonBlankParent}
-use Rattle.mls_check.specs.UnmergedLists.{HasSortedList, HasSortedEntries, is_consistent, HasStrictlyIncreasingLists, HasConsistentUnmerged}
+use Rattle.mls_check.specs.UnmergedLists.{HasSortedList, is_consistent, HasStrictlyIncreasingLists, HasConsistentUnmerged}
+use Rattle.mls_check.specs.UnmergedListsInternal.{HasSortedEntries}
 use Rattle.mls_check.proofs.OwnLeaves.{own_leaf}
 use Rattle.mls_check.specs.PreservedValidity.{IsParentHashValidTree}
 use Rattle.mls_check.proofs.Everywhere.{Everywhere, everywhere-top, everywhere-at, everywhere-from, everywhere-more}

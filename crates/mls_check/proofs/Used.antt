@@ -6,7 +6,8 @@ use Rattle.mls_nodes.specs.declared.credential.Credential.{Credential}
 use Rattle.mls_nodes.specs.declared.credential.Credential.TheVariants.{Basic, X509}
 use Rattle.mls_nodes.specs.declared.leaf.LeafNode.{LeafNode}
 use Rattle.mls_tree.specs.Tree.{Tree, leaf_count, leaf_at}
-use Rattle.mls_check.specs.LeafValidation.{credential_type, supports_credential, supports_used_credentials, IsCredentialUsed}
+use Rattle.mls_check.specs.LeafValidation.{credential_type, supports_credential, supports_used_credentials}
+use Rattle.mls_check.specs.LeafValidationInternal.{IsCredentialUsed}
 use Rattle.mls_check.proofs.Leaves.{all_leaves-below, all_leaves-at, leaf_at-low}
 
 -- whether a credential type was seen among the leaves below i

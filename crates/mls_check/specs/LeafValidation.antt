@@ -162,7 +162,3 @@ MembersAreFaultless = (G : VerifyFn) (suite : ℕ) (group_id : List ℕ) (requir
 abbrev pub FindsFailing : (ℕ → LeafNode → Bool) → Tree → Option ℕ → Type 0
 FindsFailing test t None = all_leaves test 0 t ≡ true
 FindsFailing test t (Some i) = FailsFirst test t i
-
--- `IsCredentialUsed t kind`: some non-blank leaf has a credential of this type (RFC 9420, 5.3).
-abbrev pub IsCredentialUsed : Tree → ℕ → Type 0
-IsCredentialUsed t kind = (i : ℕ) × (x : LeafNode) × (leaf_at 0 t i ≡ Some x) × (credential_type x.credential ≡ kind)

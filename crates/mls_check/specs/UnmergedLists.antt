@@ -13,11 +13,6 @@ HasSortedList None = Unit {0}
 HasSortedList (Some (leaf_node _)) = Unit {0}
 HasSortedList (Some (parent_node p)) = IsStrictlyIncreasing p.unmerged
 
--- `HasSortedEntries p`: as `HasSortedList`, of a parent.
-abbrev pub HasSortedEntries : Option ParentNode → Type 0
-HasSortedEntries None = Unit {0}
-HasSortedEntries (Some p) = IsStrictlyIncreasing p.unmerged
-
 -- `IsSortedAt t p`: the unmerged list of the node at node index p is strictly increasing, if it has one.
 abbrev pub IsSortedAt : Tree → ℕ → Type 0
 IsSortedAt t p = HasSortedList (node_at t p)

@@ -1,7 +1,8 @@
 //! The credential types of the members (RFC 9420, 5.3).
 
 ghost use Rattle.std.specs.Prelude.{◌≡◌, ℕ, IsTrue, ◌↔◌, not, ◌&&◌, ◌||◌};
-ghost use Rattle.mls_check.specs.LeafValidation.{FindsFailing, IsCredentialUsed, supports_credential, supports_used_credentials};
+ghost use Rattle.mls_check.specs.LeafValidation.{FindsFailing, supports_credential, supports_used_credentials};
+ghost use Rattle.mls_check.specs.LeafValidationInternal.{IsCredentialUsed};
 
 use crate::capability_support::supports_credential;
 use mls_nodes::{Credential, LeafNode};

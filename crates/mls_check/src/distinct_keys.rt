@@ -3,7 +3,7 @@
 ghost use Rattle.std.specs.Prelude.{◌≡◌, IfOk};
 ghost use Rattle.std.specs.Bool.{OnTrue};
 ghost use Rattle.std.specs.Option.{option_copied};
-ghost use Rattle.mls_check.specs.FirstFailure.{IsFirstFailureIn};
+ghost use Rattle.mls_check.specs.FirstFailureInternal.{IsFirstFailureIn};
 ghost use Rattle.mls_check.specs.DistinctKeys.{encryption_key_at, HasUniqueKeyAt, IsDistinct, has_distinct_keys};
 
 use crate::key_prefixes::{all_differ, key_prefix};

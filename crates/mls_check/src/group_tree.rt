@@ -34,7 +34,7 @@ pub enum GroupTreeFault {
 
 impl From<TreeFault> for GroupTreeFault {
     ghost use Rattle.std.specs.Prelude.{◌≡◌};
-    ghost use Rattle.mls_check.specs.GroupTree.{tree_fault_of};
+    ghost use Rattle.mls_check.specs.GroupTreeInternal.{tree_fault_of};
 
     ghost from_gives = { λ fault e. e ≡ tree_fault_of fault };
 
@@ -48,7 +48,7 @@ impl From<TreeFault> for GroupTreeFault {
 
 impl From<MemberFault> for GroupTreeFault {
     ghost use Rattle.std.specs.Prelude.{◌≡◌};
-    ghost use Rattle.mls_check.specs.GroupTree.{member_fault_of};
+    ghost use Rattle.mls_check.specs.GroupTreeInternal.{member_fault_of};
 
     ghost from_gives = { λ fault e. e ≡ member_fault_of fault };
 

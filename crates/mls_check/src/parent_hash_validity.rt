@@ -13,7 +13,7 @@ ghost use Rattle.mls_hash.specs.SuiteHash.{hash_of};
 ghost use Rattle.mls_hash.specs.OriginalTreeHashes.{AreChildHashes, AreKnownHashes};
 ghost use Rattle.mls_hash.specs.ParentHash.{parent_at};
 ghost use Rattle.mls_hash.specs.SubtreeHashes.{AreSubtreeHashes};
-ghost use Rattle.mls_check.specs.FirstFailure.{IsFirstFailureIn};
+ghost use Rattle.mls_check.specs.FirstFailureInternal.{IsFirstFailureIn};
 ghost use Rattle.mls_check.specs.UnmergedLists.{HasStrictlyIncreasingLists, HasConsistentUnmerged};
 ghost use Rattle.mls_check.specs.ParentHashValid.{linked_hash, IsParentHashValidAt, IsParentHashValidHere};
 ghost use Rattle.mls_check.specs.ParentHashMarks.{RisesInLeaves, IsOnlyUnlisted, IsChainEnd, IsChainPredecessorIn, HasParentHash, MarksAreValid, AreKept, AreAllMarkedAt, AreAllMarkedUnder, IsMarkedAt};

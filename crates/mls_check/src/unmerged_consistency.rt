@@ -9,8 +9,9 @@ ghost use Rattle.std.specs.Option.{option_copied};
 ghost use Rattle.std.specs.List.{list_all};
 ghost use Rattle.std.specs.List.Sorted.{IsStrictlyIncreasing};
 ghost use Rattle.mls_tree.specs.Tree.{subtree_at};
-ghost use Rattle.mls_check.specs.FirstFailure.{IsFirstFailureIn};
-ghost use Rattle.mls_check.specs.UnmergedLists.{HasStrictlyIncreasingLists, HasConsistentUnmergedAt, HasSortedEntries, is_blank_or_lists, is_unmerged_in_all};
+ghost use Rattle.mls_check.specs.FirstFailureInternal.{IsFirstFailureIn};
+ghost use Rattle.mls_check.specs.UnmergedLists.{HasStrictlyIncreasingLists, HasConsistentUnmergedAt, is_blank_or_lists, is_unmerged_in_all};
+ghost use Rattle.mls_check.specs.UnmergedListsInternal.{HasSortedEntries};
 ghost use Rattle.mls_check.specs.UnmergedInAll.{is_unmerged_in_all_at};
 
 use crate::node_count::node_index_count;

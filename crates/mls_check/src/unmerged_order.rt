@@ -2,7 +2,7 @@
 
 ghost use Rattle.std.specs.Prelude.{◌≡◌, ◌↔◌, IsTrue};
 ghost use Rattle.std.specs.List.Sorted.{IsStrictlyIncreasing};
-ghost use Rattle.mls_check.specs.FirstFailure.{IsFirstFailureIn};
+ghost use Rattle.mls_check.specs.FirstFailureInternal.{IsFirstFailureIn};
 ghost use Rattle.mls_check.specs.UnmergedLists.{IsSortedAt};
 
 use crate::node_count::node_index_count;

@@ -2,6 +2,7 @@ pub mod Execution
 pub mod ClapCommands
 pub mod Files
 pub mod ProgramCheckers
+pub mod ProgramCheckersInternal
 pub mod CheckerFaults
 pub mod Orders
 pub mod ReportResult

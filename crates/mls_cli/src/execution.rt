@@ -6,7 +6,8 @@ ghost use Rattle.mls_follow.specs.State.{State};
 ghost use Rattle.mls_follow.specs.StoredState.{EncodesState};
 ghost use Rattle.mls_cli.specs.Execution.{ExecutesOrder, EndsStoring, EndsSaved, MeansWrite, report_stores, stores_state, ExecutesReport, ExecutesShow, ExecutesValidateTree, ExecutesValidate, ExecutesReplay, ExecutesSignatures, ExecutesGate, ExecutesCheck};
 ghost use Rattle.mls_cli.specs.Files.{opener, IsOpened, NamedFileIsMissing};
-ghost use Rattle.mls_cli.specs.ProgramCheckers.{checker_verify, RunsWithCheckerOrEnds, EndsUnread, EndsRefused};
+ghost use Rattle.mls_cli.specs.ProgramCheckers.{RunsWithCheckerOrEnds, EndsUnread, EndsRefused};
+ghost use Rattle.mls_cli.specs.ProgramCheckersInternal.{checker_verify};
 ghost use Rattle.mls_report.specs.StartInputs.{has_failed};
 ghost use Rattle.mls_cli.specs.CheckerFaults.{IsCheckerFault};
 

@@ -2,7 +2,8 @@
 
 ghost use Rattle.std.specs.Prelude.{◌≡◌, ◌↔◌, false, true, IfOk, IfErr};
 ghost use Rattle.mls_cli.specs.Files.{opener, ReadsFile, CannotReadFile};
-ghost use Rattle.mls_cli.specs.ProgramCheckers.{checker_verify, IsMeaning, HasReceipts, IsUnlisted};
+ghost use Rattle.mls_cli.specs.ProgramCheckers.{IsMeaning, HasReceipts, IsUnlisted};
+ghost use Rattle.mls_cli.specs.ProgramCheckersInternal.{checker_verify};
 ghost use Rattle.mls_cli.specs.CheckerFaults.{IsCheckerFault};
 ghost use Rattle.mls_cli.specs.declared.order.CheckerChoice.TheVariants as choices;
 

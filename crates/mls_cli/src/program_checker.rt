@@ -13,7 +13,7 @@ pub enum ProgramChecker {
 }
 
 impl SignatureCheck for ProgramChecker {
-    ghost use Rattle.mls_cli.specs.ProgramCheckers.{checker_verify};
+    ghost use Rattle.mls_cli.specs.ProgramCheckersInternal.{checker_verify};
 
     ghost meaning = { checker_verify };
 

@@ -40,9 +40,10 @@ use Rattle.mls_apply.specs.RuleLists.{Rule, rule, first_failing, map_refusals}
 use Rattle.mls_apply.proofs.RepeatedAdds.{repeated_adds_repeat_keys}
 use Rattle.mls_apply.proofs.RuleLists.{first_failing-left, first_failing-right, first_failing-map_refusals}
 use Rattle.mls_follow.specs.State.{State, last_epoch}
-use Rattle.mls_follow.specs.MessageRules.{refusal_of, is_new_proposal, proposal_message_rules, commit_refusal, handshake_refusal, proposal_list_rules, inline_rules, applied_tree_rules, required_after, rules_with_requirements, path_rules_of, CommitterTree, seated, committer_tree, committer_tree_rules, external_commit_refusal, member_refusal, member_rules, tree_rules, resulting, changed_tree}
+use Rattle.mls_follow.specs.MessageRules.{refusal_of, is_new_proposal, proposal_message_rules, proposal_list_rules, inline_rules, applied_tree_rules, required_after, rules_with_requirements, path_rules_of, CommitterTree, seated, committer_tree, committer_tree_rules, member_rules, tree_rules, resulting, changed_tree}
+use Rattle.mls_follow.specs.MessageRulesInternal.{commit_refusal, handshake_refusal, external_commit_refusal, member_refusal}
 use Rattle.mls_follow.specs.CommitTree.{committer_rules, change_rules}
-use Rattle.mls_follow.specs.Acceptance.{FailsWithRule}
+use Rattle.mls_follow.specs.AcceptanceInternal.{FailsWithRule}
 use Rattle.mls_follow.specs.declared.refusal.Refusal.{Refusal}
 use Rattle.mls_follow.specs.declared.refusal.Refusal.TheVariants as refusals
 

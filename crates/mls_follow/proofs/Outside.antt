@@ -6,9 +6,10 @@ use Rattle.mls_msgs.specs.declared.authenticated.AuthenticatedParts.{Authenticat
 use Rattle.mls_msgs.specs.declared.framed_content.Sender.{Sender}
 use Rattle.mls_msgs.specs.declared.framed_content.Sender.TheVariants as senders
 use Rattle.mls_apply.specs.RuleLists.{first_failing}
-use Rattle.mls_follow.specs.Acceptance.{FailsWithRule}
+use Rattle.mls_follow.specs.AcceptanceInternal.{FailsWithRule}
 use Rattle.mls_follow.specs.State.{State}
-use Rattle.mls_follow.specs.MessageRules.{if_full, joiner_rules, outside_rules, sender_refusal}
+use Rattle.mls_follow.specs.MessageRules.{if_full, joiner_rules, outside_rules}
+use Rattle.mls_follow.specs.MessageRulesInternal.{sender_refusal}
 use Rattle.mls_follow.specs.declared.refusal.Refusal.{Refusal}
 use Rattle.mls_follow.specs.declared.taken.Taken.{Taken}
 

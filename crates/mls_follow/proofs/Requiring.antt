@@ -1,7 +1,7 @@
 -- What is required of members after a commit, by the extensions that its list brings.
 use Rattle.std.proofs.Common.{◌≡◌, ◌∙◌, List, Option, Some, None, Result, Ok, Err, refl, ap, subst}
 use Rattle.std.specs.Prelude.{unwrap_or}
-use Rattle.mls_wire.specs.Parsing.{Finds}
+use Rattle.mls_wire.specs.ParsingInternal.{Finds}
 use Rattle.mls_wire.specs.declared.fault.CodecFault.{CodecFault}
 use Rattle.mls_wire.specs.declared.fault.CodecFault.TheVariants as faults
 use Rattle.mls_wire.specs.declared.fault.WireFault.{WireFault}

@@ -11,7 +11,8 @@ use Rattle.mls_check.specs.declared.group_tree.GroupTreeFault.{GroupTreeFault}
 use Rattle.mls_check.specs.declared.group_tree.GroupTreeFault.TheVariants as groups
 use Rattle.mls_msgs.specs.declared.group_info.GroupInfo.{GroupInfo}
 use Rattle.mls_msgs.specs.declared.profile.Profile.{Profile}
-use Rattle.mls_follow.specs.Start.{UsesTree, IsSignedIn, StartsWith, FailsWith, FailsSigned, IsStart, initial_state, IsStartFault, is_info_signed, info_interim, start_fault_of}
+use Rattle.mls_follow.specs.Start.{UsesTree, IsStart, initial_state, IsStartFault, is_info_signed, info_interim}
+use Rattle.mls_follow.specs.StartInternal.{IsSignedIn, StartsWith, FailsWith, FailsSigned, start_fault_of}
 use Rattle.mls_follow.specs.declared.start_fault.StartFault.{StartFault}
 use Rattle.mls_follow.specs.declared.start_fault.StartFault.TheVariants.{UnsupportedVersion, UnsupportedSuite, SignerNotMember, InfoSignature}
 

@@ -1,7 +1,8 @@
 -- A state has one file, and bytes are the file of one state.
 use Rattle.std.proofs.Common.{◌≡◌, ◌∙◌, ℕ, ◌≤◌, Bool, true, false, Some, None, List, [], ◌∷◌, length, map, refl, sym, ap, subst}
 use Rattle.mls_wire.specs.Limits.{input_limit}
-use Rattle.mls_tree.specs.RatchetTree.{RatchetTree, RatchetTree-same}
+use Rattle.mls_tree.specs.RatchetTree.{RatchetTree}
+use Rattle.mls_tree.specs.RatchetTreeInternal.{RatchetTree-same}
 use Rattle.std.proofs.lemmas.Option.{none-some, same_Some}
 use Rattle.mls_msgs.specs.declared.profile.Profile.{Profile}
 use Rattle.mls_msgs.specs.declared.profile.Profile.TheVariants as profiles

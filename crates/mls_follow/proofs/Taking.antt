@@ -10,9 +10,11 @@ use Rattle.mls_msgs.specs.declared.public_message.PublicParts.{PublicParts}
 use Rattle.mls_apply.specs.RuleLists.{first_failing}
 use Rattle.mls_nodes.specs.Requirements.{Requires}
 use Rattle.mls_follow.specs.State.{State, EncodesMessage}
-use Rattle.mls_follow.specs.MessageRules.{frame_refusal, frame_rules, message_rules}
+use Rattle.mls_follow.specs.MessageRules.{frame_rules, message_rules}
+use Rattle.mls_follow.specs.MessageRulesInternal.{frame_refusal}
 use Rattle.mls_follow.specs.NextState.{after_sender}
-use Rattle.mls_follow.specs.Acceptance.{IsAcceptable, IsNext, IsFirstRefusal, FailsWithRule}
+use Rattle.mls_follow.specs.Acceptance.{IsAcceptable, IsNext, IsFirstRefusal}
+use Rattle.mls_follow.specs.AcceptanceInternal.{FailsWithRule}
 use Rattle.mls_follow.specs.Runs.{IsTransition}
 use Rattle.mls_follow.specs.declared.refusal.Refusal.{Refusal}
 use Rattle.mls_follow.specs.declared.refusal.Refusal.TheVariants.{NotPublic, OutOfMemory}

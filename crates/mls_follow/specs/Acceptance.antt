@@ -1,6 +1,6 @@
 -- Which messages a follower accepts, and the first rule that a refused one fails. `s` is the state, G the verification
 -- function of the checker. Used by contracts.
-use Rattle.std.specs.Prelude.{◌≡◌, ◌≢◌, ◌⊎◌, ℕ, List, Option, Some, None, IsSome}
+use Rattle.std.specs.Prelude.{◌≡◌, ◌⊎◌, ℕ, List, Some, None, IsSome}
 use Rattle.mls_nodes.specs.declared.context.GroupContext.{GroupContext}
 use Rattle.mls_nodes.specs.declared.required_capabilities.RequiredCapabilities.{RequiredCapabilities}
 use Rattle.mls_check.specs.Signatures.{VerifyFn}
@@ -14,7 +14,7 @@ use Rattle.mls_follow.specs.State.{State, EncodesMessage, HasEncoding}
 use Rattle.mls_follow.specs.MessageRules.{message_rules, reference_of}
 use Rattle.mls_follow.specs.NextState.{Transition, next}
 use Rattle.mls_follow.specs.declared.refusal.Refusal.{Refusal}
-use Rattle.mls_follow.specs.declared.refusal.Refusal.TheVariants.{Malformed, OutOfMemory}
+use Rattle.mls_follow.specs.declared.refusal.Refusal.TheVariants.{Malformed}
 
 -- `IsAcceptable G s bytes`: the bytes are the encoding of a message that satisfies every rule (RFC 9420, 6, 12.1 to
 -- 12.4).
@@ -54,7 +54,3 @@ abbrev pub ReferencesExist : Type 0
 ReferencesExist =
     (profile : Profile) (context : GroupContext) (m : PublicParts) → HasEncoding profile (messages.Public m)
     → IsSome (reference_of context m.auth)
-
--- `FailsWithRule failing e`: a refusal other than OutOfMemory is that of the rule that fails.
-abbrev pub FailsWithRule : Option Refusal → Refusal → Type 0
-FailsWithRule failing e = e ≢ OutOfMemory → failing ≡ Some e

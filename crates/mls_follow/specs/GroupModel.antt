@@ -1,6 +1,4 @@
 -- The model of the group that a follower holds: its state. Used by contracts.
-use Rattle.std.specs.Prelude.{List}
-use Rattle.mls_apply.specs.declared.list_item.KnownProposal.{KnownProposal}
 use Rattle.mls_follow.specs.State.{State}
 use Rattle.mls_follow.specs.declared.group.Group.{Group}
 
@@ -13,15 +11,4 @@ group_state g = record {
   interim = g.interim;
   known = g.known;
   ended = g.ended;
-}
-
--- `with_known s known` is the state `s` with these pending proposals.
-abbrev pub with_known : State → List KnownProposal → State
-with_known s known = record {
-  profile = s.profile;
-  context = s.context;
-  tree = s.tree;
-  interim = s.interim;
-  known = known;
-  ended = s.ended;
 }

@@ -17,7 +17,6 @@ use Rattle.mls_check.specs.DistinctKeys.{has_distinct_keys}
 use Rattle.mls_check.specs.LeafValidation.{member_fault}
 use Rattle.mls_check.specs.Signatures.{VerifyFn, is_signed_text}
 use Rattle.mls_check.specs.declared.members.MemberFault.{MemberFault}
-use Rattle.mls_check.specs.declared.members.MemberFault.TheVariants as members
 use Rattle.mls_msgs.specs.Authenticated.{authenticated_content}
 use Rattle.mls_msgs.specs.Profile.{is_in}
 use Rattle.mls_msgs.specs.Tbs.{content_label, content_tbs, reference_label}
@@ -37,7 +36,7 @@ use Rattle.mls_apply.specs.declared.fault.ApplyFault.{ApplyFault}
 use Rattle.mls_apply.specs.declared.fault.ApplyFault.TheVariants as faults
 use Rattle.mls_apply.specs.declared.list_item.ListItem.{ListItem}
 use Rattle.mls_apply.specs.declared.list_item.KnownProposal.{KnownProposal}
-use Rattle.mls_apply.specs.RuleLists.{Rule, rule, first_failing, map_refusals}
+use Rattle.mls_apply.specs.RuleLists.{Rule, rule, map_refusals}
 use Rattle.mls_apply.specs.ResolvedList.{find_known, resolved}
 use Rattle.mls_apply.specs.ContextExtensions.{proposed_extensions}
 use Rattle.mls_apply.specs.ProposalRules.{proposal_rules, valid_if_add, valid_if_update, valid_if_remove, valid_if_extensions, valid_if_psk, valid_if_reinit, is_no_external_init, all_inline}
@@ -114,15 +113,6 @@ abbrev pub proposal_message_rules : VerifyFn → State → AuthenticatedParts �
 proposal_message_rules G s a sender p =
     rule refusals.KnownProposal (is_new_proposal s a) ∷
     map_refusals refusal_of (proposal_rules G s.context s.tree sender p)
-
--- `member_refusal fault` is the same fault of a leaf node as a refusal.
-abbrev pub member_refusal : MemberFault → Refusal
-member_refusal (members.ExtensionUnlisted index) = Member (members.ExtensionUnlisted index)
-member_refusal (members.RequirementUnmet index) = Member (members.RequirementUnmet index)
-member_refusal (members.CredentialUnsupported index) = Member (members.CredentialUnsupported index)
-member_refusal (members.SignatureKeyRepeated index) = Member (members.SignatureKeyRepeated index)
-member_refusal (members.LeafSignature index) = Member (members.LeafSignature index)
-member_refusal members.OutOfMemory = OutOfMemory
 
 -- `member_rules fault` is the rules for the leaf nodes of the tree after a commit (RFC 9420, 7.3).
 abbrev pub member_rules : Option MemberFault → List (Rule Refusal)
@@ -229,12 +219,6 @@ commit_rules G s required i c =
     rule LastEpoch (nat_lt s.context.epoch last_epoch) ∷
     proposal_list_rules G s required i c (resolved (senders.Member i) s.known c.proposals)
 
--- `is_handshake c`: the content is a proposal or a commit (RFC 9420, 6).
-abbrev pub is_handshake : Content → Bool
-is_handshake (contents.Application _) = false
-is_handshake (contents.Proposal _) = true
-is_handshake (contents.Commit _) = true
-
 -- `handshake_rules G s required a i c` is the rules for the content of a signed message of member i, if it is a
 -- proposal or a commit.
 abbrev pub handshake_rules : VerifyFn → State → RequiredCapabilities → AuthenticatedParts → ℕ
@@ -263,13 +247,6 @@ abbrev pub leaf_rules : VerifyFn → State → RequiredCapabilities → Authenti
     → Option LeafNode → List (Rule Refusal)
 leaf_rules G s required a i None = fail_with SenderNotMember
 leaf_rules G s required a i (Some x) = content_rules G s required a i x a.content.content
-
--- `lacks_key sender key`: the sender is an external one without a key.
-abbrev pub lacks_key : Sender → Option (List ℕ) → Bool
-lacks_key (senders.Member _) key = false
-lacks_key (senders.External _) key = not (is_some key)
-lacks_key senders.NewMemberProposal key = false
-lacks_key senders.NewMemberCommit key = false
 
 -- `is_known_external extensions sender`: if the sender is an external one, the GroupContext's extensions name it (RFC 9420,
 -- 12.1.8).
@@ -371,41 +348,3 @@ message_rules G s required (messages.KeyPackage _) = fail_with NotPublic
 
 -- The first rule that fails, for an AuthenticatedContent, for a sender, for the content of a member, for a proposal, for a
 -- commit and for an external commit. Proofs about callers need not unfold these.
-
--- `frame_refusal G s required a` is the refusal of the first rule for an AuthenticatedContent that fails.
-unfoldable pub frame_refusal : VerifyFn → State → RequiredCapabilities → AuthenticatedParts
-    → Option Refusal
-frame_refusal G s required a = first_failing (frame_rules G s required a)
-
--- `sender_refusal G s required a sender` is the refusal of the first rule for a message of a sender that fails.
-unfoldable pub sender_refusal : VerifyFn → State → RequiredCapabilities → AuthenticatedParts → Sender
-    → Option Refusal
-sender_refusal G s required a sender = first_failing (sender_rules G s required a sender)
-
--- `outside_refusal G s a sender` is the refusal of the first rule for a message of a sender outside the group that fails.
-unfoldable pub outside_refusal : VerifyFn → State → AuthenticatedParts → Sender → Option Refusal
-outside_refusal G s a sender = first_failing (outside_rules G s a sender)
-
--- `proposal_refusal G s a sender p` is the refusal of the first rule for a proposal of a sender that fails.
-unfoldable pub proposal_refusal : VerifyFn → State → AuthenticatedParts → Sender → Proposal → Option Refusal
-proposal_refusal G s a sender p = first_failing (proposal_message_rules G s a sender p)
-
--- `handshake_refusal G s required a i c` is the refusal of the first rule for the content of member i that fails.
-unfoldable pub handshake_refusal : VerifyFn → State → RequiredCapabilities → AuthenticatedParts → ℕ
-    → Content → Option Refusal
-handshake_refusal G s required a i content =
-    option_and_then first_failing (handshake_rules G s required a i content)
-
--- `commit_refusal G s required i c` is the refusal of the first rule for a commit of member i that fails.
-unfoldable pub commit_refusal : VerifyFn → State → RequiredCapabilities → ℕ → Commit → Option Refusal
-commit_refusal G s required i c = first_failing (commit_rules G s required i c)
-
--- `joiner_refusal G s required a c` is the refusal of the first rule for the content of a client that joins with a commit that
--- fails.
-unfoldable pub joiner_refusal : VerifyFn → State → RequiredCapabilities → AuthenticatedParts → Content
-    → Option Refusal
-joiner_refusal G s required a content = first_failing (joiner_rules G s required a content)
-
--- `external_commit_refusal G s required c` is the refusal of the first rule for an external commit that fails.
-unfoldable pub external_commit_refusal : VerifyFn → State → RequiredCapabilities → Commit → Option Refusal
-external_commit_refusal G s required c = first_failing (external_commit_rules G s required c)

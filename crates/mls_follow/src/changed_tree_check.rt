@@ -5,8 +5,8 @@ ghost use Rattle.mls_hash.specs.SuiteHash.{hash_of};
 ghost use Rattle.mls_tree.specs.TreeHash.{tree_hash};
 ghost use Rattle.mls_check.specs.LeafValidation.{IsMemberFault, LeavesAreValid};
 ghost use Rattle.mls_apply.specs.RuleLists.{first_failing};
-ghost use Rattle.mls_apply.specs.Staged.{SatisfiesTreeRules};
-ghost use Rattle.mls_follow.specs.Acceptance.{FailsWithRule};
+ghost use Rattle.mls_apply.specs.StagedInternal.{SatisfiesTreeRules};
+ghost use Rattle.mls_follow.specs.AcceptanceInternal.{FailsWithRule};
 ghost use Rattle.mls_follow.specs.MessageRules.{tree_rules};
 ghost use Rattle.mls_follow.specs.CommitTree.{in_context};
 

@@ -14,11 +14,13 @@ ghost use Rattle.mls_apply.specs.Senders.{is_present};
 ghost use Rattle.mls_apply.specs.RuleLists.{first_failing};
 ghost use Rattle.mls_apply.specs.AddedKeys.{have_distinct_added_keys};
 ghost use Rattle.mls_apply.specs.AppliedList.{applied_tree, outcome};
-ghost use Rattle.mls_apply.specs.Staged.{SatisfiesTreeRules};
+ghost use Rattle.mls_apply.specs.StagedInternal.{SatisfiesTreeRules};
 ghost use Rattle.mls_follow.specs.State.{State, last_epoch};
-ghost use Rattle.mls_follow.specs.Acceptance.{FailsWithRule};
-ghost use Rattle.mls_follow.specs.GroupModel.{group_state, with_known};
-ghost use Rattle.mls_follow.specs.MessageRules.{changed_tree, commit_refusal, external_commit_refusal, inline_rules, applied_tree_rules, path_rules_of, committer_tree, resulting};
+ghost use Rattle.mls_follow.specs.AcceptanceInternal.{FailsWithRule};
+ghost use Rattle.mls_follow.specs.GroupModel.{group_state};
+ghost use Rattle.mls_follow.specs.GroupModelInternal.{with_known};
+ghost use Rattle.mls_follow.specs.MessageRules.{changed_tree, inline_rules, applied_tree_rules, path_rules_of, committer_tree, resulting};
+ghost use Rattle.mls_follow.specs.MessageRulesInternal.{commit_refusal, external_commit_refusal};
 ghost use Rattle.mls_follow.specs.CommitTree.{change_rules, in_context};
 
 use crate::changed_tree_check::{TreeRules, check_changed_tree};
@@ -39,7 +41,7 @@ use std::alloc::Global;
 /// Returns the proposal list of a member's commit, if the commit satisfies the rules that are checked before the tree
 /// is changed. Its epoch is not the last one, its list can be resolved, and it satisfies the rules for the proposals by
 /// value and for the whole list.
-#[tactic(auto, unfolding(crate::specs::MessageRules::commit_refusal))]
+#[tactic(auto, unfolding(crate::specs::MessageRulesInternal::commit_refusal))]
 pub(crate) fn check_items<'a, C: SignatureCheck>(
     alloc: Global,
     group: &Group,
@@ -75,7 +77,7 @@ pub(crate) fn check_items<'a, C: SignatureCheck>(
 
 /// Returns the proposal list of an external commit, if the commit satisfies the rules that are checked before the tree is
 /// changed. Its epoch is not the last one, and its list satisfies its rules (RFC 9420, 12.4.3.2). It must have a path.
-#[tactic(auto, unfolding(crate::specs::MessageRules::external_commit_refusal))]
+#[tactic(auto, unfolding(crate::specs::MessageRulesInternal::external_commit_refusal))]
 pub(crate) fn check_join_items<'a>(
     alloc: Global,
     group: &Group,

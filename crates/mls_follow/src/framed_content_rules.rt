@@ -12,8 +12,10 @@ ghost use Rattle.mls_apply.specs.Senders.{is_present};
 ghost use Rattle.mls_signatures.specs.SigningKeys.{outside_key};
 ghost use Rattle.mls_follow.specs.State.{EncodesMessage};
 ghost use Rattle.mls_follow.specs.GroupModel.{group_state};
-ghost use Rattle.mls_follow.specs.MessageRules.{external_commit_refusal, frame_refusal, handshake_refusal, is_frame_signed, is_handshake, joiner_refusal, lacks_key, outside_content_rules, outside_refusal, proposal_refusal, sender_refusal};
-ghost use Rattle.mls_follow.specs.Acceptance.{FailsWithRule, EncodesNoMessage};
+ghost use Rattle.mls_follow.specs.MessageRules.{is_frame_signed, outside_content_rules};
+ghost use Rattle.mls_follow.specs.MessageRulesInternal.{external_commit_refusal, frame_refusal, handshake_refusal, is_handshake, joiner_refusal, lacks_key, outside_refusal, proposal_refusal, sender_refusal};
+ghost use Rattle.mls_follow.specs.Acceptance.{EncodesNoMessage};
+ghost use Rattle.mls_follow.specs.AcceptanceInternal.{FailsWithRule};
 ghost use Rattle.mls_follow.specs.MessageHeader.{HasNoHeader, IsUnreadMessage};
 
 use crate::group::Group;
@@ -107,7 +109,7 @@ fn is_frame_signed<C: SignatureCheck>(
 
 /// Checks that an AuthenticatedContent is for the group and its epoch, and that the group goes on. What is left are the
 /// rules for its sender.
-#[tactic(auto, unfolding(crate::specs::MessageRules::frame_refusal, crate::specs::MessageRules::sender_refusal))]
+#[tactic(auto, unfolding(crate::specs::MessageRulesInternal::frame_refusal, crate::specs::MessageRulesInternal::sender_refusal))]
 pub(crate) fn check_header(group: &Group, auth: &Authenticated) -> Result<(), Refusal>
     ensures rules_hold { OnOk result ((G : VerifyFn) (required : RequiredCapabilities)
         → frame_refusal G (group_state group.now) required auth.now
@@ -130,7 +132,7 @@ pub(crate) fn check_header(group: &Group, auth: &Authenticated) -> Result<(), Re
 
 /// Checks the rules for each message of a member: its leaf is non-blank, and the message is a proposal or a commit, and
 /// signed.
-#[tactic(auto, unfolding(crate::specs::MessageRules::sender_refusal, crate::specs::MessageRules::handshake_refusal))]
+#[tactic(auto, unfolding(crate::specs::MessageRulesInternal::sender_refusal, crate::specs::MessageRulesInternal::handshake_refusal))]
 pub(crate) fn check_member_frame<C: SignatureCheck>(
     alloc: Global,
     group: &Group,
@@ -161,7 +163,7 @@ pub(crate) fn check_member_frame<C: SignatureCheck>(
 
 /// Returns the proposal of a content of a sender outside the group, if the sender may send it and has signed it under this
 /// key.
-#[tactic(auto, unfolding(crate::specs::MessageRules::proposal_refusal))]
+#[tactic(auto, unfolding(crate::specs::MessageRulesInternal::proposal_refusal))]
 fn check_outside_content<'a, C: SignatureCheck>(
     alloc: Global,
     group: &Group,
@@ -209,7 +211,7 @@ fn is_unknown_external(sender: Sender, key: &Option<Opaque>) -> bool
 
 /// Returns the proposal of a message of a sender outside the group, if it satisfies the rules for each such message: an
 /// external sender is in the GroupContext, the sender may send the proposal, and has signed it (RFC 9420, 12.1.8).
-#[tactic(auto, unfolding(crate::specs::MessageRules::outside_refusal))]
+#[tactic(auto, unfolding(crate::specs::MessageRulesInternal::outside_refusal))]
 pub(crate) fn check_outside_frame<'a, C: SignatureCheck>(
     alloc: Global,
     group: &Group,
@@ -236,7 +238,7 @@ pub(crate) fn check_outside_frame<'a, C: SignatureCheck>(
 
 /// Returns the commit of a message of a client that joins with it, if it has a path, and is signed under the key of the path's
 /// leaf node (RFC 9420, 6.1 and 12.4.3.2).
-#[tactic(auto, unfolding(crate::specs::MessageRules::joiner_refusal, crate::specs::MessageRules::external_commit_refusal))]
+#[tactic(auto, unfolding(crate::specs::MessageRulesInternal::joiner_refusal, crate::specs::MessageRulesInternal::external_commit_refusal))]
 pub(crate) fn check_joiner_frame<'a, C: SignatureCheck>(
     alloc: Global,
     group: &Group,

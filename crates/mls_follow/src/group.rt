@@ -6,7 +6,8 @@ ghost use Rattle.mls_msgs.specs.Layout.{is_commit};
 ghost use Rattle.mls_msgs.specs.Tbs.{confirmed_input};
 ghost use Rattle.mls_nodes.specs.Requirements.{Requires, RequiresBy};
 ghost use Rattle.mls_nodes.proofs.RequiredOnce.{Requires-prop};
-ghost use Rattle.mls_apply.specs.Staged.{IsSettled, IsSettled-prop};
+ghost use Rattle.mls_apply.specs.Staged.{IsSettled};
+ghost use Rattle.mls_apply.specs.StagedInternal.{IsSettled-prop};
 ghost use Rattle.mls_follow.specs.State.{last_epoch};
 ghost use Rattle.mls_follow.specs.Transcript.{confirmed_hash, interim_hash};
 

@@ -3,7 +3,7 @@
 ghost use Rattle.std.specs.Prelude.{◌≡◌, Some, None, IsSome, IsTrue, IfOk, IfErr, OnOk};
 ghost use Rattle.mls_apply.specs.RuleLists.{first_failing};
 ghost use Rattle.mls_apply.specs.Senders.{is_present};
-ghost use Rattle.mls_follow.specs.Acceptance.{FailsWithRule};
+ghost use Rattle.mls_follow.specs.AcceptanceInternal.{FailsWithRule};
 ghost use Rattle.mls_follow.specs.GroupModel.{group_state};
 ghost use Rattle.mls_follow.specs.MessageRules.{proposal_message_rules, reference_of};
 

@@ -4,7 +4,7 @@ ghost use Rattle.std.specs.Prelude.{◌≡◌, None, Some, IsSome, IfOk, IfErr, 
 ghost use Rattle.mls_tree.specs.Tree.{leaf_at};
 ghost use Rattle.mls_msgs.specs.declared.framed_content.Sender.TheVariants.{Member};
 ghost use Rattle.mls_apply.specs.RuleLists.{first_failing};
-ghost use Rattle.mls_follow.specs.Acceptance.{FailsWithRule};
+ghost use Rattle.mls_follow.specs.AcceptanceInternal.{FailsWithRule};
 ghost use Rattle.mls_follow.specs.GroupModel.{group_state};
 ghost use Rattle.mls_follow.specs.InlineValidity.{all_valid, both_valid, entry_validity, invalid_by, validity_rules};
 ghost use Rattle.mls_follow.specs.MessageRules.{inline_rules};

@@ -227,7 +227,7 @@ impl From<OutOfMemory> for Refusal {
 
 impl From<MemberFault> for Refusal {
     ghost use Rattle.std.specs.Prelude.{◌≡◌};
-    ghost use Rattle.mls_follow.specs.MessageRules.{member_refusal};
+    ghost use Rattle.mls_follow.specs.MessageRulesInternal.{member_refusal};
 
     ghost from_gives = { λ fault e. e ≡ member_refusal fault };
 

@@ -9,7 +9,8 @@ ghost use Rattle.mls_check.specs.GroupTree.{IsSupportedContext, HasMembers, Fail
 ghost use Rattle.mls_msgs.specs.declared.profile.Profile.{Profile};
 ghost use Rattle.mls_apply.specs.Staged.{IsSettled};
 ghost use Rattle.mls_follow.specs.CommitTree.{initial_state_of_tree};
-ghost use Rattle.mls_follow.specs.Start.{UsesTree, UsesNoTree, IsStart, IsStartFault, StartsWith, FailsWith, IsSignedIn, FailsSigned, info_interim, is_info_signed};
+ghost use Rattle.mls_follow.specs.Start.{UsesTree, UsesNoTree, IsStart, IsStartFault, info_interim, is_info_signed};
+ghost use Rattle.mls_follow.specs.StartInternal.{StartsWith, FailsWith, IsSignedIn, FailsSigned};
 
 use crate::group_tree::{UnsupportedContext, group_requirements, suite_of};
 use crate::start_fault::StartFault;

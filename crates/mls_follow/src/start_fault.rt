@@ -84,7 +84,7 @@ impl From<OutOfMemory> for StartFault {
 
 impl From<GroupTreeFault> for StartFault {
     ghost use Rattle.std.specs.Prelude.{◌≡◌};
-    ghost use Rattle.mls_follow.specs.Start.{start_fault_of};
+    ghost use Rattle.mls_follow.specs.StartInternal.{start_fault_of};
 
     ghost from_gives = { λ fault e. e ≡ start_fault_of fault };
 

@@ -13,12 +13,14 @@ ghost use Rattle.mls_apply.specs.Senders.{is_present};
 ghost use Rattle.mls_apply.specs.AppliedList.{outcome};
 ghost use Rattle.mls_apply.specs.JoinRules.{join_items};
 ghost use Rattle.mls_apply.specs.RuleLists.{first_failing};
-ghost use Rattle.mls_follow.specs.GroupModel.{group_state, with_known};
+ghost use Rattle.mls_follow.specs.GroupModel.{group_state};
+ghost use Rattle.mls_follow.specs.GroupModelInternal.{with_known};
 ghost use Rattle.mls_follow.specs.FollowerInvariant.{HasUniqueKeysAndValidLeaves};
-ghost use Rattle.mls_follow.specs.MessageRules.{changed_tree, external_commit_refusal, frame_refusal, handshake_refusal, if_full, joiner_refusal, joiner_rules, applied_tree_rules, outside_refusal, outside_rules, proposal_refusal, required_after, rules_with_requirements, reference_of, sender_refusal};
+ghost use Rattle.mls_follow.specs.MessageRules.{changed_tree, if_full, joiner_rules, applied_tree_rules, outside_rules, required_after, rules_with_requirements, reference_of};
+ghost use Rattle.mls_follow.specs.MessageRulesInternal.{external_commit_refusal, frame_refusal, handshake_refusal, joiner_refusal, outside_refusal, proposal_refusal, sender_refusal};
 ghost use Rattle.mls_follow.specs.NextState.{after_commit, after_content, after_join, after_outside, after_proposal, after_sender, after_tree, with_extensions, with_list};
 ghost use Rattle.mls_follow.specs.State.{HasEncoding, EncodesMessage, last_epoch};
-ghost use Rattle.mls_follow.specs.Acceptance.{FailsWithRule};
+ghost use Rattle.mls_follow.specs.AcceptanceInternal.{FailsWithRule};
 ghost use Rattle.mls_follow.specs.Runs.{IsTransition};
 
 use crate::changed_tree_check::TreeRules;
@@ -40,7 +42,7 @@ use std::mem::replace;
 
 impl Group {
     /// Processes a proposal that was sent and signed.
-    #[tactic(auto, unfolding(crate::specs::MessageRules::proposal_refusal))]
+    #[tactic(auto, unfolding(crate::specs::MessageRulesInternal::proposal_refusal))]
     fn take_proposal<C: SignatureCheck>(
         &mut self,
         alloc: Global,
@@ -64,7 +66,7 @@ impl Group {
     }
 
     /// Processes a proposal that a member has sent and signed.
-    #[tactic(auto, unfolding(crate::specs::MessageRules::handshake_refusal, crate::specs::MessageRules::proposal_refusal))]
+    #[tactic(auto, unfolding(crate::specs::MessageRulesInternal::handshake_refusal, crate::specs::MessageRulesInternal::proposal_refusal))]
     fn take_member_proposal<C: SignatureCheck>(
         &mut self,
         alloc: Global,
@@ -177,7 +179,7 @@ impl Group {
     }
 
     /// Processes a commit that a member has sent and signed, while the group's pending proposals are apart from it.
-    #[tactic(auto, unfolding(crate::specs::MessageRules::handshake_refusal, crate::specs::MessageRules::commit_refusal))]
+    #[tactic(auto, unfolding(crate::specs::MessageRulesInternal::handshake_refusal, crate::specs::MessageRulesInternal::commit_refusal))]
     fn take_received<'a, C: SignatureCheck>(
         &mut self,
         alloc: Global,
@@ -311,7 +313,7 @@ impl Group {
     }
 
     /// Processes an AuthenticatedContent of such a sender in the full profile. The members' profile refuses it.
-    #[tactic(auto, unfolding(crate::specs::MessageRules::outside_refusal))]
+    #[tactic(auto, unfolding(crate::specs::MessageRulesInternal::outside_refusal))]
     fn take_outside<C: SignatureCheck>(
         &mut self,
         alloc: Global,
@@ -336,7 +338,7 @@ impl Group {
     }
 
     /// Processes a commit of a client that joins with it, which has a path and is signed.
-    #[tactic(auto, unfolding(crate::specs::MessageRules::external_commit_refusal))]
+    #[tactic(auto, unfolding(crate::specs::MessageRulesInternal::external_commit_refusal))]
     fn take_external_commit<C: SignatureCheck>(
         &mut self,
         alloc: Global,
@@ -392,7 +394,7 @@ impl Group {
 
     /// Processes an AuthenticatedContent of a client that joins with a commit (RFC 9420, 12.4.3.2) in the full profile. The
     /// members' profile refuses it.
-    #[tactic(auto, unfolding(crate::specs::MessageRules::joiner_refusal))]
+    #[tactic(auto, unfolding(crate::specs::MessageRulesInternal::joiner_refusal))]
     fn take_joiner<C: SignatureCheck>(
         &mut self,
         alloc: Global,

@@ -9,7 +9,8 @@ use Rattle.mls_tree.proofs.Trees.{subtree_at-stands, subtree_at-root, subtree_at
 use Rattle.mls_tree.specs.NodeView.{HasChildren}
 use Rattle.mls_hash.specs.ParentHash.{root_parent}
 use Rattle.mls_hash.specs.WithoutLeaves.{strip, original_tree_hash, original_tree_hash_at}
-use Rattle.mls_hash.specs.SubtreeHashes.{AreLeavesUnder, AreSubtreeHashes, HoldsOwnLeaves, IsLeafOf}
+use Rattle.mls_hash.specs.SubtreeHashes.{AreSubtreeHashes, HoldsOwnLeaves, IsLeafOf}
+use Rattle.mls_hash.specs.SubtreeHashesInternal.{AreLeavesUnder}
 use Rattle.mls_hash.proofs.Strips.{HaveAlike, parent-alike}
 use Rattle.mls_hash.proofs.Answers.{whole_tree}
 use Rattle.mls_hash.proofs.Sets.{front_has, rest_has, among_front, among_rest}

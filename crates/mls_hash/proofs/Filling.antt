@@ -20,7 +20,8 @@ use Rattle.mls_hash.specs.HashInputs.{HashesText, HashesSubtree}
 use Rattle.mls_tree.specs.NodeView.{HasChildren}
 use Rattle.mls_tree.specs.HashLists.{EqualHashes}
 use Rattle.mls_hash.specs.WithoutLeaves.{stripped_parent, tree_hash_at}
-use Rattle.mls_hash.specs.SubtreeHashes.{AreAllHashes, IsSubtreeHashAt, AreSubtreeHashes, AreHashesKept, AreHashesUnder, HasEntryForEachSubtree}
+use Rattle.mls_hash.specs.SubtreeHashes.{AreAllHashes, IsSubtreeHashAt, AreSubtreeHashes}
+use Rattle.mls_hash.specs.SubtreeHashesInternal.{AreHashesKept, AreHashesUnder, HasEntryForEachSubtree}
 use Rattle.mls_hash.proofs.Answers.{leaf_answer, parent_answer, whole_tree}
 
 module _ (H : List ℕ → List ℕ) (t : Tree) where

@@ -11,10 +11,12 @@ use Rattle.mls_tree.specs.NodeView.{HasChildren}
 use Rattle.mls_tree.proofs.Arrays.{slice_get-set_same, slice_get-set_other}
 use Rattle.mls_tree.proofs.Trees.{leaf_count-positive, subtree_at-stands}
 use Rattle.mls_hash.specs.declared.side.Side.TheVariants.{Left, Right}
-use Rattle.mls_hash.specs.OriginalTreeHashes.{AreChildHashes, AreKnownHashes, AreOwnHashes, KnownHashes, ListsJust, child_hash_at, own_hash_at, root_child_hash}
+use Rattle.mls_hash.specs.OriginalTreeHashes.{AreChildHashes, AreKnownHashes, AreOwnHashes, KnownHashes, child_hash_at, own_hash_at, root_child_hash}
+use Rattle.mls_hash.specs.OriginalTreeHashesInternal.{ListsJust}
 use Rattle.mls_hash.specs.ParentHash.{parent_at, root_parent}
 use Rattle.mls_hash.specs.WithoutLeaves.{original_tree_hash, original_tree_hash_at, stripped_parent}
-use Rattle.mls_hash.specs.SubtreeHashes.{AreLeavesUnder, HoldsOwnLeaves}
+use Rattle.mls_hash.specs.SubtreeHashes.{HoldsOwnLeaves}
+use Rattle.mls_hash.specs.SubtreeHashesInternal.{AreLeavesUnder}
 use Rattle.mls_hash.proofs.Alike.{left_alike, right_alike}
 use Rattle.mls_hash.proofs.Answers.{whole_hash}
 

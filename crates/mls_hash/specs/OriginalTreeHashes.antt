@@ -1,6 +1,6 @@
 -- The original tree hashes from which parent hashes are computed (RFC 9420, 7.9), and those that are known already. H
 -- is a hash function. Used by contracts.
-use Rattle.std.specs.Prelude.{◌≡◌, ◌⊎◌, ℕ, ◌+◌, ◌*◌, ◌/◌, List, Option, Some, None, option_and_then, slice_get, slice_set}
+use Rattle.std.specs.Prelude.{◌≡◌, ℕ, ◌+◌, ◌*◌, List, Option, Some, None, option_and_then, slice_get}
 use Rattle.std.specs.List.Sorted.{IsNonDecreasing}
 use Rattle.mls_nodes.specs.declared.parent.ParentNode.{ParentNode}
 use Rattle.mls_tree.specs.Tree.{Tree, leaf, branch, leaf_count, subtree_at}
@@ -53,14 +53,3 @@ pub record AreKnownHashes (H : List ℕ → List ℕ) (t : Tree) (known : KnownH
 -- `HasNonDecreasingLists t`: the unmerged list of every non-blank parent does not decrease (RFC 9420, 7.1).
 abbrev pub HasNonDecreasingLists : Tree → Type 0
 HasNonDecreasingLists t = (node_index : ℕ) (p : ParentNode) → parent_at t node_index ≡ Some p → IsNonDecreasing p.unmerged
-
--- ---- internal
-
--- `ListsJust leaves p`: the parent is non-blank, and its unmerged leaves are those of the list.
-abbrev pub ListsJust : List ℕ → Option ParentNode → Type 0
-ListsJust leaves None = ⊥
-ListsJust leaves (Some p) = leaves ≡ p.unmerged
-
--- `KeepsOwn node_index hash old new`: the hash of the parent at a node index was stored, or nothing changed.
-abbrev pub KeepsOwn : ℕ → List ℕ → KnownHashes → KnownHashes → Type 0
-KeepsOwn node_index hash old new = (new ≡ old) ⊎ (new ≡ record old { own = slice_set old.own (node_index / 2) (Some hash) })

@@ -1,11 +1,7 @@
 -- The tree hashes of all subtrees of a tree, by node index (RFC 9420, 7.8). H is a hash function. Used by contracts.
 use Rattle.std.specs.Prelude.{◌≡◌, ℕ, ◌+◌, ◌*◌, ◌≤◌, ◌<◌, List, Some, All, length, slice_get}
-use Rattle.std.specs.Coded.{Coded-set, coded_ℕ, coded_list, coded_option}
-use native.Mathlib.Nat.{ℕ_set}
 use Rattle.mls_nodes.specs.declared.parent.ParentNode.{ParentNode}
 use Rattle.mls_tree.specs.Tree.{Tree, leaf_count, Subtree, subtree_at}
-use Rattle.mls_hash.specs.SuiteHash.{hash_length}
-use Rattle.mls_tree.specs.HashLists.{EqualHashes}
 use Rattle.mls_hash.specs.ParentHash.{root_parent}
 use Rattle.mls_hash.specs.WithoutLeaves.{tree_hash_at}
 
@@ -22,13 +18,6 @@ AreSubtreeHashes H t hashes = (p : ℕ) → IsSubtreeHashAt H t hashes p
 pub record AreAllHashes (H : List ℕ → List ℕ) (t : Tree) (hashes : List (List ℕ)) : Type 0 where
   pub each : AreSubtreeHashes H t hashes
   pub count : length hashes + 1 ≡ 2 * leaf_count t
-
--- `AreAllHashes` has at most one proof.
-pub AreAllHashes-prop : (H : List ℕ → List ℕ) (t : Tree) (hashes : List (List ℕ)) → IsProp (AreAllHashes H t hashes)
-AreAllHashes-prop H t hashes x y = λ i. record {
-  each = λ p. Coded-set (coded_option (coded_list coded_ℕ)) (slice_get hashes p) (tree_hash_at H t p) (x.each p) (y.each p) i;
-  count = ℕ_set (length hashes + 1) (2 * leaf_count t) x.count y.count i;
-}
 
 -- `IsLeafOf s i`: leaf index i is that of a leaf of the subtree.
 abbrev pub IsLeafOf : Subtree → ℕ → Type 0
@@ -53,24 +42,3 @@ HoldsOwnLeavesAt t p = (s : Subtree) (q : ParentNode) → subtree_at 0 t p ≡ S
 -- `HoldsOwnLeaves t`: the unmerged leaves of every non-blank parent are leaves below it.
 abbrev pub HoldsOwnLeaves : Tree → Type 0
 HoldsOwnLeaves t = (p : ℕ) → HoldsOwnLeavesAt t p
-
--- ---- internal
-
--- `HasEntryForEachSubtree suite t list`: the list has an entry for each subtree, and each hash has as many bytes as the
--- suite's hashes.
-pub record HasEntryForEachSubtree (suite : ℕ) (t : Tree) (list : EqualHashes) : Type 0 where
-  pub count : length list.hashes + 1 ≡ 2 * leaf_count t
-  pub width : list.width ≡ hash_length suite
-
--- `AreLeavesUnder t p leaves`: each index in the list is that of a leaf below node index p, if there is such a node.
-abbrev pub AreLeavesUnder : Tree → ℕ → List ℕ → Type 0
-AreLeavesUnder t p leaves = (s : Subtree) → subtree_at 0 t p ≡ Some s → All (IsLeafOf s) leaves
-
--- `AreHashesKept H t old new`: each hash that was right in the old list is right in the new one.
-abbrev pub AreHashesKept : (List ℕ → List ℕ) → Tree → List (List ℕ) → List (List ℕ) → Type 0
-AreHashesKept H t old new = (q : ℕ) → IsSubtreeHashAt H t old q → IsSubtreeHashAt H t new q
-
--- `AreHashesUnder H t hashes node_index`: the list has the hashes of all subtrees of the subtree at a node index.
-abbrev pub AreHashesUnder : (List ℕ → List ℕ) → Tree → List (List ℕ) → ℕ → Type 0
-AreHashesUnder H t hashes node_index =
-    (s : Subtree) → subtree_at 0 t node_index ≡ Some s → (q : ℕ) (u : Subtree) → subtree_at s.first s.tree q ≡ Some u → IsSubtreeHashAt H t hashes q

@@ -5,10 +5,12 @@ ghost use Rattle.std.specs.Prelude.{◌≡◌, ◌↔◌, ◌⊎◌, ◌/◌, �
 ghost use Rattle.mls_tree.specs.Tree.{subtree_at};
 ghost use Rattle.mls_hash.specs.SuiteHash.{hash_of};
 ghost use Rattle.mls_hash.specs.HashInputs.{HashesSubtree};
-ghost use Rattle.mls_hash.specs.OriginalTreeHashes.{AreChildHashes, AreKnownHashes, HasNonDecreasingLists, KeepsOwn, ListsJust};
+ghost use Rattle.mls_hash.specs.OriginalTreeHashes.{AreChildHashes, AreKnownHashes, HasNonDecreasingLists};
+ghost use Rattle.mls_hash.specs.OriginalTreeHashesInternal.{KeepsOwn, ListsJust};
 ghost use Rattle.mls_hash.specs.ParentHash.{parent_at, parent_hash_at};
 ghost use Rattle.mls_hash.specs.WithoutLeaves.{original_tree_hash_at};
-ghost use Rattle.mls_hash.specs.SubtreeHashes.{AreLeavesUnder, AreSubtreeHashes, HoldsOwnLeaves};
+ghost use Rattle.mls_hash.specs.SubtreeHashes.{AreSubtreeHashes, HoldsOwnLeaves};
+ghost use Rattle.mls_hash.specs.SubtreeHashesInternal.{AreLeavesUnder};
 
 use crate::fault::HashFault;
 use crate::hash_input::{hash_leaf, hash_parent};

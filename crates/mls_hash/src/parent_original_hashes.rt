@@ -17,7 +17,7 @@ pub(crate) struct OwnHashes {
 
 impl Model for OwnHashes {
     ghost use Rattle.std.specs.Prelude.{◌≡◌, ℕ, List, Option, length};
-    ghost use Rattle.mls_tree.specs.HashLists.{known_hashes};
+    ghost use Rattle.mls_tree.specs.HashListsInternal.{known_hashes};
 
     ghost Value = { List (Option (List ℕ)) };
 

@@ -6,7 +6,8 @@ ghost use Rattle.mls_tree.specs.Tree.{subtree_at};
 ghost use Rattle.mls_hash.specs.SuiteHash.{hash_of};
 ghost use Rattle.mls_hash.specs.HashInputs.{HashesSubtree};
 ghost use Rattle.mls_hash.specs.WithoutLeaves.{tree_hash_at};
-ghost use Rattle.mls_hash.specs.SubtreeHashes.{AreAllHashes, AreHashesKept, AreHashesUnder, AreSubtreeHashes, HasEntryForEachSubtree};
+ghost use Rattle.mls_hash.specs.SubtreeHashes.{AreAllHashes, AreSubtreeHashes};
+ghost use Rattle.mls_hash.specs.SubtreeHashesInternal.{AreHashesKept, AreHashesUnder, HasEntryForEachSubtree};
 
 use crate::cached_hashes::kept_hash;
 use crate::fault::HashFault;

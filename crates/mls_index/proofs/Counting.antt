@@ -8,7 +8,8 @@ use Rattle.std.proofs.lemmas.List.{get_or-set_same, get_or-set_other, get_or_app
 use Rattle.mls_tree.specs.Tree.{Tree, leaf_count, leaf_at}
 use Rattle.mls_tree.specs.ChangedNodes.{AgreeExceptAt}
 use Rattle.mls_index.specs.LeafCredentials.{LeafClass, blank_class, class_of, class_at, classes_before}
-use Rattle.mls_index.specs.CredentialCounts.{Count, HaveBase, AreCountsOf, CountBut, CountsFirst}
+use Rattle.mls_index.specs.CredentialCounts.{Count, HaveBase, AreCountsOf}
+use Rattle.mls_index.specs.CredentialCountsInternal.{CountBut, CountsFirst}
 use Rattle.mls_index.specs.declared.credential_counts.CredentialCounts.{CredentialCounts}
 use Rattle.mls_index.proofs.Classes.{same_classes, class-beyond}
 use Rattle.mls_index.proofs.Standing.{same_leaf}

@@ -5,7 +5,7 @@ use Rattle.mls_tree.specs.Tree.{Tree}
 use Rattle.mls_tree.specs.ChangedNodes.{AgreeExceptAt}
 use Rattle.mls_index.specs.NodeKeys.{fingerprint}
 use Rattle.mls_index.specs.NodeKeys.{fingerprint_at, node_key}
-use Rattle.mls_index.specs.KeyTable.{AreSameBut}
+use Rattle.mls_index.specs.KeyTableInternal.{AreSameBut}
 use Rattle.mls_index.specs.TreeIndex.{IndexHasBase, IndexContainsKeys}
 use Rattle.mls_index.specs.declared.node_key.KeyKind.{KeyKind}
 use Rattle.mls_index.specs.declared.node_key.KeyKind.TheVariants.{Encryption, Signature}

@@ -7,7 +7,8 @@ use Rattle.mls_tree.proofs.Trees.{leaf_count-positive}
 use Rattle.mls_index.specs.NodeKeys.{fingerprint}
 use Rattle.mls_index.specs.NodeKeys.{key_at_node, fingerprint_at, HasKey, IsUniqueKey}
 use Rattle.mls_index.specs.KeyTable.{has_entry, contains_entry, TableContainsKeys}
-use Rattle.mls_index.specs.RepeatedKeys.{ShareKey, FindsOther}
+use Rattle.mls_index.specs.RepeatedKeys.{ShareKey}
+use Rattle.mls_index.specs.RepeatedKeysInternal.{FindsOther}
 use Rattle.mls_index.specs.declared.node_key.KeyKind.{KeyKind}
 use Rattle.mls_index.specs.declared.key_table.KeyTable.{KeyTable}
 use Rattle.mls_index.proofs.Entries.{IsSought, AreIncreasing, sought-all, lists-nil, lists-first}

@@ -11,7 +11,8 @@ use Rattle.mls_check.proofs.Leaves.{all_leaves-at}
 use Rattle.mls_index.specs.FirstChanged.{smaller}
 use Rattle.mls_index.specs.FirstIndex.{IsLeast}
 use Rattle.mls_index.specs.IncrementalCheck.{contains_node_index}
-use Rattle.mls_index.specs.RepeatedKeys.{ShareKey, FindsOther, IsRepeatedAt, FindsRepeatedAt, ChangedLeavesFindRepeated}
+use Rattle.mls_index.specs.RepeatedKeys.{ShareKey, IsRepeatedAt, FindsRepeatedAt, ChangedLeavesFindRepeated}
+use Rattle.mls_index.specs.RepeatedKeysInternal.{FindsOther}
 use Rattle.mls_index.specs.declared.node_key.KeyKind.TheVariants.{Signature}
 use Rattle.mls_index.proofs.Changed.{all_leaves-each, same_leaf-at, own_key-apart, own_key-from}
 use Rattle.mls_index.proofs.Entries.{listed-here, listed-more}

@@ -12,7 +12,8 @@ use Rattle.mls_tree.specs.Tree.{Tree, leaf_at}
 use Rattle.mls_check.specs.LeafValidation.{FindsFailing, credential_type, supports_credential, supports_used_credentials}
 use Rattle.mls_check.proofs.Leaves.{all_leaves-from, all_leaves-at}
 use Rattle.mls_index.specs.IncrementalCheck.{SupportCredentials}
-use Rattle.mls_index.specs.LeafCredentials.{LeafClass, blank_class, class_of, class_at, support_each_other, lacks_used, FindsLacking, AreClassesOf}
+use Rattle.mls_index.specs.LeafCredentials.{LeafClass, blank_class, class_of, class_at, AreClassesOf}
+use Rattle.mls_index.specs.LeafCredentialsInternal.{support_each_other, lacks_used, FindsLacking}
 
 -- ---- whether some class of a list passes a test
 

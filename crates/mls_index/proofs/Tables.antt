@@ -10,7 +10,8 @@ use Rattle.mls_check.specs.DistinctKeys.{encryption_key}
 use Rattle.mls_check.proofs.Repeats.{no_key_above}
 use Rattle.mls_index.specs.NodeKeys.{node_key, fingerprint_at}
 use Rattle.mls_index.specs.IncrementalCheck.{contains_node_index}
-use Rattle.mls_index.specs.KeyTable.{has_entry, contains_entry, AreSameBut, base_at, TableHasBase, IsTableOf, TableContainsKeys, TableIndexesFirst, IsSettling, HasStaged, HasLeft, ContainsKeysBut}
+use Rattle.mls_index.specs.KeyTable.{has_entry, contains_entry, base_at, TableHasBase, IsTableOf, TableContainsKeys}
+use Rattle.mls_index.specs.KeyTableInternal.{AreSameBut, TableIndexesFirst, IsSettling, HasStaged, HasLeft, ContainsKeysBut}
 use Rattle.mls_index.specs.declared.node_key.KeyKind.{KeyKind}
 use Rattle.mls_index.specs.declared.node_key.KeyKind.TheVariants.{Encryption, Signature}
 use Rattle.mls_index.specs.declared.key_table.KeyTable.{KeyTable}

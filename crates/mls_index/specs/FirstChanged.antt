@@ -1,7 +1,6 @@
 -- The first leaf of a changed tree that fails a rule, among the leaves at the node indices that changed (RFC 9420, 7.3).
 -- Used by contracts.
 use Rattle.std.specs.Prelude.{◌≡◌, ℕ, ◌*◌, ◌<◌, nat_lt, if◌then◌else◌, List, Bool, true, false, Option, Some, None}
-use Rattle.std.specs.Coded.{Coded-set, coded_bool}
 use Rattle.mls_nodes.specs.declared.context.GroupContext.{GroupContext}
 use Rattle.mls_nodes.specs.declared.leaf.LeafNode.{LeafNode}
 use Rattle.mls_nodes.specs.declared.required_capabilities.RequiredCapabilities.{RequiredCapabilities}
@@ -9,14 +8,9 @@ use Rattle.mls_tree.specs.Tree.{Tree, leaf_at}
 use Rattle.mls_tree.specs.ChangedNodes.{AgreeExceptAt}
 use Rattle.mls_check.specs.LeafValidation.{all_leaves, FindsFailing, supports_own_extensions, supports_required, is_leaf_signed}
 use Rattle.mls_check.specs.Signatures.{VerifyFn}
-use Rattle.mls_check.specs.SortedRequirements.{RequireSame}
 use Rattle.mls_index.specs.IncrementalCheck.{contains_node_index}
 use Rattle.mls_index.specs.declared.changed_leaves.LeafRule.{LeafRule}
 use Rattle.mls_index.specs.declared.changed_leaves.LeafRule.TheVariants.{Extensions, Requirements, Signature}
-
--- `RequireSame` has at most one proof.
-pub RequireSame-prop : (some others : RequiredCapabilities) → IsProp (RequireSame some others)
-RequireSame-prop some others p q i x = Coded-set coded_bool (supports_required some x) (supports_required others x) (p x) (q x) i
 
 -- `leaf_rule G context required rule i x`: the leaf `x` with leaf index i satisfies a rule that needs no other leaf (rules 1,
 -- 2 and 5 of leaf node validation, RFC 9420, 7.3). `required` is what the group requires.

@@ -1,9 +1,8 @@
 -- What the leaves of a tree say of credential types (RFC 9420, 5.3 and 7.2), by leaf index. Used by contracts.
-use Rattle.std.specs.Prelude.{◌≡◌, ℕ, ◌==◌, Bool, true, false, not, ◌&&◌, ◌||◌, List, [], ◌∷◌, Option, Some, None, count_by, slice_index_or, slice_set}
+use Rattle.std.specs.Prelude.{◌≡◌, ℕ, ◌==◌, false, not, List, [], ◌∷◌, Option, Some, None, slice_index_or, slice_set}
 use Rattle.mls_nodes.specs.declared.leaf.LeafNode.{LeafNode}
 use Rattle.mls_tree.specs.Tree.{Tree, leaf_at}
 use Rattle.mls_check.specs.LeafValidation.{credential_type, supports_credential}
-use Rattle.mls_index.specs.FirstIndex.{FindsFirst}
 pub use Rattle.mls_index.specs.declared.leaf_credentials.LeafClass.{LeafClass}
 
 -- `blank_class` is the class of a blank leaf.
@@ -23,26 +22,6 @@ class_of (Some x) = record {
 -- `class_at classes i` is the class in a list for leaf i. After the end of the list leaves are blank.
 abbrev pub class_at : List LeafClass → ℕ → LeafClass
 class_at classes i = slice_index_or classes i blank_class
-
--- `none_pass test classes`: no class of the list passes the test.
-abbrev pub none_pass : (LeafClass → Bool) → List LeafClass → Bool
-none_pass test classes = count_by test classes == 0
-
--- `support_each_other classes`: no leaf lacks a credential type that some leaf has.
-abbrev pub support_each_other : List LeafClass → Bool
-support_each_other classes =
-    (none_pass (λ c. c.has_basic) classes || none_pass (λ c. c.lacks_basic) classes)
-    && (none_pass (λ c. c.has_x509) classes || none_pass (λ c. c.lacks_x509) classes)
-
--- `lacks_used classes c`: the leaf of class `c` lacks a credential type that some class of the list has.
-abbrev pub lacks_used : List LeafClass → LeafClass → Bool
-lacks_used classes c =
-    (not (none_pass (λ d. d.has_basic) classes) && c.lacks_basic) || (not (none_pass (λ d. d.has_x509) classes) && c.lacks_x509)
-
--- `FindsLacking classes o`: `o` is the smallest index of a class that lacks a credential type that some class has, or
--- `None` if there is none.
-abbrev pub FindsLacking : List LeafClass → Option ℕ → Type 0
-FindsLacking classes o = FindsFirst (λ i. lacks_used classes (class_at classes i) ≡ true) o
 
 -- `AreClassesOf t classes`: the list has the classes of the leaves of the tree.
 pub record AreClassesOf (t : Tree) (classes : List LeafClass) : Type 0 where

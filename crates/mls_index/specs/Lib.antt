@@ -1,9 +1,15 @@
 pub mod FirstIndex
 pub mod NodeKeys
 pub mod KeyTable
+pub mod KeyTableInternal
 pub mod TreeIndex
+pub mod TreeIndexInternal
 pub mod IncrementalCheck
 pub mod LeafCredentials
+pub mod LeafCredentialsInternal
 pub mod CredentialCounts
+pub mod CredentialCountsInternal
 pub mod FirstChanged
+pub mod FirstChangedInternal
 pub mod RepeatedKeys
+pub mod RepeatedKeysInternal

@@ -17,11 +17,6 @@ pub record ShareKey (kind : KeyKind) (t : Tree) (p q : ℕ) : Type 0 where
   pub here : key_at_node kind t p ≡ Some key
   pub there : key_at_node kind t q ≡ Some key
 
--- `FindsOther kind t p o`: `o` is the smallest node index of another node with the key of the node at p, or `None` if
--- there is no other.
-abbrev pub FindsOther : KeyKind → Tree → ℕ → Option ℕ → Type 0
-FindsOther kind t p o = FindsFirst (ShareKey kind t p) o
-
 -- `IsRepeatedAt node_indices t i`: another leaf has the signature key of leaf i, and one of the two is at one of these
 -- node indices.
 pub record IsRepeatedAt (node_indices : List ℕ) (t : Tree) (i : ℕ) : Type 0 where

@@ -26,14 +26,6 @@ pub record ContainsKeysOf (t : Tree) (i : TreeIndex) : Type 0 where
   pub signature : table.TableContainsKeys (fingerprint_at Signature t) i.signature
   pub credentials : counts.Count t i.credentials
 
--- `IsIndexOf` has at most one proof.
-pub IsIndexOf-prop : (t : Tree) (i : TreeIndex) → IsProp (IsIndexOf t i)
-IsIndexOf-prop t i g h = λ j. record {
-  encryption = table.IsTableOf-prop (fingerprint_at Encryption t) i.encryption g.encryption h.encryption j;
-  signature = table.IsTableOf-prop (fingerprint_at Signature t) i.signature g.signature h.signature j;
-  credentials = counts.AreCountsOf-prop t i.credentials g.credentials h.credentials j;
-}
-
 -- The index of a tree has it as its base.
 abbrev pub IndexHasBase : Type 0
 IndexHasBase = (t : Tree) (i : TreeIndex) → IsIndexOf t i → HasBase t i

@@ -2,7 +2,8 @@
 
 ghost use Rattle.std.specs.Prelude.{◌≡◌, ◌∷◌, [], IfOk};
 ghost use Rattle.mls_check.specs.SortedRequirements.{RequireSame, requirements_of};
-ghost use Rattle.mls_index.specs.FirstChanged.{FindsFailingAt, RequireSame-prop, leaf_rule, smaller};
+ghost use Rattle.mls_index.specs.FirstChanged.{FindsFailingAt, leaf_rule, smaller};
+ghost use Rattle.mls_index.specs.FirstChangedInternal.{RequireSame-prop};
 
 use mls_check::{
     OutOfMemory, SignatureCheck, SortedRequirements, is_leaf_signed, supports_own_extensions,

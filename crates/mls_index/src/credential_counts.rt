@@ -5,7 +5,8 @@ ghost use Rattle.mls_tree.specs.Tree.{Tree};
 ghost use Rattle.mls_tree.specs.ChangedNodes.{AgreeExceptAt};
 ghost use Rattle.mls_check.specs.LeafValidation.{FindsFailing, supports_used_credentials};
 ghost use Rattle.mls_index.specs.IncrementalCheck.{SupportCredentials};
-ghost use Rattle.mls_index.specs.CredentialCounts.{Count, HaveBase, AreCountsOf, CountBut, HasCapacityFor, CountsFirst};
+ghost use Rattle.mls_index.specs.CredentialCounts.{Count, HaveBase, AreCountsOf};
+ghost use Rattle.mls_index.specs.CredentialCountsInternal.{CountBut, HasCapacityFor, CountsFirst};
 
 use crate::leaf_credentials::{CountedClasses, LeafClass};
 use mls_check::OutOfMemory;

@@ -2,8 +2,9 @@
 
 ghost use Rattle.std.specs.Prelude.{◌≡◌, ◌<◌, ◌≤◌, ◌+◌, ◌^◌, ◌∷◌, ◌↔◌, [], ℕ, List, Option, Some, IsTrue, IfOk, OnOk, length, true};
 ghost use Rattle.mls_index.specs.NodeKeys.{fingerprint_at, HasKey, IsUniqueKey};
-ghost use Rattle.mls_index.specs.RepeatedKeys.{FindsOther};
-ghost use Rattle.mls_index.specs.KeyTable.{has_entry, base_at, AreSameBut, TableHasBase, IsTableOf, TableContainsKeys, ContainsKeysBut, TableIndexesFirst, IsSettling, HasStaged, HasLeft};
+ghost use Rattle.mls_index.specs.RepeatedKeysInternal.{FindsOther};
+ghost use Rattle.mls_index.specs.KeyTable.{has_entry, base_at, TableHasBase, IsTableOf, TableContainsKeys};
+ghost use Rattle.mls_index.specs.KeyTableInternal.{AreSameBut, ContainsKeysBut, TableIndexesFirst, IsSettling, HasStaged, HasLeft};
 
 use crate::node_key::{
     KeyKind, fingerprint, fingerprint_at, has_key_at, is_number, key_at_node, node_index_count,

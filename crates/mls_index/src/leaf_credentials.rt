@@ -2,7 +2,8 @@
 
 ghost use Rattle.std.specs.Prelude.{◌≡◌, ◌+◌, ◌<◌, ◌≤◌, ◌^◌, ◌++◌, ◌∷◌, [], Some, OnOk, OnErr, cond, length, slice_set, slice_index_or, count_by};
 ghost use Rattle.mls_tree.specs.Tree.{leaf_at};
-ghost use Rattle.mls_index.specs.LeafCredentials.{LeafClass, class_of, blank_class, class_at, support_each_other, lacks_used, FindsLacking};
+ghost use Rattle.mls_index.specs.LeafCredentials.{LeafClass, class_of, blank_class, class_at};
+ghost use Rattle.mls_index.specs.LeafCredentialsInternal.{support_each_other, lacks_used, FindsLacking};
 
 use mls_nodes::{Credential, LeafNode};
 use mls_tree::PublicTree;

@@ -2,14 +2,15 @@
 -- uses this.
 use Rattle.std.proofs.Common.{refl}
 use Rattle.mls_wire.specs.Encoding.{vector, list, optional}
-use Rattle.mls_wire.specs.Parsing.{vector_at, list_at, optional_at}
+use Rattle.mls_wire.specs.Parsing.{vector_at, list_at}
+use Rattle.mls_wire.specs.ParsingInternal.{optional_at}
 use Rattle.mls_wire.specs.ExactParsers.{IsExact, IsLong, Any, field_then, made_of}
 use Rattle.mls_wire.specs.VectorsExact.{vector_exact, vector_long}
 use Rattle.mls_wire.specs.ListsExact.{list_exact, list_long}
 use Rattle.mls_wire.specs.OptionalsExact.{optional_exact}
 use Rattle.mls_wire.specs.EncodingConcat.{long_left}
 use Rattle.mls_nodes.specs.Layout.{leaf}
-use Rattle.mls_nodes.specs.Parsing.{leaf_node_at}
+use Rattle.mls_nodes.specs.ParsingInternal.{leaf_node_at}
 use Rattle.mls_nodes.specs.NodesExact.{leaf_exact, leaf_long}
 use Rattle.mls_msgs.specs.Layout.{proposal_or_ref, ciphertext, path_node, update_path, commit}
 use Rattle.mls_msgs.specs.Parsing.{proposal_or_ref_at, ciphertext_at, path_node_at, update_path_at, commit_at}

@@ -10,7 +10,8 @@ use Rattle.mls_wire.specs.declared.fault.CodecFault.TheVariants as faults
 use Rattle.mls_wire.specs.Input.{Input, at}
 use Rattle.mls_wire.specs.Limits.{input_limit}
 use Rattle.mls_wire.specs.Encoding.{◌⊕◌, number, vector, list}
-use Rattle.mls_wire.specs.Parsing.{◌>>=◌, Finds, number_at, vector_at, list_at}
+use Rattle.mls_wire.specs.Parsing.{◌>>=◌, number_at, vector_at, list_at}
+use Rattle.mls_wire.specs.ParsingInternal.{Finds}
 use Rattle.mls_wire.specs.ExactParsers.{Exact, IsExact, IsLong, Any, field_then, made_of, chosen, never}
 use Rattle.mls_wire.specs.EncodingConcat.{joined, join, long_left}
 use Rattle.mls_wire.specs.OptionBind.{bind_some, some_is, allowed, chosen_parts}
@@ -19,7 +20,7 @@ use Rattle.mls_wire.specs.VectorsExact.{vector_exact}
 use Rattle.mls_wire.specs.WriteSequences.{none_second}
 use Rattle.mls_nodes.specs.Extension.{extension}
 use Rattle.mls_nodes.specs.Layout.{group_context}
-use Rattle.mls_nodes.specs.Parsing.{extension_at, group_context_at}
+use Rattle.mls_nodes.specs.ParsingInternal.{extension_at, group_context_at}
 use Rattle.mls_nodes.specs.NodesExact.{extensions_exact, group_context_exact, group_context_long}
 use Rattle.mls_wire.specs.ReadContracts.{DecodesInput}
 use Rattle.mls_msgs.specs.Layout.{key_package, group_info}

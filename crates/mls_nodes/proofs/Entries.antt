@@ -3,7 +3,8 @@ use Rattle.std.specs.Int.{w8}
 use Rattle.std.proofs.Common.{◌≡◌, ℕ, suc, ◌+◌, ◌≤◌, ◌<◌, Bool, true, false, ◌&&◌, List, [], ◌∷◌, ◌++◌, length, Option, Some, None, Err, refl, sym, ap, ◌∙◌, append_assoc, arith, length-append, nat_le, Result, Ok, cond, eqb, ◌-◌, ◌%◌, map, subst}
 use Rattle.std.proofs.lemmas.Bool.{leb-true, and_left, and_right, and_from, le-leb, lt-leb, eqb-true, and_parts}
 use Rattle.mls_wire.specs.Input.{Input, at}
-use Rattle.mls_wire.specs.Parsing.{number_at, flag_at, items_at, optional_at, body_at, ◌>>=◌}
+use Rattle.mls_wire.specs.Parsing.{number_at, items_at, body_at, ◌>>=◌}
+use Rattle.mls_wire.specs.ParsingInternal.{flag_at, optional_at}
 use Rattle.mls_wire.specs.Encoding.{optional, items, list, sized}
 use Rattle.mls_wire.specs.ListLoops.{with_front, Shortens, shortens, items_stop, items_go_on}
 use Rattle.mls_wire.specs.OptionalsExact.{optional_exact, optional_long}
@@ -21,7 +22,7 @@ use Rattle.std.proofs.lemmas.List.{map_push}
 use Rattle.mls_wire.specs.ReadContracts.{seen}
 use Rattle.mls_nodes.specs.RatchetTreeEncoding.{full_from, full_size, filled}
 use Rattle.mls_nodes.specs.FilledTree.{full_from-doubles}
-use Rattle.mls_nodes.specs.Parsing.{node_model_at, node_in, leaf_node_at, parent_node_at, well_laid_out, tree_at, FindsNodes, GivesNode}
+use Rattle.mls_nodes.specs.ParsingInternal.{node_model_at, node_in, leaf_node_at, parent_node_at, well_laid_out, tree_at, FindsNodes, GivesNode}
 use Rattle.mls_nodes.specs.RatchetTreeContracts.{DecodesTree}
 use Rattle.mls_nodes.specs.declared.leaf.LeafNode.{LeafNode}
 use Rattle.mls_nodes.specs.declared.parent.ParentNode.{ParentNode}

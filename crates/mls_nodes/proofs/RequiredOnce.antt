@@ -5,7 +5,8 @@ use Rattle.std.proofs.lemmas.Option.{same_Some}
 use Rattle.mls_wire.specs.ExactReads.{DecodesAll-exact}
 use Rattle.mls_wire.specs.Faults.{too_long_at}
 use Rattle.mls_wire.specs.ExactTheorems.{one_value}
-use Rattle.mls_wire.specs.Parsing.{Finds, whole_at}
+use Rattle.mls_wire.specs.Parsing.{whole_at}
+use Rattle.mls_wire.specs.ParsingInternal.{Finds}
 use Rattle.mls_wire.specs.declared.fault.CodecFault.{CodecFault}
 use Rattle.mls_wire.specs.declared.fault.CodecFault.TheVariants as faults
 use Rattle.mls_nodes.specs.declared.context.GroupContext.{GroupContext}

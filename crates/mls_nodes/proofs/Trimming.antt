@@ -13,14 +13,16 @@ use Rattle.mls_wire.specs.ReadContracts.{seen}
 use Rattle.mls_wire.specs.WriteContracts.{MakesPiece}
 use Rattle.mls_wire.specs.declared.fault.WireFault.{WireFault}
 use Rattle.mls_wire.specs.Faults.{too_long_at}
-use Rattle.mls_nodes.specs.RatchetTreeContracts.{node_fault, EncodesTree}
-use Rattle.mls_wire.specs.Parsing.{list_at, optional_at}
+use Rattle.mls_nodes.specs.RatchetTreeContracts.{EncodesTree}
+use Rattle.mls_nodes.specs.RatchetTreeContractsInternal.{node_fault}
+use Rattle.mls_wire.specs.Parsing.{list_at}
+use Rattle.mls_wire.specs.ParsingInternal.{optional_at}
 use Rattle.mls_wire.specs.OptionBind.{allowed}
 use Rattle.mls_wire.specs.ListsExact.{list_exact}
 use Rattle.mls_wire.specs.OptionalsExact.{optional_exact, optional_long}
 use Rattle.mls_nodes.specs.FilledTree.{ends_more, trimmed-filled}
 use Rattle.mls_wire.specs.Encoding.{IsUniquelyDecodable}
-use Rattle.mls_nodes.specs.Parsing.{node_model_at}
+use Rattle.mls_nodes.specs.ParsingInternal.{node_model_at}
 use Rattle.mls_nodes.specs.NodesExact.{node_exact, tested_unambiguous}
 use Rattle.mls_nodes.specs.RatchetTreeWriting.{FitsNodeIndices, WritesTree}
 use Rattle.mls_nodes.proofs.Entries.{both_none, stand_push, stand_more}

@@ -6,9 +6,11 @@ pub mod Layout
 pub mod RatchetTreeEncoding
 pub mod FilledTree
 pub mod RatchetTreeContracts
+pub mod RatchetTreeContractsInternal
 pub mod Requirements
 pub mod ExternalSenders
 pub mod LeafNodeTBS
 pub mod Parsing
+pub mod ParsingInternal
 pub mod RatchetTreeWriting
 pub mod NodesExact

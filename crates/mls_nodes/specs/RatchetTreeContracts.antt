@@ -1,17 +1,10 @@
 -- Results of the calls that decode and encode a ratchet_tree (RFC 9420, 12.4.3.3). Used by contracts.
 use Rattle.std.specs.Prelude.{◌≡◌, ◌≤◌, None, ℕ, List, length, Option, Some, IsSome, Result, Ok, Err}
-use Rattle.mls_wire.specs.declared.fault.CodecFault.{CodecFault}
-use Rattle.mls_wire.specs.declared.fault.CodecFault.TheVariants as codec
 use Rattle.mls_wire.specs.Limits.{input_limit}
 use Rattle.mls_nodes.specs.declared.fault.NodeFault.{NodeFault}
 use Rattle.mls_nodes.specs.declared.fault.NodeFault.TheVariants as faults
 use Rattle.mls_nodes.specs.NodeModel.{NodeValue}
 use Rattle.mls_nodes.specs.RatchetTreeEncoding.{ratchet_tree, trimmed, filled}
-
--- `node_fault fault` is the same fault as a `NodeFault`.
-abbrev pub node_fault : CodecFault → NodeFault
-node_fault (codec.Wire f) = faults.Wire f
-node_fault codec.OutOfMemory = faults.OutOfMemory
 
 -- `EncodesTree nodes result`: the call returned the encoding of the entries without the blank ones at the end. There is
 -- a fault other than `OutOfMemory` if and only if they have no encoding.

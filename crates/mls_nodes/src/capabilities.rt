@@ -34,14 +34,14 @@ impl Drop for Capabilities {
 
 impl Decode for Capabilities {
     ghost use Rattle.mls_nodes.specs.Layout.{capabilities};
-    ghost use Rattle.mls_nodes.specs.Parsing.{capabilities_at};
+    ghost use Rattle.mls_nodes.specs.ParsingInternal.{capabilities_at};
     ghost use Rattle.mls_nodes.specs.NodesExact.{capabilities_exact, capabilities_long};
 
     ghost encoding = { capabilities };
 
     ghost reading = { capabilities_at };
 
-    #[tactic(auto, unfolding(crate::specs::Parsing::capabilities_at))]
+    #[tactic(auto, unfolding(crate::specs::ParsingInternal::capabilities_at))]
     fn read(alloc: Global, reader: &mut Reader<'_>) -> Result<Capabilities, CodecFault> {
         let mut ahead = reader.fork();
         let versions = Codes::read(alloc, &mut ahead)?;

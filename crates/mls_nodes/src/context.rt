@@ -49,14 +49,14 @@ impl Drop for GroupContext {
 }
 
 impl Decode for GroupContext {
-    ghost use Rattle.mls_nodes.specs.Parsing.{group_context_at};
+    ghost use Rattle.mls_nodes.specs.ParsingInternal.{group_context_at};
     ghost use Rattle.mls_nodes.specs.NodesExact.{group_context_exact, group_context_long};
 
     ghost encoding = { group_context };
 
     ghost reading = { group_context_at };
 
-    #[tactic(auto, unfolding(crate::specs::Parsing::group_context_at))]
+    #[tactic(auto, unfolding(crate::specs::ParsingInternal::group_context_at))]
     fn read(alloc: Global, reader: &mut Reader<'_>) -> Result<GroupContext, CodecFault> {
         let mut ahead = reader.fork();
         let version = u16::read(alloc, &mut ahead)?;

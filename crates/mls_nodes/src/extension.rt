@@ -22,14 +22,14 @@ pub struct Extension {
 }
 
 impl Decode for Extension {
-    ghost use Rattle.mls_nodes.specs.Parsing.{extension_at};
+    ghost use Rattle.mls_nodes.specs.ParsingInternal.{extension_at};
     ghost use Rattle.mls_nodes.specs.NodesExact.{extension_exact, extension_long};
 
     ghost encoding = { extension };
 
     ghost reading = { extension_at };
 
-    #[tactic(auto, unfolding(crate::specs::Parsing::extension_at))]
+    #[tactic(auto, unfolding(crate::specs::ParsingInternal::extension_at))]
     fn read(alloc: Global, reader: &mut Reader<'_>) -> Result<Extension, CodecFault> {
         let mut ahead = reader.fork();
         let kind = u16::read(alloc, &mut ahead)?;

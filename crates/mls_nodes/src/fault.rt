@@ -29,7 +29,7 @@ pub enum NodeFault {
 
 impl From<CodecFault> for NodeFault {
     ghost use Rattle.std.specs.Prelude.{◌≡◌};
-    ghost use Rattle.mls_nodes.specs.RatchetTreeContracts.{node_fault};
+    ghost use Rattle.mls_nodes.specs.RatchetTreeContractsInternal.{node_fault};
 
     ghost from_gives = { λ f e. e ≡ node_fault f };
 

@@ -49,14 +49,14 @@ impl Drop for LeafNode {
 }
 
 impl Decode for LeafNode {
-    ghost use Rattle.mls_nodes.specs.Parsing.{leaf_node_at};
+    ghost use Rattle.mls_nodes.specs.ParsingInternal.{leaf_node_at};
     ghost use Rattle.mls_nodes.specs.NodesExact.{leaf_exact, leaf_long};
 
     ghost encoding = { leaf };
 
     ghost reading = { leaf_node_at };
 
-    #[tactic(auto, unfolding(crate::specs::Parsing::leaf_node_at))]
+    #[tactic(auto, unfolding(crate::specs::ParsingInternal::leaf_node_at))]
     fn read(alloc: Global, reader: &mut Reader<'_>) -> Result<LeafNode, CodecFault> {
         let mut ahead = reader.fork();
         let encryption_key = Opaque::read(alloc, &mut ahead)?;

@@ -42,14 +42,14 @@ impl Drop for LeafSource {
 
 impl Decode for Lifetime {
     ghost use Rattle.mls_nodes.specs.Layout.{lifetime};
-    ghost use Rattle.mls_nodes.specs.Parsing.{lifetime_at};
+    ghost use Rattle.mls_nodes.specs.ParsingInternal.{lifetime_at};
     ghost use Rattle.mls_nodes.specs.NodesExact.{lifetime_exact, lifetime_long};
 
     ghost encoding = { lifetime };
 
     ghost reading = { lifetime_at };
 
-    #[tactic(auto, unfolding(crate::specs::Parsing::lifetime_at))]
+    #[tactic(auto, unfolding(crate::specs::ParsingInternal::lifetime_at))]
     fn read(alloc: Global, reader: &mut Reader<'_>) -> Result<Lifetime, CodecFault> {
         let mut ahead = reader.fork();
         let not_before = u64::read(alloc, &mut ahead)?;
@@ -68,14 +68,14 @@ impl Decode for Lifetime {
 
 impl Decode for LeafSource {
     ghost use Rattle.mls_nodes.specs.Layout.{source};
-    ghost use Rattle.mls_nodes.specs.Parsing.{source_at};
+    ghost use Rattle.mls_nodes.specs.ParsingInternal.{source_at};
     ghost use Rattle.mls_nodes.specs.NodesExact.{source_exact, source_long};
 
     ghost encoding = { source };
 
     ghost reading = { source_at };
 
-    #[tactic(auto, unfolding(crate::specs::Parsing::source_at))]
+    #[tactic(auto, unfolding(crate::specs::ParsingInternal::source_at))]
     fn read(alloc: Global, reader: &mut Reader<'_>) -> Result<LeafSource, CodecFault> {
         let mut ahead = reader.fork();
         let source = match u8::read(alloc, &mut ahead)? {

@@ -19,14 +19,14 @@ pub struct ParentNode {
 }
 
 impl Decode for ParentNode {
-    ghost use Rattle.mls_nodes.specs.Parsing.{parent_node_at};
+    ghost use Rattle.mls_nodes.specs.ParsingInternal.{parent_node_at};
     ghost use Rattle.mls_nodes.specs.NodesExact.{parent_exact, parent_long};
 
     ghost encoding = { parent };
 
     ghost reading = { parent_node_at };
 
-    #[tactic(auto, unfolding(crate::specs::Parsing::parent_node_at))]
+    #[tactic(auto, unfolding(crate::specs::ParsingInternal::parent_node_at))]
     fn read(alloc: Global, reader: &mut Reader<'_>) -> Result<ParentNode, CodecFault> {
         let mut ahead = reader.fork();
         let encryption_key = Opaque::read(alloc, &mut ahead)?;

@@ -156,7 +156,7 @@ impl Unmerged {
 
 impl Decode for Unmerged {
     ghost use Rattle.mls_nodes.specs.Layout.{unmerged};
-    ghost use Rattle.mls_nodes.specs.Parsing.{unmerged_at};
+    ghost use Rattle.mls_nodes.specs.ParsingInternal.{unmerged_at};
     ghost use Rattle.mls_nodes.specs.NodesExact.{unmerged_exact, unmerged_long};
 
     ghost encoding = { unmerged };
@@ -164,7 +164,7 @@ impl Decode for Unmerged {
     ghost reading = { unmerged_at };
 
     /// Reads the list at the front. A list over the limit is `TooLong` at its offset.
-    #[tactic(auto, unfolding(crate::specs::Parsing::unmerged_at))]
+    #[tactic(auto, unfolding(crate::specs::ParsingInternal::unmerged_at))]
     fn read(alloc: Global, reader: &mut Reader<'_>) -> Result<Unmerged, CodecFault> {
         let mut ahead = reader.fork();
         let leaves = Items::<u32>::read(alloc, &mut ahead)?;

@@ -4,7 +4,7 @@ use Rattle.std.specs.Prelude.{◌⊎◌, ◌≤◌}
 use Rattle.mls_wire.specs.Limits.{input_limit}
 use Rattle.mls_nodes.specs.NodesExact.{group_context_exact}
 use Rattle.mls_nodes.specs.Layout.{group_context}
-use Rattle.mls_nodes.specs.Parsing.{group_context_at}
+use Rattle.mls_nodes.specs.ParsingInternal.{group_context_at}
 use Rattle.mls_nodes.specs.declared.context.GroupContext.{GroupContext}
 use Rattle.mls_nodes.specs.declared.fault.NodeFault.TheVariants.{EmptyTree}
 use Rattle.mls_tree.specs.RatchetTree.{RatchetTree}

@@ -5,7 +5,7 @@ use Rattle.mls_wire.specs.ExactTheorems.{one_value}
 use Rattle.mls_nodes.proofs.RequiredOnce.{Requires-one}
 use Rattle.mls_nodes.specs.Requirements.{Requires}
 use Rattle.mls_nodes.specs.Layout.{group_context}
-use Rattle.mls_nodes.specs.Parsing.{group_context_at}
+use Rattle.mls_nodes.specs.ParsingInternal.{group_context_at}
 use Rattle.mls_nodes.specs.NodesExact.{group_context_exact}
 use Rattle.mls_nodes.specs.declared.context.GroupContext.{GroupContext}
 use Rattle.mls_nodes.specs.declared.required_capabilities.RequiredCapabilities.{RequiredCapabilities}

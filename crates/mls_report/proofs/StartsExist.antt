@@ -24,7 +24,8 @@ use Rattle.mls_msgs.specs.Message.{message, header}
 use Rattle.mls_msgs.specs.declared.group_info.GroupInfo.{GroupInfo}
 use Rattle.mls_msgs.specs.declared.message.Message.TheVariants as messages
 use Rattle.mls_msgs.specs.declared.profile.Profile.{Profile}
-use Rattle.mls_follow.specs.Start.{UsesTree, UsesNoTree, IsTreeIn, HasSigner, IsStart, IsStartFault, is_info_signed, info_interim, initial_state, start_fault_of}
+use Rattle.mls_follow.specs.Start.{UsesTree, UsesNoTree, IsTreeIn, HasSigner, IsStart, IsStartFault, is_info_signed, info_interim, initial_state}
+use Rattle.mls_follow.specs.StartInternal.{start_fault_of}
 use Rattle.mls_follow.specs.State.{State}
 use Rattle.mls_follow.specs.Transcript.{interim_hash}
 use Rattle.mls_follow.specs.declared.start_fault.StartFault.{StartFault}

@@ -1,4 +1,4 @@
--- What the steps of a start return. Used by contracts.
+-- What the steps of a start or a resumption return. Used by contracts.
 use Rattle.std.specs.Prelude.{List, ℕ, Option, ◌≡◌}
 use Rattle.mls_check.specs.Signatures.{VerifyFn}
 use Rattle.mls_msgs.specs.declared.profile.Profile.{Profile}

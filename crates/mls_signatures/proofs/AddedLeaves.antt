@@ -27,7 +27,8 @@ use Rattle.mls_apply.specs.declared.list_item.KnownProposal.{KnownProposal}
 use Rattle.mls_apply.specs.declared.list_item.ListItem.{ListItem}
 use Rattle.mls_apply.specs.ResolvedList.{resolved, with_first, entry_item, item_of, find_known}
 use Rattle.mls_apply.specs.AppliedList.{applied_tree, outcome, new_members, added_to}
-use Rattle.mls_apply.specs.Outline.{IsApart, AreAt, IsOutline}
+use Rattle.mls_apply.specs.Outline.{IsApart, IsOutline}
+use Rattle.mls_apply.specs.OutlineInternal.{AreAt}
 use Rattle.mls_apply.proofs.Adding.{no_add, same_members}
 use Rattle.mls_apply.proofs.Updating.{next_item}
 use Rattle.mls_apply.proofs.AddedLeaves.{outcome_members}

@@ -1,4 +1,5 @@
 pub mod Layout
 pub mod StateFile
+pub mod StateFileInternal
 pub mod Parsing
 pub mod StateExact

@@ -1,9 +1,9 @@
--- Reading a state file from left to right. Internal: of contracts only that of `Decode::read` names it.
+-- Reading a state file from left to right. Internal: no public contract uses this, except that of `Decode::read`.
 use Rattle.std.specs.Prelude.{Option, Some, None, nat_eq, if◌then◌else◌}
 use Rattle.std.specs.Int.{w8, w16}
 use Rattle.mls_wire.specs.Input.{Input}
 use Rattle.mls_wire.specs.Parsing.{◌>>=◌, number_at, vector_at, list_at}
-use Rattle.mls_nodes.specs.Parsing.{group_context_at}
+use Rattle.mls_nodes.specs.ParsingInternal.{group_context_at}
 use Rattle.mls_msgs.specs.Parsing.{proposal_at}
 use Rattle.mls_msgs.specs.Parsing.{sender_at}
 use Rattle.mls_state.specs.declared.known_entry.KnownEntry.{KnownEntry}

@@ -12,7 +12,7 @@ use Rattle.mls_wire.specs.VectorsExact.{vector_exact, vector_long}
 use Rattle.mls_wire.specs.ListsExact.{list_exact}
 use Rattle.mls_wire.specs.EncodingConcat.{long_left}
 use Rattle.mls_nodes.specs.Layout.{group_context}
-use Rattle.mls_nodes.specs.Parsing.{group_context_at}
+use Rattle.mls_nodes.specs.ParsingInternal.{group_context_at}
 use Rattle.mls_nodes.specs.NodesExact.{group_context_exact}
 use Rattle.mls_msgs.specs.Layout.{proposal, sender}
 use Rattle.mls_msgs.specs.Parsing.{proposal_at}

@@ -1,5 +1,5 @@
 -- What the calls on state files return. Used by contracts.
-use Rattle.std.specs.Prelude.{◌≡◌, ◌≤◌, ℕ, List, length, Option, Some, None, IsSome, Result, Ok, Err}
+use Rattle.std.specs.Prelude.{◌≡◌, ◌≤◌, ℕ, List, length, Some, Result, Ok, Err}
 use Rattle.sha2.specs.Sha256.{sha256}
 use Rattle.mls_wire.specs.Limits.{input_limit}
 use Rattle.mls_wire.specs.declared.fault.CodecFault.{CodecFault}
@@ -9,11 +9,6 @@ use Rattle.mls_state.specs.declared.fault.StateFileFault.{StateFileFault}
 use Rattle.mls_state.specs.declared.fault.StateFileFault.TheVariants.{Unreadable, ChecksumDiffers, OutOfMemory}
 use Rattle.mls_state.specs.declared.file.StateFile.{StateFile}
 use Rattle.mls_state.specs.declared.state.FollowerState.{FollowerState}
-
--- `state_file_fault f` is the fault of a codec as one of a state file
-abbrev pub state_file_fault : CodecFault → StateFileFault
-state_file_fault (codec.Wire f) = Unreadable f
-state_file_fault codec.OutOfMemory = OutOfMemory
 
 -- `HasChecksum f`: the checksum of the file is the SHA-256 digest of its encoded state
 pub record HasChecksum (f : StateFile) : Type 0 where
@@ -27,13 +22,6 @@ pub record IsFileOf (bytes : List ℕ) (s : FollowerState) : Type 0 where
   pub state : file.state ≡ s
   pub checked : HasChecksum file
   pub encoded : state_file file ≡ Some bytes
-
--- the result of `checksum_of` for a state with this encoding
-abbrev pub MakesChecksum : Option (List ℕ) → Result (List ℕ) CodecFault → Type 0
-MakesChecksum None (Ok digest) = ⊥
-MakesChecksum (Some body) (Ok digest) = digest ≡ sha256 body
-MakesChecksum encoding (Err (codec.Wire f)) = encoding ≡ None
-MakesChecksum encoding (Err codec.OutOfMemory) = IsSome encoding
 
 -- `MakesStateFile s result`: the result of a call that writes the file of `s`. A fault other than out of memory comes only if
 -- no bytes are the file of `s`.

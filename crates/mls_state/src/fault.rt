@@ -1,7 +1,7 @@
 //! Why a state file is refused.
 
 ghost use Rattle.std.specs.Prelude.{◌≡◌};
-ghost use Rattle.mls_state.specs.StateFile.{state_file_fault};
+ghost use Rattle.mls_state.specs.StateFileInternal.{state_file_fault};
 
 use mls_wire::{CodecFault, WireFault};
 use thiserror::Error;

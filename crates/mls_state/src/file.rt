@@ -3,7 +3,8 @@
 ghost use Rattle.std.specs.Prelude.{◌↔◌, IfOk, IsSome, IsTrue};
 ghost use Rattle.mls_wire.specs.ReadContracts.{seen};
 ghost use Rattle.mls_state.specs.Layout.{follower_state, state_file};
-ghost use Rattle.mls_state.specs.StateFile.{DecodesStateFile, HasChecksum, MakesChecksum, MakesStateFile};
+ghost use Rattle.mls_state.specs.StateFile.{DecodesStateFile, HasChecksum, MakesStateFile};
+ghost use Rattle.mls_state.specs.StateFileInternal.{MakesChecksum};
 
 use crate::fault::StateFileFault;
 use crate::state::FollowerState;

@@ -10,7 +10,8 @@ use Rattle.mls_nodes.specs.declared.parent.ParentNode.{ParentNode}
 use Rattle.mls_nodes.specs.declared.node.Node.{Node}
 use Rattle.mls_nodes.specs.declared.node.Node.TheVariants.{Leaf, Parent}
 use Rattle.mls_nodes.specs.NodeModel.{NodeValue, entry_value}
-use Rattle.mls_tree.specs.Tree.{leaf, branch, leaf_count, leaves_at, listing, leaf_entry, parent_entry}
+use Rattle.mls_tree.specs.Tree.{leaf, branch, leaf_count, listing, leaf_entry, parent_entry}
+use Rattle.mls_tree.specs.TreeInternal.{leaves_at}
 use Rattle.mls_tree.specs.TreeOperations.{put_leaf, put_parent}
 use Rattle.mls_tree.specs.NodeArray.{leaf_part, parent_part, tree_in, IsNoLeaf, IsNoParent, IsArrayOf, height-tree_in, tree_in-perfect}
 use Rattle.mls_tree.proofs.Numbers.{leaves_at-positive}

@@ -4,7 +4,8 @@ use Rattle.std.specs.Prelude.{slice_get, slice_set, ◌⊎◌}
 use Rattle.std.proofs.lemmas.Bool.{cases_order}
 use Rattle.mls_nodes.specs.declared.parent.ParentNode.{ParentNode}
 use Rattle.mls_nodes.specs.declared.node.Node.{Node}
-use Rattle.mls_tree.specs.Tree.{branch, leaf_count, leaves_at}
+use Rattle.mls_tree.specs.Tree.{branch, leaf_count}
+use Rattle.mls_tree.specs.TreeInternal.{leaves_at}
 use Rattle.mls_tree.specs.NodeArray.{parent_part, tree_in, IsNoLeaf, IsNoParent, ChangesWithin}
 use Rattle.mls_tree.specs.TreeOperations.{change_above}
 use Rattle.mls_tree.proofs.Numbers.{leaves_at-positive}

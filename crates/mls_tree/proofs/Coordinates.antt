@@ -6,9 +6,11 @@ use Rattle.std.specs.Int.{bit_at, w32, w64, trailing_ones, trailing_zeros}
 use Rattle.std.proofs.lemmas.Nat.Bits.{bit_at_lowest, bit_at-suc, bit_at-trailing_ones, bit_at-trailing_zeros, bit_at-pow_other, shr_and_one}
 use Rattle.std.proofs.lemmas.Nat.{pow_pos, pow_below}
 use Rattle.std.proofs.Math.Nat.{pow-le-pow_right}
-use Rattle.mls_tree.specs.Tree.{Tree, leaf, branch, height, leaf_count, leaves_at, IsPerfect, Subtree, subtree_at, root_node_index}
+use Rattle.mls_tree.specs.Tree.{Tree, leaf, branch, height, leaf_count, IsPerfect, Subtree, subtree_at, root_node_index}
+use Rattle.mls_tree.specs.TreeInternal.{leaves_at}
 use Rattle.mls_tree.specs.RatchetTree.{RatchetTree}
-use Rattle.mls_tree.specs.NodeIndices.{level_at, left_at, right_at, left_node_index, right_node_index, IsParentOf, AreSiblings, HasLevel}
+use Rattle.mls_tree.specs.NodeIndices.{level_at, left_at, right_at, left_node_index, right_node_index, IsParentOf, AreSiblings}
+use Rattle.mls_tree.specs.NodeIndicesInternal.{HasLevel}
 use Rattle.mls_tree.proofs.Numbers.{leaves_at-positive, leaves_at-pow, leaves_at-low}
 use Rattle.mls_tree.proofs.Trees.{leaf_count-perfect, leaf_count-positive, along, subtree_at-stands, subtree_at-some, subtree_at-perfect, subtree_at-aligned, subtree_at-left, subtree_at-right, subtree_at-root, subtree_at-in_left, subtree_at-in_right, root_node_index-above, root_node_index-below}
 use Rattle.mls_tree.specs.NodeArray.{ratchet_tree_in, height-tree_in, IsNoSize, IsNoLength}

@@ -3,7 +3,8 @@ use Rattle.std.proofs.Common.{◌≡◌, ◌≢◌, ℕ, ◌+◌, ◌-◌, ◌�
 use Rattle.std.specs.Prelude.{if◌then◌else◌, is_some}
 use Rattle.mls_nodes.specs.declared.leaf.LeafNode.{LeafNode}
 use Rattle.mls_nodes.specs.declared.node.Node.{Node}
-use Rattle.mls_tree.specs.Tree.{Tree, leaf, branch, leaf_count, member_count, leaves_at}
+use Rattle.mls_tree.specs.Tree.{Tree, leaf, branch, leaf_count, member_count}
+use Rattle.mls_tree.specs.TreeInternal.{leaves_at}
 use Rattle.mls_tree.specs.NodeArray.{tree_in}
 use Rattle.mls_tree.specs.declared.subtree_counts.Count.{Count}
 use Rattle.mls_tree.specs.BlankLeaves.{first_of, next_blank_leaf}

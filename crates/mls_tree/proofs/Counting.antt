@@ -7,7 +7,8 @@ use Rattle.mls_nodes.specs.declared.leaf.LeafNode.{LeafNode}
 use Rattle.mls_nodes.specs.declared.parent.ParentNode.{ParentNode}
 use Rattle.mls_nodes.specs.declared.node.Node.{Node}
 use Rattle.mls_tree.specs.declared.subtree_counts.Count.{Count}
-use Rattle.mls_tree.specs.Tree.{Tree, leaf, branch, leaf_count, member_count, leaves_at}
+use Rattle.mls_tree.specs.Tree.{Tree, leaf, branch, leaf_count, member_count}
+use Rattle.mls_tree.specs.TreeInternal.{leaves_at}
 use Rattle.mls_tree.specs.NodeArray.{parent_part, tree_in}
 use Rattle.mls_tree.specs.TreeOperations.{put_leaf, put_parent, change_above, truncate, has_non_blank_leaf, left_subtree}
 use Rattle.mls_tree.specs.SubtreeCounts.{parent_weight, non_blank_count, subtree_count, AreCounts, AreOutside, IsKeptOutside}

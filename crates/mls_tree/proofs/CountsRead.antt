@@ -4,7 +4,8 @@ use Rattle.std.specs.Prelude.{◌||◌, ◌↔◌}
 use Rattle.std.proofs.lemmas.Bool.{cases_lt}
 use Rattle.mls_nodes.specs.declared.node.Node.{Node}
 use Rattle.mls_tree.specs.declared.subtree_counts.Count.{Count}
-use Rattle.mls_tree.specs.Tree.{Tree, leaf, branch, leaf_count, member_count, leaves_at, Subtree, subtree_at}
+use Rattle.mls_tree.specs.Tree.{Tree, leaf, branch, leaf_count, member_count, Subtree, subtree_at}
+use Rattle.mls_tree.specs.TreeInternal.{leaves_at}
 use Rattle.mls_tree.specs.NodeArray.{tree_in}
 use Rattle.mls_tree.specs.TreeOperations.{has_non_blank_leaf, left_subtree}
 use Rattle.mls_tree.specs.Paths.{resolution}

@@ -6,11 +6,13 @@ use Rattle.std.proofs.Math.ListN.{length-replicate}
 use Rattle.std.proofs.lemmas.Option.{none-some}
 use Rattle.mls_nodes.specs.declared.leaf.LeafNode.{LeafNode}
 use Rattle.mls_nodes.specs.declared.parent.ParentNode.{ParentNode}
-use Rattle.mls_tree.specs.Tree.{Tree, leaf, branch, height, leaf_count, leaves_at, IsPerfect, Subtree, subtree_at}
+use Rattle.mls_tree.specs.Tree.{Tree, leaf, branch, height, leaf_count, IsPerfect, Subtree, subtree_at}
+use Rattle.mls_tree.specs.TreeInternal.{leaves_at}
 use Rattle.mls_tree.specs.TreeHash.{tree_hash}
 use Rattle.mls_tree.specs.TreeOperations.{put_leaf, put_parent, change_above}
 use Rattle.mls_tree.specs.Paths.{direct_path}
-use Rattle.mls_tree.specs.HashCache.{empty_count, emptied, parents_from, hash_at, hash_in, AreSlots, AreAllFilled}
+use Rattle.mls_tree.specs.HashCache.{empty_count, emptied, parents_from, hash_at, hash_in, AreAllFilled}
+use Rattle.mls_tree.specs.HashCacheInternal.{AreSlots}
 use Rattle.mls_tree.proofs.Choices.{below, from, here, before, after, same, other}
 use Rattle.mls_tree.proofs.Trees.{leaf_count-perfect, leaf_count-positive, subtree_at-in_left, subtree_at-in_right, subtree_at-none}
 use Rattle.mls_tree.proofs.Arrays.{slice_get-set_same, slice_get-set_other}

@@ -14,7 +14,7 @@ use Rattle.mls_nodes.specs.NodeModel.{NodeValue, entry_value}
 use Rattle.mls_nodes.specs.Layout.{node}
 use Rattle.mls_nodes.specs.RatchetTreeEncoding.{ratchet_tree, filled, full_size, has_valid_layout, ends_non_blank, fit_from, fits_at}
 use Rattle.mls_nodes.specs.FilledTree.{filled-full, filled-least}
-use Rattle.mls_tree.specs.Tree.{leaves_at}
+use Rattle.mls_tree.specs.TreeInternal.{leaves_at}
 use Rattle.mls_tree.specs.NodeArray.{FitsNodeIndex, IsArrayOf, ratchet_tree_in}
 use Rattle.mls_tree.specs.TreeSizes.{IsListing}
 use Rattle.mls_tree.proofs.Arrays.{listing-array}

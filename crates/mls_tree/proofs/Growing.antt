@@ -6,7 +6,8 @@ use Rattle.std.proofs.lemmas.Option.{slice_get_past}
 use Rattle.std.proofs.lemmas.List.{length-take}
 use Rattle.std.proofs.Math.ListN.{length-replicate}
 use Rattle.mls_nodes.specs.declared.node.Node.{Node}
-use Rattle.mls_tree.specs.Tree.{Tree, leaf, branch, height, leaves_at}
+use Rattle.mls_tree.specs.Tree.{Tree, leaf, branch, height}
+use Rattle.mls_tree.specs.TreeInternal.{leaves_at}
 use Rattle.mls_tree.specs.NodeArray.{leaf_part, parent_part, tree_in, IsNoLeaf, IsNoParent, IsArrayOf, height-tree_in}
 use Rattle.mls_tree.specs.TreeOperations.{blank_tree, extend}
 use Rattle.mls_tree.proofs.Numbers.{leaves_at-positive}

@@ -8,11 +8,13 @@ use Rattle.std.proofs.lemmas.List.{take_at, length-take-le}
 use Rattle.mls_nodes.specs.declared.parent.ParentNode.{ParentNode}
 use Rattle.mls_tree.specs.declared.hash_kind.HashKind.{HashKind}
 use Rattle.mls_tree.specs.declared.hash_cache.Slots.{Slots}
-use Rattle.mls_tree.specs.Tree.{Tree, leaf, branch, height, leaf_count, leaves_at, IsPerfect, IsBranch, Subtree, subtree_at}
+use Rattle.mls_tree.specs.Tree.{Tree, leaf, branch, height, leaf_count, IsPerfect, IsBranch, Subtree, subtree_at}
+use Rattle.mls_tree.specs.TreeInternal.{leaves_at}
 use Rattle.mls_tree.specs.RatchetTree.{HasShape}
 use Rattle.mls_tree.specs.TreeHash.{tree_hash}
 use Rattle.mls_tree.specs.TreeOperations.{left_subtree, with_left, rejoined}
-use Rattle.mls_tree.specs.HashCache.{emptied, extended, hash_by, AreSlots, AreSlotsOf}
+use Rattle.mls_tree.specs.HashCache.{emptied, extended, hash_by}
+use Rattle.mls_tree.specs.HashCacheInternal.{AreSlots, AreSlotsOf}
 use Rattle.mls_tree.specs.CacheModel.{kind_in, slots_in, HasMoreThan, AreFewer}
 use Rattle.mls_tree.specs.SlotChanges.{joined_slots, rejoined_slots, SlotsAgreeExceptAt}
 use Rattle.mls_tree.proofs.Arrays.{slice_get-set_other}

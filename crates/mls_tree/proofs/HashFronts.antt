@@ -3,7 +3,7 @@ use Rattle.std.proofs.Common.{◌≡◌, ℕ, zero, suc, ◌+◌, ◌*◌, ◌-�
 use Rattle.std.specs.Prelude.{slice_range}
 use Rattle.std.proofs.Math.Nat.{mul-le-mul_left}
 use Rattle.std.proofs.lemmas.List.{take-append-drop, drop-drop, drop-take, drop-append-le, take-append-le, take-take, length-take-le, length-drop}
-use Rattle.mls_tree.specs.HashLists.{hashes_in, known_hashes}
+use Rattle.mls_tree.specs.HashListsInternal.{hashes_in, known_hashes}
 use Rattle.mls_tree.proofs.HashRows.{take-lengthened}
 
 -- ---- the first of a row

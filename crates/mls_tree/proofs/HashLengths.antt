@@ -7,7 +7,8 @@ use Rattle.sha2.proofs.Facts512.{length-sha384, length-sha512}
 use Rattle.mls_nodes.specs.declared.parent.ParentNode.{ParentNode}
 use Rattle.mls_tree.specs.Tree.{Tree, leaf, branch, leaf_count, Subtree, subtree_at}
 use Rattle.mls_tree.specs.TreeHash.{tree_hash, hash_of_parent, leaf_tree_hash_input, parent_tree_hash_input}
-use Rattle.mls_tree.specs.HashCache.{hash_by, hash_len, hash_at}
+use Rattle.mls_tree.specs.HashCache.{hash_by, hash_at}
+use Rattle.mls_tree.specs.HashCacheInternal.{hash_len}
 use Rattle.mls_tree.specs.declared.hash_kind.HashKind.{HashKind}
 use Rattle.mls_tree.specs.declared.hash_kind.HashKind.TheVariants.{Sha256, Sha384, Sha512}
 

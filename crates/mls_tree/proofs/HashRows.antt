@@ -5,7 +5,7 @@ use Rattle.std.proofs.Math.Nat.{mul-le-mul_left}
 use Rattle.std.proofs.lemmas.List.{drop-drop, drop-take, drop-append-le, take-append-le, take-take, take_at, drop_at, length-take-le, length-drop}
 use Rattle.std.proofs.lemmas.Option.{none-some, same_Some}
 use Rattle.mls_tree.specs.HashCache.{empty_count, hash_in}
-use Rattle.mls_tree.specs.HashLists.{hashes_in, known_hashes, false_count}
+use Rattle.mls_tree.specs.HashListsInternal.{hashes_in, known_hashes, false_count}
 
 -- there are as many as are counted
 pub length-hashes_in : (width count : ℕ) (bytes : List ℕ) → length (hashes_in width count bytes) ≡ count

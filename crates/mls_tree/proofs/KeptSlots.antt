@@ -10,11 +10,13 @@ use Rattle.mls_tree.specs.declared.hash_kind.HashKind.{HashKind}
 use Rattle.mls_tree.specs.declared.hash_cache.Slots.{Slots}
 use Rattle.mls_nodes.specs.declared.node.Node.{Node}
 use Rattle.mls_nodes.specs.NodeModel.{entry_value}
-use Rattle.mls_tree.specs.Tree.{Tree, leaf, branch, height, leaf_count, leaves_at, listing, IsPerfect, Subtree, subtree_at}
+use Rattle.mls_tree.specs.Tree.{Tree, leaf, branch, height, leaf_count, listing, IsPerfect, Subtree, subtree_at}
+use Rattle.mls_tree.specs.TreeInternal.{leaves_at}
 use Rattle.mls_tree.specs.TreeHash.{tree_hash}
 use Rattle.mls_tree.specs.TreeOperations.{put_leaf, put_parent, change_above, truncate, has_non_blank_leaf, left_subtree, extend, blank_tree}
 use Rattle.mls_tree.specs.Paths.{direct_path}
-use Rattle.mls_tree.specs.HashCache.{emptied, parents_from, extended, hash_by, AreSlots, AreSlotsOf}
+use Rattle.mls_tree.specs.HashCache.{emptied, parents_from, extended, hash_by}
+use Rattle.mls_tree.specs.HashCacheInternal.{AreSlots, AreSlotsOf}
 use Rattle.mls_tree.specs.CacheModel.{kind_in, slots_in, IsOfHeight}
 use Rattle.mls_tree.proofs.Trees.{leaf_count-perfect, leaf_count-positive, length-listing, subtree_at-in_left}
 use Rattle.mls_tree.proofs.Kept.{either, leaf_count-put_leaf, leaf_count-put_parent, leaf_count-change_above, leaf_count-truncate, height-blank_tree, IsPerfect-blank_tree}

@@ -7,11 +7,12 @@ use Rattle.mls_nodes.specs.declared.leaf.LeafNode.{LeafNode}
 use Rattle.mls_nodes.specs.declared.parent.ParentNode.{ParentNode}
 use Rattle.mls_nodes.specs.declared.node.Node.{Node}
 use Rattle.mls_nodes.specs.NodeModel.{entry_value, node_value}
-use Rattle.mls_tree.specs.Tree.{Tree, leaf, branch, height, leaf_count, leaves_at, Subtree, subtree_at, root_node_index, root_entry, leaf_at, node_at, entry_of, IsBranch, IsParent, IsParentNodeIndex}
+use Rattle.mls_tree.specs.Tree.{Tree, leaf, branch, height, leaf_count, Subtree, subtree_at, root_node_index, root_entry, leaf_at, node_at, entry_of, IsBranch, IsParent, IsParentNodeIndex}
+use Rattle.mls_tree.specs.TreeInternal.{leaves_at}
 use Rattle.mls_tree.specs.TreeOperations.{put_leaf, put_parent}
 use Rattle.mls_tree.specs.NodeArray.{leaf_part, parent_part, tree_in, IsNoLeaf, IsNoParent, IsArrayOf, height-tree_in}
 use Rattle.mls_tree.specs.RatchetTree.{RatchetTree}
-use Rattle.mls_tree.specs.NodeIndices.{HasLevel}
+use Rattle.mls_tree.specs.NodeIndicesInternal.{HasLevel}
 use Rattle.mls_tree.specs.Paths.{resolution, resolution_at}
 use Rattle.mls_tree.proofs.Coordinates.{At, at_place}
 use Rattle.mls_tree.proofs.Numbers.{leaves_at-positive}

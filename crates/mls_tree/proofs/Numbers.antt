@@ -1,7 +1,7 @@
 -- How many leaves a height has.
 use Rattle.std.proofs.Common.{◌≡◌, ℕ, zero, suc, ◌*◌, ◌^◌, ◌%◌, ◌<◌, ◌≤◌, refl, arith}
 use Rattle.std.proofs.Math.Nat.{two-pow-succ, pow-le-pow_right}
-use Rattle.mls_tree.specs.Tree.{leaves_at}
+use Rattle.mls_tree.specs.TreeInternal.{leaves_at}
 
 pub leaves_at-pow : (h : ℕ) → leaves_at h ≡ 2 ^ h
 leaves_at-pow zero = refl

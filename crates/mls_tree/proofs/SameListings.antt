@@ -2,8 +2,10 @@
 use Rattle.std.proofs.Common.{◌≡◌, ℕ, List, [], ◌∷◌, ◌++◌, length, Option, Some, None, refl, sym, ap, ◌∙◌, arith}
 use Rattle.mls_nodes.specs.declared.leaf.LeafNode.{LeafNode}
 use Rattle.mls_nodes.specs.declared.parent.ParentNode.{ParentNode}
-use Rattle.mls_tree.specs.Tree.{Tree, leaf, branch, height, leaves_at, IsPerfect, listing, leaf_entry, parent_entry}
-use Rattle.mls_tree.specs.RatchetTree.{RatchetTree, RatchetTree-same}
+use Rattle.mls_tree.specs.Tree.{Tree, leaf, branch, height, IsPerfect, listing, leaf_entry, parent_entry}
+use Rattle.mls_tree.specs.TreeInternal.{leaves_at}
+use Rattle.mls_tree.specs.RatchetTree.{RatchetTree}
+use Rattle.mls_tree.specs.RatchetTreeInternal.{RatchetTree-same}
 use Rattle.mls_tree.proofs.Trees.{length-listing, leaf_count-perfect}
 use Rattle.mls_tree.proofs.Coordinates.{coordinates-unique}
 

@@ -7,7 +7,8 @@ use Rattle.std.proofs.lemmas.Bool.Decides.{nat_tests}
 use Rattle.std.proofs.lemmas.Option.{none-some}
 use Rattle.std.proofs.lemmas.List.{length-take, length-append, length-drop}
 use Rattle.std.proofs.lemmas.List.Elements.{All-head, All-tail, All-nil, All-cons, All-push, All-pop, All-contains}
-use Rattle.mls_tree.specs.Tree.{Tree, leaf, branch, height, leaf_count, leaves_at, leaf_at, node_at, IsPerfect, IsBranch, IsParentNodeIndex}
+use Rattle.mls_tree.specs.Tree.{Tree, leaf, branch, height, leaf_count, leaf_at, node_at, IsPerfect, IsBranch, IsParentNodeIndex}
+use Rattle.mls_tree.specs.TreeInternal.{leaves_at}
 use Rattle.mls_nodes.specs.declared.leaf.LeafNode.{LeafNode}
 use Rattle.mls_nodes.specs.declared.parent.ParentNode.{ParentNode}
 use Rattle.mls_tree.specs.TreeOperations.{left_subtree, rejoined, put_leaf, put_parent, change_parent, without_unmerged, extend}

@@ -12,7 +12,7 @@ use Rattle.std.proofs.lemmas.List.Elements.{filter-append}
 use Rattle.std.proofs.lemmas.Option.{none-some, same_Some}
 use Rattle.mls_nodes.specs.declared.parent.ParentNode.{ParentNode}
 use Rattle.mls_nodes.specs.declared.node.Node.{Node}
-use Rattle.mls_tree.specs.Tree.{leaves_at}
+use Rattle.mls_tree.specs.TreeInternal.{leaves_at}
 use Rattle.mls_tree.specs.NodeArray.{parent_part, tree_in}
 use Rattle.mls_tree.specs.Paths.{resolution, unmerged_node_indices, count_not_in}
 use Rattle.mls_tree.specs.Subtraction.{taken_off}

@@ -4,7 +4,8 @@ use Rattle.std.proofs.lemmas.Bool.{cases_order}
 use Rattle.std.proofs.lemmas.Option.{same_Some, cond_some}
 use Rattle.std.proofs.Common.{inl, inr, subst, eqb-true}
 use Rattle.mls_nodes.specs.declared.parent.ParentNode.{ParentNode}
-use Rattle.mls_tree.specs.Tree.{Tree, leaf, branch, height, leaf_count, leaves_at, IsPerfect, listing, Subtree, subtree_at, root_node_index, parent_entry}
+use Rattle.mls_tree.specs.Tree.{Tree, leaf, branch, height, leaf_count, IsPerfect, listing, Subtree, subtree_at, root_node_index, parent_entry}
+use Rattle.mls_tree.specs.TreeInternal.{leaves_at}
 use Rattle.mls_tree.proofs.Choices.{here, before, after, same, other}
 
 pub leaf_count-positive : (t : Tree) → 0 < leaf_count t

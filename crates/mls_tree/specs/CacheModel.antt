@@ -1,7 +1,7 @@
 -- The model of a tree's optional cache of tree hashes (RFC 9420, 7.8). Internal: no public contract uses this.
 use Rattle.std.specs.Prelude.{◌≡◌, ℕ, ◌+◌, ◌*◌, ◌<◌, List, [], Option, Some, None, length}
-use Rattle.mls_tree.specs.Tree.{leaves_at}
-use Rattle.mls_tree.specs.HashLists.{CanExtend}
+use Rattle.mls_tree.specs.TreeInternal.{leaves_at}
+use Rattle.mls_tree.specs.HashListsInternal.{CanExtend}
 use Rattle.mls_tree.specs.declared.hash_kind.HashKind.{HashKind}
 use Rattle.mls_tree.specs.declared.hash_cache.Slots.{Slots}
 

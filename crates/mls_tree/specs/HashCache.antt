@@ -15,12 +15,6 @@ hash_by Sha256 message = sha256 message
 hash_by Sha384 message = sha384 message
 hash_by Sha512 message = sha512 message
 
--- `hash_len kind` is the number of bytes of its hashes.
-abbrev pub hash_len : HashKind → ℕ
-hash_len Sha256 = 32
-hash_len Sha384 = 48
-hash_len Sha512 = 64
-
 -- `hash_at H t p` is the tree hash of the subtree at node index p, if there is one (RFC 9420, 7.8).
 abbrev pub hash_at : (List ℕ → List ℕ) → Tree → ℕ → Option (List ℕ)
 hash_at H t p = option_and_then (λ s. tree_hash H s.first s.tree) (subtree_at 0 t p)
@@ -60,18 +54,6 @@ parents_from first (branch l _ r) p =
 abbrev pub extended : Option HashKind → List (Option (List ℕ)) → List (Option (List ℕ))
 extended None slots = slots
 extended (Some _) slots = slots ++ replicate (length slots + 1) None
-
--- `AreSlots H t slots`: there is a slot for each node index, and each one that is filled has the tree hash of its
--- subtree.
-pub record AreSlots (H : List ℕ → List ℕ) (t : Tree) (slots : List (Option (List ℕ))) : Type 0 where
-  pub count : length slots + 1 ≡ 2 * leaf_count t
-  pub each : (p : ℕ) (h : List ℕ) → slice_get slots p ≡ Some (Some h) → hash_at H t p ≡ Some h
-
--- `AreSlotsOf kind t slots`: these are the slots of a tree with a cache of this kind, or there are none if the tree has
--- no cache.
-abbrev pub AreSlotsOf : Option HashKind → Tree → List (Option (List ℕ)) → Type 0
-AreSlotsOf None t slots = slots ≡ []
-AreSlotsOf (Some kind) t slots = AreSlots (hash_by kind) t slots
 
 -- `AreAllFilled t slots`: the slot of each node index is filled.
 abbrev pub AreAllFilled : Tree → List (Option (List ℕ)) → Type 0

@@ -1,4 +1,5 @@
 -- What the changes of a tree have replaced, and the tree before these changes. Contracts name no undo entry of a journal.
+-- Used by contracts.
 use Rattle.std.specs.Prelude.{◌≡◌, ℕ, ◌*◌, ◌-◌, nat_lt, if◌then◌else◌, All, List, [], ◌∷◌, take, Option, option_map}
 use Rattle.mls_tree.specs.Tree.{Tree, leaf_count}
 use Rattle.mls_tree.specs.Paths.{direct_path}

@@ -5,7 +5,8 @@ use Rattle.mls_nodes.specs.declared.leaf.LeafNode.{LeafNode}
 use Rattle.mls_nodes.specs.declared.parent.ParentNode.{ParentNode}
 use Rattle.mls_nodes.specs.declared.node.Node.{Node}
 use Rattle.mls_nodes.specs.declared.node.Node.TheVariants.{Leaf, Parent}
-use Rattle.mls_tree.specs.Tree.{Tree, leaf, branch, height, leaves_at, IsPerfect}
+use Rattle.mls_tree.specs.Tree.{Tree, leaf, branch, height, IsPerfect}
+use Rattle.mls_tree.specs.TreeInternal.{leaves_at}
 use Rattle.mls_tree.specs.RatchetTree.{RatchetTree, HasShape}
 use Rattle.mls_tree.specs.TreeSizes.{IsPowerOfTwo}
 use Rattle.mls_tree.specs.declared.error.TreeError.{TreeError}

@@ -1,7 +1,6 @@
 -- Node indices of a tree and how they are related (RFC 9420, Appendix C), by the subtrees at these. Used by contracts.
-use Rattle.std.specs.Prelude.{◌≡◌, ℕ, ◌+◌, ◌*◌, ◌<◌, ◌≤◌, ◌⊎◌, Option, Some, None, option_map, option_and_then}
-use Rattle.mls_tree.specs.RatchetTree.{RatchetTree}
-use Rattle.mls_tree.specs.Tree.{Tree, leaf, branch, height, leaf_count, leaves_at, subtree_at, root_node_index}
+use Rattle.std.specs.Prelude.{◌≡◌, ℕ, ◌+◌, ◌⊎◌, Option, Some, None, option_map, option_and_then}
+use Rattle.mls_tree.specs.Tree.{Tree, leaf, branch, height, leaf_count, subtree_at, root_node_index}
 
 -- `level_at t p` is the level of node index p: the height of the subtree there (RFC 9420, Appendix C).
 abbrev pub level_at : Tree → ℕ → Option ℕ
@@ -32,18 +31,3 @@ IsParentOf t q p = (left_at t q ≡ Some p) ⊎ (right_at t q ≡ Some p)
 -- `AreSiblings t p u`: the nodes at p and u are the children of one node (RFC 9420, Appendix C).
 abbrev pub AreSiblings : Tree → ℕ → ℕ → Type 0
 AreSiblings t p u = (q : ℕ) × (((left_at t q ≡ Some p) × (right_at t q ≡ Some u)) ⊎ ((right_at t q ≡ Some p) × (left_at t q ≡ Some u)))
-
--- `HasLevel p n k`: node index p has level k, in a tree of n leaves (RFC 9420, Appendix C). Internal: no public
--- contract uses it.
-pub record HasLevel (p n k : ℕ) : Type 0 where
-  pub height : ℕ
-  pub low : height ≤ 20
-  pub count : n ≡ leaves_at height
-  pub number : ℕ
-  pub within : p + 1 < 2 * n
-  pub under : k ≤ height
-  pub node_index : p + 1 ≡ (2 * number + 1) * leaves_at k
-
--- `IsOutside p n`: no tree of n leaves has node index p. Internal: no public contract uses it.
-abbrev pub IsOutside : ℕ → ℕ → Type 0
-IsOutside p n = (t : RatchetTree) → leaf_count t.tree ≡ n → subtree_at 0 t.tree p ≡ None

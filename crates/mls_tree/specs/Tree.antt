@@ -1,7 +1,7 @@
 -- Ratchet trees and their subtrees (RFC 9420, 4.1 and Appendix C). Leaf indices count the leaves from left to right. A
 -- definition that takes `first` is about a subtree whose first leaf has that index; of a whole tree `first` is 0. A
 -- node index is a position in `listing`: leaf i is at 2 * i. Used by contracts.
-use Rattle.std.specs.Prelude.{◌≡◌, ℕ, zero, suc, ◌+◌, ◌*◌, ◌-◌, ◌==◌, nat_lt, if◌then◌else◌, List, [], ◌∷◌, ◌++◌, Option, Some, None}
+use Rattle.std.specs.Prelude.{◌≡◌, ℕ, suc, ◌+◌, ◌*◌, ◌-◌, ◌==◌, nat_lt, if◌then◌else◌, List, [], ◌∷◌, ◌++◌, Option, Some, None}
 use Rattle.mls_nodes.specs.declared.leaf.LeafNode.{LeafNode}
 use Rattle.mls_nodes.specs.declared.parent.ParentNode.{ParentNode}
 use Rattle.mls_nodes.specs.NodeModel.{NodeValue, leaf_node, parent_node}
@@ -31,11 +31,6 @@ member_count (branch l _ r) = member_count l + member_count r
 abbrev pub IsPerfect : Tree → Type 0
 IsPerfect (leaf _) = Unit {0}
 IsPerfect (branch l _ r) = (height l ≡ height r) × IsPerfect l × IsPerfect r
-
--- `leaves_at h` is the number of leaves of a perfect tree of height h: 2 ^ h.
-abbrev pub leaves_at : ℕ → ℕ
-leaves_at zero = 1
-leaves_at (suc h) = leaves_at h + leaves_at h
 
 -- `leaf_entry x` is the entry of a leaf in the listing.
 abbrev pub leaf_entry : Option LeafNode → Option NodeValue

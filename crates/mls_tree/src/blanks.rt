@@ -5,7 +5,7 @@
 ghost use Rattle.std.specs.Prelude.{◌≡◌, ℕ, ◌≤◌, ◌+◌, ◌*◌, ◌-◌, ◌++◌, None, length, replicate, OnOk, OnErr, option_copied};
 ghost use Rattle.std.specs.Vec.{VecUnchanged};
 ghost use Rattle.mls_nodes.specs.Limits.{leaf_limit};
-ghost use Rattle.mls_tree.specs.Tree.{leaves_at};
+ghost use Rattle.mls_tree.specs.TreeInternal.{leaves_at};
 ghost use Rattle.mls_tree.specs.NodeArray.{tree_in, ChangesWithin};
 ghost use Rattle.mls_tree.specs.TreeOperations.{change_above, has_non_blank_leaf};
 ghost use Rattle.mls_tree.specs.BlankLeaves.{next_blank_leaf};

@@ -2,7 +2,7 @@
 ghost use Rattle.std.specs.Prelude.{◌≡◌, ◌+◌, ◌++◌, ◌<◌, ◌≤◌, ◌^◌, IfOk, OnOk, None, Some, false, option_map, is_some, replicate, take, drop, length, slice_get, slice_set};
 ghost use Rattle.std.specs.Vec.{vec_len, vec_capacity};
 ghost use Rattle.mls_tree.specs.HashCache.{empty_count, hash_in};
-ghost use Rattle.mls_tree.specs.HashLists.{CanExtend, false_count};
+ghost use Rattle.mls_tree.specs.HashListsInternal.{CanExtend, false_count};
 
 use crate::hash_list::HashList;
 use crate::hash_value::HashValue;
@@ -54,7 +54,7 @@ pub(crate) struct HashSlots {
 impl Model for HashSlots {
     ghost use Rattle.std.specs.Prelude.{◌≤◌, length};
     ghost use Rattle.std.specs.Vec.{vec_capacity};
-    ghost use Rattle.mls_tree.specs.HashLists.{EqualSlots, known_hashes};
+    ghost use Rattle.mls_tree.specs.HashListsInternal.{EqualSlots, known_hashes};
 
     ghost Value = { EqualSlots };
 

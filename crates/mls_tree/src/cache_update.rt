@@ -1,7 +1,8 @@
 //! The optional cache of a tree's hashes, changed as the tree is changed.
 ghost use Rattle.std.specs.Prelude.{◌≡◌, ◌+◌, ◌*◌, ◌^◌, ◌∷◌, ◌<◌, ◌≤◌, Some, OnOk, IfOk, IfSome, length, take};
 ghost use Rattle.std.specs.List.{range_with_len};
-ghost use Rattle.mls_tree.specs.Tree.{Tree, height, leaves_at, IsPerfect};
+ghost use Rattle.mls_tree.specs.Tree.{Tree, height, IsPerfect};
+ghost use Rattle.mls_tree.specs.TreeInternal.{leaves_at};
 ghost use Rattle.mls_tree.specs.Paths.{direct_path};
 ghost use Rattle.mls_tree.specs.HashCache.{emptied, parents_from, extended};
 ghost use Rattle.mls_tree.specs.CacheModel.{kind_in, slots_in, IsOfHeight, HasCapacity, HasMoreThan, AreFewer};

@@ -1,10 +1,12 @@
 //! Cache slots for the tree hashes of subtrees, one per node.
 ghost use Rattle.std.specs.Prelude.{◌≡◌, ℕ, ◌+◌, ◌*◌, ◌++◌, ◌<◌, ◌≤◌, ◌^◌, None, Some, IfOk, replicate, take, length, slice_set};
 ghost use Rattle.mls_nodes.specs.Limits.{leaf_limit};
-ghost use Rattle.mls_tree.specs.Tree.{Tree, height, leaves_at, IsPerfect};
+ghost use Rattle.mls_tree.specs.Tree.{Tree, height, IsPerfect};
+ghost use Rattle.mls_tree.specs.TreeInternal.{leaves_at};
 ghost use Rattle.mls_tree.specs.Paths.{direct_path};
-ghost use Rattle.mls_tree.specs.HashCache.{empty_count, emptied, hash_len, parents_from};
-ghost use Rattle.mls_tree.specs.HashLists.{CanExtend};
+ghost use Rattle.mls_tree.specs.HashCache.{empty_count, emptied, parents_from};
+ghost use Rattle.mls_tree.specs.HashCacheInternal.{hash_len};
+ghost use Rattle.mls_tree.specs.HashListsInternal.{CanExtend};
 ghost use Rattle.mls_tree.specs.SlotChanges.{joined_slots};
 ghost use Rattle.std.specs.List.{range_with_len};
 

@@ -1,6 +1,6 @@
 //! The hash functions of a tree's cache.
 ghost use Rattle.std.specs.Prelude.{◌≡◌, ◌≤◌};
-ghost use Rattle.mls_tree.specs.HashCache.{hash_len};
+ghost use Rattle.mls_tree.specs.HashCacheInternal.{hash_len};
 
 /// A hash function that a tree's cache stores hashes of: one of those of the cipher suites (RFC 9420, 17.1).
 #[derive(Clone, Copy, Debug, PartialEq, Eq)]

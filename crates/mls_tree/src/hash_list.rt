@@ -18,7 +18,8 @@ pub struct HashList {
 }
 
 impl Model for HashList {
-    ghost use Rattle.mls_tree.specs.HashLists.{EqualHashes, FillsBytes, hashes_in};
+    ghost use Rattle.mls_tree.specs.HashLists.{EqualHashes};
+    ghost use Rattle.mls_tree.specs.HashListsInternal.{FillsBytes, hashes_in};
 
     ghost Value = { EqualHashes };
 

@@ -41,7 +41,8 @@ pub(crate) struct NodeArray {
 }
 
 impl Model for NodeArray {
-    ghost use Rattle.mls_tree.specs.RatchetTree.{RatchetTree, ratchet_tree_coded};
+    ghost use Rattle.mls_tree.specs.RatchetTree.{RatchetTree};
+    ghost use Rattle.mls_tree.specs.RatchetTreeInternal.{ratchet_tree_coded};
     ghost use Rattle.mls_tree.specs.NodeArray.{ratchet_tree_in, IsArrayOf};
 
     ghost Value = { RatchetTree };

@@ -4,7 +4,8 @@
 ghost use Rattle.std.specs.Prelude.{◌≡◌, ◌≢◌, ℕ, MatchOption, Some, None};
 ghost use Rattle.mls_tree.specs.RatchetTree.{RatchetTree};
 ghost use Rattle.mls_tree.specs.Tree.{leaf_count, root_node_index};
-ghost use Rattle.mls_tree.specs.NodeIndices.{level_at, left_at, right_at, IsParentOf, AreSiblings, HasLevel, IsOutside};
+ghost use Rattle.mls_tree.specs.NodeIndices.{level_at, left_at, right_at, IsParentOf, AreSiblings};
+ghost use Rattle.mls_tree.specs.NodeIndicesInternal.{HasLevel, IsOutside};
 
 use crate::tree_size::{height_of, leaves_of};
 

@@ -4,7 +4,8 @@
 //! recursion is at most 20.
 ghost use Rattle.std.specs.Prelude.{◌≡◌, ℕ, ◌≤◌, ◌+◌, ◌*◌, ◌-◌, ◌++◌, length, OnOk, option_copied};
 ghost use Rattle.mls_nodes.specs.Limits.{leaf_limit};
-ghost use Rattle.mls_tree.specs.Tree.{Tree, height, leaves_at, IsPerfect};
+ghost use Rattle.mls_tree.specs.Tree.{Tree, height, IsPerfect};
+ghost use Rattle.mls_tree.specs.TreeInternal.{leaves_at};
 ghost use Rattle.mls_tree.specs.NodeArray.{tree_in};
 ghost use Rattle.mls_tree.specs.Paths.{direct_path, copath, filtered_direct_path};
 ghost use Rattle.mls_tree.specs.CountsModel.{AreCountsIfAny};

@@ -49,8 +49,9 @@ pub struct PublicTree {
 }
 
 impl Model for PublicTree {
-    ghost use Rattle.mls_tree.specs.PublicTreeModel.{KeptTree, kept_tree_coded};
-    ghost use Rattle.mls_tree.specs.HashCache.{AreSlotsOf};
+    ghost use Rattle.mls_tree.specs.PublicTreeModel.{KeptTree};
+    ghost use Rattle.mls_tree.specs.PublicTreeModelInternal.{kept_tree_coded};
+    ghost use Rattle.mls_tree.specs.HashCacheInternal.{AreSlotsOf};
     ghost use Rattle.mls_tree.specs.CacheModel.{kind_in, slots_in};
     ghost use Rattle.mls_tree.specs.CountsModel.{AreCountsIn};
 

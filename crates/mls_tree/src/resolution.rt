@@ -4,7 +4,7 @@
 //! recursion is at most 20.
 ghost use Rattle.std.specs.Prelude.{◌≡◌, ◌≢◌, ℕ, ◌≤◌, ◌+◌, ◌*◌, [], ◌++◌, length, OnOk, IsTrue, ◌↔◌, option_copied};
 ghost use Rattle.mls_nodes.specs.Limits.{leaf_limit};
-ghost use Rattle.mls_tree.specs.Tree.{leaves_at};
+ghost use Rattle.mls_tree.specs.TreeInternal.{leaves_at};
 ghost use Rattle.mls_tree.specs.NodeArray.{tree_in};
 ghost use Rattle.mls_tree.specs.Paths.{resolution, unmerged_node_indices};
 ghost use Rattle.mls_tree.specs.CountsModel.{AreCountsIfAny};

@@ -5,7 +5,7 @@
 //! remains, or `None` as soon as it finds one node more.
 ghost use Rattle.std.specs.Prelude.{◌≡◌, ℕ, ◌≤◌, ◌+◌, ◌*◌, ◌∷◌, [], length, IsTrue, option_copied};
 ghost use Rattle.mls_nodes.specs.Limits.{leaf_limit};
-ghost use Rattle.mls_tree.specs.Tree.{leaves_at};
+ghost use Rattle.mls_tree.specs.TreeInternal.{leaves_at};
 ghost use Rattle.mls_tree.specs.NodeArray.{tree_in};
 ghost use Rattle.mls_tree.specs.Paths.{resolution, unmerged_node_indices, count_not_in};
 ghost use Rattle.mls_tree.specs.Subtraction.{taken_off};

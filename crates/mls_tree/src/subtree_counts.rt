@@ -4,7 +4,7 @@
 //! recursion is at most 20. The count of the parent whose right subtree begins with leaf `k` is at index `k - 1`.
 ghost use Rattle.std.specs.Prelude.{◌≡◌, ◌≢◌, ◌≤◌, ◌+◌, ◌*◌, ◌-◌, Some, length};
 ghost use Rattle.mls_nodes.specs.Limits.{leaf_limit};
-ghost use Rattle.mls_tree.specs.Tree.{leaves_at};
+ghost use Rattle.mls_tree.specs.TreeInternal.{leaves_at};
 ghost use Rattle.mls_tree.specs.NodeArray.{parent_part, tree_in};
 ghost use Rattle.mls_tree.specs.SubtreeCounts.{parent_weight, subtree_count, AreCounts, AreOutside, IsKeptOutside};
 

@@ -1,7 +1,7 @@
 //! Sizes of a tree: its height, its number of leaves, and its number of nodes.
 ghost use Rattle.std.specs.Prelude.{◌≡◌, ◌+◌, ◌*◌, ◌^◌, ◌≤◌, ◌<◌, MatchOption, MatchResult};
 ghost use Rattle.mls_nodes.specs.Limits.{leaf_limit};
-ghost use Rattle.mls_tree.specs.Tree.{leaves_at};
+ghost use Rattle.mls_tree.specs.TreeInternal.{leaves_at};
 ghost use Rattle.mls_tree.specs.TreeSizes.{IsPowerOfTwo};
 ghost use Rattle.mls_tree.specs.NodeArray.{IsNoSize, IsNoLength};
 

@@ -6,7 +6,7 @@
 ghost use Rattle.std.specs.Prelude.{◌≡◌, ℕ, ◌≤◌, ◌<◌, ◌+◌, ◌*◌, ◌-◌, ◌++◌, Some, false, length, take, drop, insert, remove, All, slice_get, option_copied, OnOk, OnErr, IfOk, IfSome, MatchOption};
 ghost use Rattle.std.specs.Bool.{OnTrue, OnFalse};
 ghost use Rattle.mls_nodes.specs.Limits.{leaf_limit};
-ghost use Rattle.mls_tree.specs.Tree.{leaves_at};
+ghost use Rattle.mls_tree.specs.TreeInternal.{leaves_at};
 ghost use Rattle.mls_tree.specs.NodeArray.{tree_in, ChangesWithin, parent_part, IsNoLeaf};
 ghost use Rattle.mls_tree.specs.TreeOperations.{change_above, insert_before, insert_number, without_number, with_unmerged, is_overfilled, is_overfilled_above};
 ghost use Rattle.mls_tree.specs.NewUnmergedLists.{changed_list, new_lists, with_new_list};

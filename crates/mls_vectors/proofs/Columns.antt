@@ -6,7 +6,8 @@ use Rattle.std.proofs.lemmas.Option.{none-some, same_Some, option_and_then_some}
 use Rattle.serde_json.specs.Data.{Num, unsigned, negative, float, Data, null, boolean, number, string, array, object}
 use Rattle.serde_json.specs.Find.{as_null, as_number, as_u64}
 use Rattle.mls_tree.specs.RatchetTree.{RatchetTree}
-use Rattle.mls_tree.specs.Tree.{Tree, leaf, branch, height, leaf_count, leaves_at, IsPerfect, Subtree, subtree_at, root_node_index}
+use Rattle.mls_tree.specs.Tree.{Tree, leaf, branch, height, leaf_count, IsPerfect, Subtree, subtree_at, root_node_index}
+use Rattle.mls_tree.specs.TreeInternal.{leaves_at}
 use Rattle.mls_tree.specs.NodeIndices.{left_at, right_at, left_node_index, right_node_index, IsParentOf, AreSiblings}
 use Rattle.mls_tree.proofs.Coordinates.{Coordinates, coordinates, coordinates-unique, root_node_index-perfect, some_tree, leaf_count-low, left_at-half, right_at-half}
 use Rattle.mls_tree.proofs.Numbers.{leaves_at-low}

@@ -6,7 +6,8 @@ use Rattle.mls_wire.specs.declared.fault.CodecFault.TheVariants as faults
 use Rattle.mls_wire.specs.Faults.{too_long_at}
 use Rattle.mls_wire.specs.Encoding.{length_form, vector}
 use Rattle.mls_wire.specs.EncodingConcat.{join, no_left}
-use Rattle.mls_wire.specs.WriteContracts.{after, added, WritesPiece, PutsPiece}
+use Rattle.mls_wire.specs.WriteContracts.{after, WritesPiece, PutsPiece}
+use Rattle.mls_wire.specs.WriteContractsInternal.{added}
 use Rattle.mls_wire.specs.WriteSequences.{after_then, after_is, grown}
 
 -- an equal text

@@ -9,7 +9,8 @@ use Rattle.mls_wire.specs.declared.fault.CodecFault.TheVariants as faults
 use Rattle.mls_wire.specs.Input.{Input, at}
 use Rattle.mls_wire.specs.Encoding.{vector, list}
 use Rattle.mls_wire.specs.ReadContracts.{Nothing, Reads, ReadsBody, Decodes, DecodesAll, seen}
-use Rattle.mls_wire.specs.Parsing.{Gives, GivesOrFull, Finds, whole_at, body_at, vector_at, list_at}
+use Rattle.mls_wire.specs.Parsing.{GivesOrFull, whole_at, body_at, vector_at, list_at}
+use Rattle.mls_wire.specs.ParsingInternal.{Gives, Finds}
 use Rattle.mls_wire.specs.OptionBind.{bind_some, some_is, allowed, none_of}
 use Rattle.mls_wire.specs.ExactParsers.{IsExact, IsLong}
 use Rattle.mls_wire.specs.VectorsExact.{body_takes, body_again, vector_exact, no_vector}

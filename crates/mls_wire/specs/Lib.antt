@@ -7,8 +7,10 @@ pub mod OpaqueBytes
 pub mod BoxedBytes
 pub mod ReadContracts
 pub mod WriteContracts
+pub mod WriteContractsInternal
 pub mod Devices
 pub mod Parsing
+pub mod ParsingInternal
 pub mod OptionBind
 pub mod EncodingConcat
 pub mod ExactParsers

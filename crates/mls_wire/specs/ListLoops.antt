@@ -5,7 +5,8 @@ use Rattle.std.proofs.lemmas.List.{length-append, append-nil, nil_from_length}
 use Rattle.mls_wire.specs.declared.fault.CodecFault.{CodecFault}
 use Rattle.mls_wire.specs.declared.fault.CodecFault.TheVariants as faults
 use Rattle.mls_wire.specs.Input.{Input}
-use Rattle.mls_wire.specs.Parsing.{◌>>=◌, GivesOrFull, Finds, items_at}
+use Rattle.mls_wire.specs.Parsing.{◌>>=◌, GivesOrFull, items_at}
+use Rattle.mls_wire.specs.ParsingInternal.{Finds}
 use Rattle.mls_wire.specs.OptionBind.{same_bind}
 use Rattle.mls_wire.specs.ExactParsers.{IsExact, IsLong}
 

@@ -3,7 +3,8 @@ use Rattle.std.proofs.Common.{◌≡◌, ◌≢◌, ℕ, Bool, true, false, List
 use Rattle.std.specs.Int.{w8}
 use Rattle.mls_wire.specs.Input.{Input}
 use Rattle.mls_wire.specs.Encoding.{◌⊕◌, number, flag, optional}
-use Rattle.mls_wire.specs.Parsing.{number_at, flag_at, optional_at}
+use Rattle.mls_wire.specs.Parsing.{number_at}
+use Rattle.mls_wire.specs.ParsingInternal.{flag_at, optional_at}
 use Rattle.mls_wire.specs.OptionBind.{some_is}
 use Rattle.mls_wire.specs.EncodingConcat.{long_left}
 use Rattle.mls_wire.specs.ExactParsers.{Any, IsExact, IsLong, field_then, made_of, chosen, never, known, encoded_as, tag_is}

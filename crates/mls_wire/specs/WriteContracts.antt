@@ -1,6 +1,6 @@
 -- Results of calls that write, stated by encodings. `text` is the encoding of what is written. `old` and `new` are the
 -- bytes before and after the call. Used by contracts.
-use Rattle.std.specs.Prelude.{◌≡◌, ◌≢◌, ℕ, ◌+◌, List, ◌++◌, length, take, drop, Option, Some, None, IsSome, Result, Ok, Err, OnOk}
+use Rattle.std.specs.Prelude.{◌≡◌, ◌≢◌, ℕ, ◌+◌, List, ◌++◌, length, Option, Some, None, IsSome, Result, Ok, Err, OnOk}
 use Rattle.mls_wire.specs.declared.fault.CodecFault.{CodecFault}
 use Rattle.mls_wire.specs.declared.fault.CodecFault.TheVariants as faults
 use Rattle.mls_wire.specs.declared.fault.WireFaultKind.TheVariants as kinds
@@ -22,10 +22,6 @@ WritesPiece text old new (Err faults.OutOfMemory) = (new ≡ old) × IsSome text
 pub record Added : Type 0 where
   pub kept : List ℕ
   pub more : List ℕ
-
--- `added count bytes` is the model of a draft of which the first `count` bytes were there before.
-abbrev pub added : ℕ → List ℕ → Added
-added count bytes = record { kept = take count bytes; more = drop count bytes }
 
 -- `Puts text old new result`: the encoding was added at the end of a draft. A wire fault is `TooLong`, and only if
 -- there is no encoding. On any error the bytes before the draft are unchanged.

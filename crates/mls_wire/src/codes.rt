@@ -4,7 +4,8 @@ ghost use Rattle.std.specs.Prelude.{◌≡◌, IfErr, IfOk, IsSome, MatchResult,
 ghost use Rattle.std.specs.Int.{w16};
 ghost use Rattle.mls_wire.specs.Codes.{codes_in};
 ghost use Rattle.mls_wire.specs.Encoding.{list, number};
-ghost use Rattle.mls_wire.specs.Parsing.{Finds, GivesOrFull, items_at, list_at, number_at};
+ghost use Rattle.mls_wire.specs.Parsing.{GivesOrFull, items_at, list_at, number_at};
+ghost use Rattle.mls_wire.specs.ParsingInternal.{Finds};
 ghost use Rattle.mls_wire.specs.ReadContracts.{seen};
 
 use crate::decode::{Decode, items_of};

@@ -5,7 +5,8 @@ ghost use Rattle.mls_wire.specs.Faults.{too_long_at};
 ghost use Rattle.mls_wire.specs.Input.{Input};
 ghost use Rattle.mls_wire.specs.Limits.{input_limit};
 ghost use Rattle.mls_wire.specs.Encoding.{items, list};
-ghost use Rattle.mls_wire.specs.Parsing.{GivesOrFull, Finds, whole_at, items_at, list_at};
+ghost use Rattle.mls_wire.specs.Parsing.{GivesOrFull, whole_at, items_at, list_at};
+ghost use Rattle.mls_wire.specs.ParsingInternal.{Finds};
 ghost use Rattle.mls_wire.specs.ReadContracts.{Decodes, DecodesAll, DecodesInput, NoListHasSize, seen};
 ghost use Rattle.mls_wire.specs.ExactParsers.{IsExact, IsLong};
 

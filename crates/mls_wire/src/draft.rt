@@ -24,7 +24,8 @@ pub struct Draft {
 
 impl Model for Draft {
     ghost use Rattle.std.specs.Prelude.{◌≤◌, length};
-    ghost use Rattle.mls_wire.specs.WriteContracts.{Added, added};
+    ghost use Rattle.mls_wire.specs.WriteContracts.{Added};
+    ghost use Rattle.mls_wire.specs.WriteContractsInternal.{added};
 
     ghost Value = { Added };
 

@@ -10,14 +10,14 @@ use std::alloc::Global;
 
 impl<T: Decode> Decode for Option<T> {
     ghost use Rattle.mls_wire.specs.Encoding.{optional};
-    ghost use Rattle.mls_wire.specs.Parsing.{optional_at};
+    ghost use Rattle.mls_wire.specs.ParsingInternal.{optional_at};
     ghost use Rattle.mls_wire.specs.OptionalsExact.{optional_exact, optional_long};
 
     ghost encoding = { optional T.encoding };
 
     ghost reading = { optional_at T.reading };
 
-    #[tactic(auto, unfolding(crate::specs::Parsing::optional_at))]
+    #[tactic(auto, unfolding(crate::specs::ParsingInternal::optional_at))]
     fn read(alloc: Global, reader: &mut Reader<'_>) -> Result<Option<T>, CodecFault> {
         let mut ahead = reader.fork();
         let value = if ahead.next_optional()? {

@@ -7,7 +7,8 @@ ghost use Rattle.mls_wire.specs.Input.{Input, at, skip};
 ghost use Rattle.mls_wire.specs.Encoding.{number, length_form, vector, flag};
 ghost use Rattle.mls_wire.specs.IntegersExact.{IsBytes};
 ghost use Rattle.mls_wire.specs.ReadContracts.{Reads, ReadsBody, seen};
-ghost use Rattle.mls_wire.specs.Parsing.{Gives, number_at, length_at, body_at, vector_at, flag_at};
+ghost use Rattle.mls_wire.specs.Parsing.{number_at, length_at, body_at, vector_at};
+ghost use Rattle.mls_wire.specs.ParsingInternal.{Gives, flag_at};
 
 use crate::fault::{WireFault, WireFaultKind};
 use std::marker::Model;
@@ -235,7 +236,7 @@ impl<'a> Reader<'a> {
     }
 
     /// Reads as [`read_optional`](Reader::read_optional).
-    #[tactic(auto, unfolding(crate::specs::Parsing::flag_at))]
+    #[tactic(auto, unfolding(crate::specs::ParsingInternal::flag_at))]
     pub(crate) fn next_optional(&mut self) -> Result<bool, WireFault>
         ensures { Gives flag_at self.old self.new result }
     {

@@ -2,7 +2,8 @@
 
 ghost use Rattle.std.specs.Prelude.{◌≡◌, ◌<◌, ◌≤◌, ◌++◌, [], ◌∷◌, length};
 ghost use Rattle.std.specs.Int.{w16};
-ghost use Rattle.mls_wire.specs.Parsing.{Finds, items_at, number_at};
+ghost use Rattle.mls_wire.specs.Parsing.{items_at, number_at};
+ghost use Rattle.mls_wire.specs.ParsingInternal.{Finds};
 
 use crate::decode::Decode;
 use crate::fault::CodecFault;

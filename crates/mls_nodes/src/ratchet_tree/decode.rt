@@ -3,13 +3,14 @@
 ghost use Rattle.std.specs.Prelude.{◌≡◌, ◌≤◌, ◌<◌, Err, map, length, IfOk, IfErr};
 ghost use Rattle.mls_wire.specs.Faults.{too_long_at};
 ghost use Rattle.mls_wire.specs.Limits.{input_limit};
-ghost use Rattle.mls_wire.specs.Parsing.{Gives, flag_at, body_at, items_at, optional_at};
+ghost use Rattle.mls_wire.specs.Parsing.{body_at, items_at};
+ghost use Rattle.mls_wire.specs.ParsingInternal.{Gives, flag_at, optional_at};
 ghost use Rattle.mls_wire.specs.ReadContracts.{seen};
 ghost use Rattle.mls_nodes.specs.Limits.{entry_limit};
 ghost use Rattle.mls_nodes.specs.NodeModel.{node_value, entry_value};
 ghost use Rattle.mls_nodes.specs.RatchetTreeEncoding.{ends_non_blank, full_size, filled};
 ghost use Rattle.mls_nodes.specs.RatchetTreeContracts.{DecodesTree};
-ghost use Rattle.mls_nodes.specs.Parsing.{node_model_at, node_in, well_laid_out, tree_at, FindsNodes, GivesNode};
+ghost use Rattle.mls_nodes.specs.ParsingInternal.{node_model_at, node_in, well_laid_out, tree_at, FindsNodes, GivesNode};
 ghost use Rattle.mls_nodes.specs.declared.fault.NodeFault.TheVariants as faults;
 
 use crate::fault::NodeFault;
@@ -35,7 +36,7 @@ fn read_body<'a>(reader: &mut Reader<'a>) -> Result<Reader<'a>, WireFault>
 }
 
 /// Reads the node of the entry at a node index. Its type is checked before its body is read.
-#[tactic(auto, unfolding(crate::specs::Parsing::node_in))]
+#[tactic(auto, unfolding(crate::specs::ParsingInternal::node_in))]
 fn read_node(alloc: Global, node_index: usize, reader: &mut Reader<'_>) -> Result<Node, NodeFault>
     ensures { GivesNode (node_in node_index) reader.old reader.new (seen node_value result) }
 {
@@ -58,7 +59,7 @@ fn read_node(alloc: Global, node_index: usize, reader: &mut Reader<'_>) -> Resul
 }
 
 /// Reads the entry at a node index.
-#[tactic(auto, unfolding(mls_wire::specs::Parsing::optional_at))]
+#[tactic(auto, unfolding(mls_wire::specs::ParsingInternal::optional_at))]
 fn read_entry(
     alloc: Global,
     node_index: usize,
@@ -102,7 +103,7 @@ fn is_last_non_blank(entries: &[Option<Node>]) -> bool
 }
 
 /// Returns the entries whose encoding is all of the bytes, up to the last non-blank one.
-#[tactic(auto, unfolding(crate::specs::Parsing::tree_at))]
+#[tactic(auto, unfolding(crate::specs::ParsingInternal::tree_at))]
 fn read_tree(alloc: Global, bytes: &[u8]) -> Result<Vec<Option<Node>>, NodeFault>
     ensures { FindsNodes (tree_at bytes.now) (seen (λ v. map entry_value v.items) result) }
 {

@@ -1,7 +1,7 @@
 use Rattle.std.proofs.Common.{◌∙◌, ap, subst, Some}
 use Rattle.mls_hash.specs.SuiteHash.{hash_of}
 use Rattle.mls_check.specs.DistinctKeys.{HasUniqueKeyAt}
-use Rattle.mls_check.specs.FirstFailure.{IsFirstFailureIn}
+use Rattle.mls_check.specs.FirstFailureInternal.{IsFirstFailureIn}
 use Rattle.mls_check.specs.ParentHashValid.{IsParentHashValidAt}
 use Rattle.mls_check.proofs.tree_validation.validate_tree_by.Goals as goal
 

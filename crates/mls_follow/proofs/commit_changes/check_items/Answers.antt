@@ -6,7 +6,8 @@ use Rattle.mls_msgs.specs.declared.framed_content.Sender.TheVariants.{Member}
 use Rattle.mls_apply.specs.ListRules.{list_refusal}
 use Rattle.mls_follow.specs.MessageRules.{refusal_of}
 use Rattle.mls_follow.specs.State.{last_epoch}
-use Rattle.mls_follow.specs.GroupModel.{group_state, with_known}
+use Rattle.mls_follow.specs.GroupModel.{group_state}
+use Rattle.mls_follow.specs.GroupModelInternal.{with_known}
 use Rattle.mls_follow.proofs.Committing.{inline_failed, list_failed}
 use Rattle.mls_follow.proofs.commit_changes.check_items.Goals as goal
 

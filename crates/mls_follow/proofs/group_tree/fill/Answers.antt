@@ -1,5 +1,5 @@
 use Rattle.mls_tree.specs.PublicTreeModel.{plain}
-use Rattle.mls_tree.specs.RatchetTree.{RatchetTree-same}
+use Rattle.mls_tree.specs.RatchetTreeInternal.{RatchetTree-same}
 use Rattle.mls_follow.proofs.group_tree.fill.Goals as goal
 
 pub returns-in-Ok-clause-plain : goal.returns-in-Ok-clause-plain

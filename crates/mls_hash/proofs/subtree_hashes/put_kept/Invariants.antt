@@ -1,6 +1,7 @@
 use Rattle.std.proofs.Common.{ℕ, ◌<◌}
 use Rattle.mls_hash.specs.SuiteHash.{hash_of}
-use Rattle.mls_hash.specs.SubtreeHashes.{HasEntryForEachSubtree, IsSubtreeHashAt}
+use Rattle.mls_hash.specs.SubtreeHashes.{IsSubtreeHashAt}
+use Rattle.mls_hash.specs.SubtreeHashesInternal.{HasEntryForEachSubtree}
 use Rattle.mls_hash.proofs.subtree_hashes.put_kept.Given as goal
 
 abbrev pub invariant-loop-node_index : goal.invariant-loop-node_index

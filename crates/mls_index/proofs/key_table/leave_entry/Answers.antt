@@ -1,6 +1,6 @@
 use Rattle.std.proofs.Common.{◌∙◌, sym, subst}
 use Rattle.std.proofs.lemmas.Bool.{false≢true}
-use Rattle.mls_index.specs.KeyTable.{HasLeft}
+use Rattle.mls_index.specs.KeyTableInternal.{HasLeft}
 use Rattle.mls_index.proofs.Entries.{removed}
 use Rattle.mls_index.proofs.Tables.{left-gone}
 use Rattle.mls_index.proofs.key_table.leave_entry.Goals as goal

@@ -1,5 +1,5 @@
 use Rattle.std.proofs.Common.{sym, subst}
-use Rattle.mls_index.specs.KeyTable.{HasStaged}
+use Rattle.mls_index.specs.KeyTableInternal.{HasStaged}
 use Rattle.mls_index.proofs.Entries.{staged}
 use Rattle.mls_index.proofs.Tables.{put-some}
 use Rattle.mls_index.proofs.key_table.put_entry.Goals as goal

@@ -1,5 +1,5 @@
 use Rattle.std.proofs.Common.{◌≡◌, ◌+◌, ◌≤◌, drop}
-use Rattle.mls_tree.specs.HashLists.{false_count}
+use Rattle.mls_tree.specs.HashListsInternal.{false_count}
 use Rattle.mls_tree.proofs.cache_slots.count_false.Given as goal
 
 -- how often `false` was met, and how often it is still to come

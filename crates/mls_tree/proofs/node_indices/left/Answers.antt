@@ -1,5 +1,5 @@
 use Rattle.std.proofs.Common.{ap, arith, Some, ◌∙◌, subst, ◌-◌}
-use Rattle.mls_tree.specs.NodeIndices.{HasLevel}
+use Rattle.mls_tree.specs.NodeIndicesInternal.{HasLevel}
 use Rattle.mls_tree.proofs.Coordinates.{left_at-node_index, left_at-leaf, no_tree_of, HasLevel-left}
 use Rattle.mls_tree.proofs.node_indices.left.Goals as goal
 

@@ -1,5 +1,6 @@
 use Rattle.std.proofs.Common.{ap, arith, ◌∙◌, sym, subst, inl, inr, ◌-◌, ◌+◌, ℕ, MatchOption, ◌%◌, ◌≢◌}
-use Rattle.mls_tree.specs.NodeIndices.{HasLevel, IsParentOf, left_at, right_at}
+use Rattle.mls_tree.specs.NodeIndices.{IsParentOf, left_at, right_at}
+use Rattle.mls_tree.specs.NodeIndicesInternal.{HasLevel}
 use Rattle.mls_tree.proofs.Coordinates.{above, no_tree_of, HasLevel-low, HasLevel-odd, HasLevel-parity, IsParentOf-no_node_index, IsParentOf-root}
 use Rattle.mls_tree.proofs.node_indices.parent.Goals as goal
 

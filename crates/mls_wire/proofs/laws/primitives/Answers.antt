@@ -1,6 +1,7 @@
 use Rattle.std.specs.Int.{w8, w16, w32, w64}
 use Rattle.mls_wire.specs.Encoding.{number, length_form, vector, flag}
-use Rattle.mls_wire.specs.Parsing.{number_at, length_at, vector_at, flag_at}
+use Rattle.mls_wire.specs.Parsing.{number_at, length_at, vector_at}
+use Rattle.mls_wire.specs.ParsingInternal.{flag_at}
 use Rattle.mls_wire.specs.IntegersExact.{number_exact, wide8, wide16, wide32, wide64}
 use Rattle.mls_wire.specs.LengthsExact.{length_exact}
 use Rattle.mls_wire.specs.VectorsExact.{vector_exact}

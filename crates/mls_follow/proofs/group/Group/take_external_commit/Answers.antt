@@ -5,7 +5,8 @@ use Rattle.mls_apply.specs.ContextExtensions.{proposed_extensions}
 use Rattle.mls_apply.specs.AppliedList.{outcome}
 use Rattle.mls_apply.specs.RuleLists.{first_failing}
 use Rattle.mls_apply.specs.declared.list_item.ListItem.{ListItem}
-use Rattle.mls_follow.specs.MessageRules.{external_commit_refusal, required_after, rules_with_requirements}
+use Rattle.mls_follow.specs.MessageRules.{required_after, rules_with_requirements}
+use Rattle.mls_follow.specs.MessageRulesInternal.{external_commit_refusal}
 use Rattle.mls_follow.specs.GroupModel.{group_state}
 use Rattle.mls_follow.specs.State.{last_epoch}
 use Rattle.mls_follow.proofs.Committing.{past_join}

@@ -1,6 +1,6 @@
 use Rattle.std.proofs.Common.{rules}
 use Rattle.mls_follow.specs.GroupModel.{group_state}
-use Rattle.mls_follow.specs.MessageRules.{frame_refusal}
+use Rattle.mls_follow.specs.MessageRulesInternal.{frame_refusal}
 use Rattle.mls_follow.proofs.Outside.{by_committer, by_external, by_joiner, joiner_kept, joiner_refused, outside_kept, outside_refused}
 use Rattle.mls_follow.proofs.group.Group.take_frame.Goals as goal
 

@@ -5,8 +5,10 @@ use Rattle.mls_msgs.specs.declared.framed_content.Sender.TheVariants.{Member}
 use Rattle.mls_apply.specs.ContextExtensions.{proposed_extensions}
 use Rattle.mls_apply.specs.AppliedList.{outcome}
 use Rattle.mls_apply.specs.RuleLists.{first_failing}
-use Rattle.mls_follow.specs.MessageRules.{handshake_refusal, required_after, rules_with_requirements}
-use Rattle.mls_follow.specs.GroupModel.{group_state, with_known}
+use Rattle.mls_follow.specs.MessageRules.{required_after, rules_with_requirements}
+use Rattle.mls_follow.specs.MessageRulesInternal.{handshake_refusal}
+use Rattle.mls_follow.specs.GroupModel.{group_state}
+use Rattle.mls_follow.specs.GroupModelInternal.{with_known}
 use Rattle.mls_follow.specs.State.{last_epoch}
 use Rattle.mls_follow.proofs.Committing.{of_commit, past_list}
 use Rattle.mls_follow.proofs.group.Group.take_received.Goals as goal

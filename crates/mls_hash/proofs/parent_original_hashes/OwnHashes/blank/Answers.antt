@@ -1,6 +1,6 @@
 use Rattle.std.proofs.Common.{◌≡◌, Bool, false, List, Some, replicate, subst}
 use Rattle.std.specs.Prelude.{slice_get}
-use Rattle.mls_tree.specs.HashLists.{known_hashes}
+use Rattle.mls_tree.specs.HashListsInternal.{known_hashes}
 use Rattle.mls_tree.proofs.HashRows.{none_known}
 use Rattle.mls_hash.proofs.parent_original_hashes.OwnHashes.blank.Goals as goal
 

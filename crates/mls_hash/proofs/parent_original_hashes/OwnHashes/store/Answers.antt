@@ -1,6 +1,6 @@
 use Rattle.std.proofs.Common.{Some, true, ap, ◌∙◌, inr, arith}
 use Rattle.std.specs.Prelude.{slice_set}
-use Rattle.mls_tree.specs.HashLists.{known_hashes}
+use Rattle.mls_tree.specs.HashListsInternal.{known_hashes}
 use Rattle.mls_tree.proofs.HashRows.{known_hashes-put}
 use Rattle.mls_hash.proofs.parent_original_hashes.OwnHashes.store.Goals as goal
 

@@ -1,4 +1,4 @@
-use Rattle.mls_index.specs.CredentialCounts.{CountsFirst}
+use Rattle.mls_index.specs.CredentialCountsInternal.{CountsFirst}
 use Rattle.mls_index.proofs.credential_counts.CredentialCounts.fill.Given as goal
 
 abbrev pub invariant-loop-index : goal.invariant-loop-index

@@ -1,6 +1,7 @@
 use Rattle.std.proofs.Common.{◌≡◌, length}
 use Rattle.mls_tree.specs.Tree.{Tree}
-use Rattle.mls_index.specs.CredentialCounts.{HaveBase, CountBut, HasCapacityFor}
+use Rattle.mls_index.specs.CredentialCounts.{HaveBase}
+use Rattle.mls_index.specs.CredentialCountsInternal.{CountBut, HasCapacityFor}
 use Rattle.mls_index.proofs.credential_counts.CredentialCounts.insert_all.Given as goal
 
 abbrev pub invariant-loop-node_index : goal.invariant-loop-node_index

@@ -1,6 +1,6 @@
 use Rattle.std.proofs.Common.{arith}
 use Rattle.mls_index.proofs.Counting.{but-changed}
-use Rattle.mls_index.specs.CredentialCounts.{HasCapacityFor}
+use Rattle.mls_index.specs.CredentialCountsInternal.{HasCapacityFor}
 use Rattle.mls_index.proofs.credential_counts.CredentialCounts.stage.Goals as goal
 
 pub returns-clause-counts : goal.returns-clause-counts

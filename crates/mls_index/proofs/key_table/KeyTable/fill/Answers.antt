@@ -1,6 +1,6 @@
 use Rattle.std.proofs.Common.{◌≡◌, sym, subst, arith}
 use Rattle.mls_index.specs.NodeKeys.{fingerprint_at}
-use Rattle.mls_index.specs.KeyTable.{TableIndexesFirst}
+use Rattle.mls_index.specs.KeyTableInternal.{TableIndexesFirst}
 use Rattle.mls_index.proofs.Tables.{filled-all}
 use Rattle.mls_index.proofs.key_table.KeyTable.fill.Goals as goal
 

@@ -1,5 +1,5 @@
 use Rattle.mls_index.specs.NodeKeys.{fingerprint_at}
-use Rattle.mls_index.specs.KeyTable.{TableIndexesFirst}
+use Rattle.mls_index.specs.KeyTableInternal.{TableIndexesFirst}
 use Rattle.mls_index.proofs.key_table.KeyTable.fill.Given as goal
 
 abbrev pub invariant-loop-node_index : goal.invariant-loop-node_index

@@ -1,7 +1,7 @@
 use Rattle.std.proofs.Common.{◌≡◌, ◌∷◌, rules, subst, ◌∙◌}
 use Rattle.std.proofs.lemmas.List.{nil_from_length}
 use Rattle.mls_index.specs.NodeKeys.{fingerprint_at}
-use Rattle.mls_index.specs.KeyTable.{ContainsKeysBut}
+use Rattle.mls_index.specs.KeyTableInternal.{ContainsKeysBut}
 use Rattle.mls_index.proofs.Tables.{covers-more}
 use Rattle.mls_index.proofs.key_table.KeyTable.insert_all.Goals as goal
 

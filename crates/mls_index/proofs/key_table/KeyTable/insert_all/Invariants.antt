@@ -1,6 +1,7 @@
 use Rattle.std.proofs.Common.{◌≡◌, ℕ, Option, length}
 use Rattle.mls_index.specs.NodeKeys.{fingerprint_at}
-use Rattle.mls_index.specs.KeyTable.{TableHasBase, ContainsKeysBut}
+use Rattle.mls_index.specs.KeyTable.{TableHasBase}
+use Rattle.mls_index.specs.KeyTableInternal.{ContainsKeysBut}
 use Rattle.mls_index.proofs.key_table.KeyTable.insert_all.Given as goal
 
 abbrev pub invariant-loop-node_index : goal.invariant-loop-node_index

@@ -1,5 +1,5 @@
 use Rattle.std.proofs.Common.{◌∙◌, ◌∷◌, ◌++◌, [], sym, ap, refl, subst, true, false}
-use Rattle.mls_index.specs.KeyTable.{HasStaged}
+use Rattle.mls_index.specs.KeyTableInternal.{HasStaged}
 use Rattle.mls_index.proofs.Entries.{staged, unchanged, contained}
 use Rattle.mls_index.proofs.Tables.{put-had, put-some, between-same, between-more}
 use Rattle.mls_index.proofs.key_table.KeyTable.insert_at.Goals as goal

@@ -1,6 +1,6 @@
 use Rattle.std.proofs.Common.{[], vec_len}
 use Rattle.mls_index.specs.NodeKeys.{fingerprint_at}
-use Rattle.mls_index.specs.KeyTable.{IsSettling}
+use Rattle.mls_index.specs.KeyTableInternal.{IsSettling}
 use Rattle.mls_index.proofs.key_table.KeyTable.leave_others.Given as goal
 
 abbrev pub invariant-loop-number : goal.invariant-loop-number

@@ -1,6 +1,6 @@
 use Rattle.std.proofs.Common.{rules, sym, subst, ◌≡◌, ◌∷◌}
 use Rattle.mls_index.specs.NodeKeys.{fingerprint_at}
-use Rattle.mls_index.specs.KeyTable.{IsSettling}
+use Rattle.mls_index.specs.KeyTableInternal.{IsSettling}
 use Rattle.mls_index.proofs.key_table.KeyTable.settle.Goals as goal
 
 pub loop-node_index-preserved : goal.loop-node_index-preserved

@@ -1,6 +1,7 @@
 use Rattle.std.proofs.Common.{◌∙◌, inl, inr, sym, ap, arith}
 use Rattle.std.proofs.lemmas.Bool.{cases_eq, false≢true}
-use Rattle.mls_index.specs.LeafCredentials.{class_at, lacks_used}
+use Rattle.mls_index.specs.LeafCredentials.{class_at}
+use Rattle.mls_index.specs.LeafCredentialsInternal.{lacks_used}
 use Rattle.mls_index.proofs.Supporting.{lacking-none}
 use Rattle.mls_index.proofs.leaf_credentials.CountedClasses.first_lacking.Goals as goal
 

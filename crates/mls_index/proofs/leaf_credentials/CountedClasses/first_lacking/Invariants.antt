@@ -1,5 +1,6 @@
 use Rattle.std.proofs.Common.{◌≡◌, ℕ, ◌<◌, true}
-use Rattle.mls_index.specs.LeafCredentials.{class_at, lacks_used}
+use Rattle.mls_index.specs.LeafCredentials.{class_at}
+use Rattle.mls_index.specs.LeafCredentialsInternal.{lacks_used}
 use Rattle.mls_index.proofs.leaf_credentials.CountedClasses.first_lacking.Given as goal
 
 abbrev pub invariant-loop-index : goal.invariant-loop-index

@@ -1,11 +1,11 @@
 use Rattle.std.proofs.Common.{◌≡◌, ◌++◌, ◌∷◌, [], ◌∙◌, ap, refl, map, arith}
 use Rattle.std.proofs.lemmas.Result.{err_from_is_err_and}
 use Rattle.std.proofs.lemmas.List.{map_push, length-map}
-use Rattle.mls_wire.specs.Parsing.{optional_at}
+use Rattle.mls_wire.specs.ParsingInternal.{optional_at}
 use Rattle.mls_wire.specs.ListLoops.{items_go_on, items_end}
 use Rattle.mls_nodes.specs.NodeModel.{entry_value}
 use Rattle.mls_nodes.specs.RatchetTreeEncoding.{fits_at}
-use Rattle.mls_nodes.specs.Parsing.{node_model_at}
+use Rattle.mls_nodes.specs.ParsingInternal.{node_model_at}
 use Rattle.mls_nodes.proofs.Entries.{too_many_entries, stand_more, all_well_laid_out, entry_found, entry_fault, entry_short}
 use Rattle.mls_nodes.proofs.ratchet_tree.decode.read_entries.Goals as goal
 

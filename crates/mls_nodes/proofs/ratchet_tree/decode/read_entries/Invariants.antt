@@ -1,9 +1,10 @@
 use Rattle.std.proofs.Common.{◌≡◌, ◌≤◌, map, length, true, vec_len}
-use Rattle.mls_wire.specs.Parsing.{items_at, optional_at}
+use Rattle.mls_wire.specs.Parsing.{items_at}
+use Rattle.mls_wire.specs.ParsingInternal.{optional_at}
 use Rattle.mls_wire.specs.ListLoops.{with_front}
 use Rattle.mls_nodes.specs.NodeModel.{entry_value}
 use Rattle.mls_nodes.specs.RatchetTreeEncoding.{fit_from}
-use Rattle.mls_nodes.specs.Parsing.{node_model_at}
+use Rattle.mls_nodes.specs.ParsingInternal.{node_model_at}
 use Rattle.mls_nodes.proofs.ratchet_tree.decode.read_entries.Given as goal
 
 abbrev pub invariant-loop-body : goal.invariant-loop-body

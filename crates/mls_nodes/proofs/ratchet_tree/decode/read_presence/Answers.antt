@@ -1,5 +1,5 @@
 use Rattle.mls_wire.specs.Encoding.{flag}
-use Rattle.mls_wire.specs.Parsing.{flag_at}
+use Rattle.mls_wire.specs.ParsingInternal.{flag_at}
 use Rattle.mls_wire.specs.OptionalsExact.{flag_exact}
 use Rattle.mls_wire.specs.ExactReads.{Gives-reads}
 use Rattle.mls_nodes.proofs.ratchet_tree.decode.read_presence.Goals as goal

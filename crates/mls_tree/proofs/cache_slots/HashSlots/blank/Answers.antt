@@ -1,5 +1,5 @@
 use Rattle.std.proofs.Common.{◌≡◌, false, replicate, ap, ◌∙◌, arith}
-use Rattle.mls_tree.specs.HashLists.{known_hashes}
+use Rattle.mls_tree.specs.HashListsInternal.{known_hashes}
 use Rattle.mls_tree.proofs.HashRows.{known_hashes-blank}
 use Rattle.mls_tree.proofs.cache_slots.HashSlots.blank.Goals as goal
 

@@ -1,6 +1,6 @@
 use Rattle.std.proofs.Common.{sym, ap, ◌∙◌}
 use Rattle.mls_tree.specs.HashCache.{empty_count}
-use Rattle.mls_tree.specs.HashLists.{EqualSlots, false_count}
+use Rattle.mls_tree.specs.HashListsInternal.{EqualSlots, false_count}
 use Rattle.mls_tree.proofs.HashRows.{empty_count-known}
 use Rattle.mls_tree.proofs.cache_slots.HashSlots.count_empty.Goals as goal
 

@@ -1,6 +1,6 @@
 use Rattle.std.proofs.Common.{◌≡◌, ◌≤◌, ◌+◌, ◌++◌, false, None, length, replicate, sym, ap, ◌∙◌, arith, length-append}
 use Rattle.std.proofs.Math.ListN.{length-replicate}
-use Rattle.mls_tree.specs.HashLists.{EqualSlots, known_hashes}
+use Rattle.mls_tree.specs.HashListsInternal.{EqualSlots, known_hashes}
 use Rattle.mls_tree.proofs.HashRows.{length-known_hashes, known_hashes-append}
 use Rattle.mls_tree.proofs.cache_slots.HashSlots.double.Goals as goal
 

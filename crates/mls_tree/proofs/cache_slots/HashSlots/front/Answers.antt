@@ -1,6 +1,7 @@
 use Rattle.std.proofs.Common.{◌≡◌, length, take, sym, ap, ◌∙◌, arith}
 use Rattle.std.proofs.lemmas.List.{length-take-le}
-use Rattle.mls_tree.specs.HashLists.{EqualSlots, EqualHashes, known_hashes}
+use Rattle.mls_tree.specs.HashLists.{EqualHashes}
+use Rattle.mls_tree.specs.HashListsInternal.{EqualSlots, known_hashes}
 use Rattle.mls_tree.proofs.HashRows.{length-known_hashes, known_hashes-take, take-known_hashes}
 use Rattle.mls_tree.proofs.cache_slots.HashSlots.front.Goals as goal
 

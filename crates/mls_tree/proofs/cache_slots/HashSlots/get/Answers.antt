@@ -3,7 +3,7 @@ use Rattle.std.specs.Prelude.{slice_get}
 use Rattle.std.proofs.lemmas.Bool.{ltb-false}
 use Rattle.std.proofs.lemmas.Option.{slice_get-get_or, slice_get_past}
 use Rattle.mls_tree.specs.HashCache.{hash_in}
-use Rattle.mls_tree.specs.HashLists.{EqualSlots}
+use Rattle.mls_tree.specs.HashListsInternal.{EqualSlots}
 use Rattle.mls_tree.proofs.HashRows.{hash_in-filled, hash_in-empty, hash_in-past}
 use Rattle.mls_tree.proofs.cache_slots.HashSlots.get.Goals as goal
 

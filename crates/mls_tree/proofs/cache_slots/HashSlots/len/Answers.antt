@@ -1,5 +1,5 @@
 use Rattle.std.proofs.Common.{◌≡◌, length, sym, ap, ◌∙◌, arith}
-use Rattle.mls_tree.specs.HashLists.{EqualSlots}
+use Rattle.mls_tree.specs.HashListsInternal.{EqualSlots}
 use Rattle.mls_tree.proofs.HashRows.{length-known_hashes}
 use Rattle.mls_tree.proofs.cache_slots.HashSlots.len.Goals as goal
 

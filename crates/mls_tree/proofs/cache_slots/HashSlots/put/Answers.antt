@@ -1,7 +1,7 @@
 use Rattle.std.proofs.Common.{◌≡◌, ◌<◌, Bool, Some, length, sym, ap, ◌∙◌, arith}
 use Rattle.std.specs.Prelude.{is_some, option_map, slice_get, slice_set}
 use Rattle.std.proofs.lemmas.Option.{slice_get-get_or}
-use Rattle.mls_tree.specs.HashLists.{EqualSlots, known_hashes}
+use Rattle.mls_tree.specs.HashListsInternal.{EqualSlots, known_hashes}
 use Rattle.mls_tree.proofs.HashRows.{length-known_hashes, known_hashes-put, filled-known_hashes}
 use Rattle.mls_tree.proofs.cache_slots.HashSlots.put.Goals as goal
 

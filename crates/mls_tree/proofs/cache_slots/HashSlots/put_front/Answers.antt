@@ -1,6 +1,7 @@
 use Rattle.std.proofs.Common.{◌≡◌, ◌++◌, length, take, drop, sym, ap, ◌∙◌, arith}
 use Rattle.std.proofs.lemmas.List.{with_items_is}
-use Rattle.mls_tree.specs.HashLists.{EqualSlots, EqualHashes, known_hashes}
+use Rattle.mls_tree.specs.HashLists.{EqualHashes}
+use Rattle.mls_tree.specs.HashListsInternal.{EqualSlots, known_hashes}
 use Rattle.mls_tree.proofs.HashRows.{length-known_hashes}
 use Rattle.mls_tree.proofs.HashFronts.{known_hashes-front}
 use Rattle.mls_tree.proofs.cache_slots.HashSlots.put_front.Goals as goal

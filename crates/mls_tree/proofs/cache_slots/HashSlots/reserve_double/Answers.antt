@@ -1,5 +1,5 @@
 use Rattle.std.proofs.Common.{◌≡◌, ◌≤◌, ◌+◌, length, vec_capacity, sym, ap, ◌∙◌, arith}
-use Rattle.mls_tree.specs.HashLists.{EqualSlots, known_hashes}
+use Rattle.mls_tree.specs.HashListsInternal.{EqualSlots, known_hashes}
 use Rattle.mls_tree.proofs.HashRows.{length-known_hashes, known_hashes-take}
 use Rattle.mls_tree.proofs.cache_slots.HashSlots.reserve_double.Goals as goal
 

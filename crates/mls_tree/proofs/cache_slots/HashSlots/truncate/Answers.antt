@@ -1,5 +1,5 @@
 use Rattle.std.proofs.Common.{take, ap, ◌∙◌}
-use Rattle.mls_tree.specs.HashLists.{EqualSlots, known_hashes}
+use Rattle.mls_tree.specs.HashListsInternal.{EqualSlots, known_hashes}
 use Rattle.mls_tree.proofs.HashRows.{take-known_hashes}
 use Rattle.mls_tree.proofs.cache_slots.HashSlots.truncate.Goals as goal
 

@@ -1,7 +1,8 @@
 use Rattle.std.proofs.Common.{◌≡◌, ◌≤◌, ◌*◌, length, take, ap, ◌∙◌, arith}
 use Rattle.std.proofs.Math.Nat.{mul-le-mul_left}
 use Rattle.std.proofs.lemmas.List.{length-take-le}
-use Rattle.mls_tree.specs.HashLists.{EqualHashes, hashes_in}
+use Rattle.mls_tree.specs.HashLists.{EqualHashes}
+use Rattle.mls_tree.specs.HashListsInternal.{hashes_in}
 use Rattle.mls_tree.proofs.HashRows.{length-hashes_in}
 use Rattle.mls_tree.proofs.HashFronts.{front-hashes, slice_range-start}
 use Rattle.mls_tree.proofs.hash_list.HashList.front.Goals as goal

@@ -1,6 +1,7 @@
 use Rattle.std.proofs.Common.{◌≡◌, ℕ, suc, List, ◌+◌, ◌*◌, ◌++◌, length, take, replicate, sym, ap, ◌∙◌, arith}
 use Rattle.std.proofs.Math.Nat.{mul-le-mul_left}
-use Rattle.mls_tree.specs.HashLists.{EqualHashes, hashes_in}
+use Rattle.mls_tree.specs.HashLists.{EqualHashes}
+use Rattle.mls_tree.specs.HashListsInternal.{hashes_in}
 use Rattle.mls_tree.proofs.HashRows.{length-hashes_in, take-lengthened}
 use Rattle.mls_tree.proofs.hash_list.HashList.lengthen.Goals as goal
 

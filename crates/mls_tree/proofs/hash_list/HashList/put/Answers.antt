@@ -2,7 +2,7 @@ use Rattle.std.proofs.Common.{◌≡◌, ◌*◌, ◌<◌, ◌++◌, length, tak
 use Rattle.std.specs.Prelude.{slice_set}
 use Rattle.std.specs.Vec.{with_items}
 use Rattle.std.proofs.lemmas.List.{with_items_is}
-use Rattle.mls_tree.specs.HashLists.{hashes_in}
+use Rattle.mls_tree.specs.HashListsInternal.{hashes_in}
 use Rattle.mls_tree.proofs.HashRows.{length-hashes_in, hashes_in-put, within}
 use Rattle.mls_tree.proofs.hash_list.HashList.put.Goals as goal
 

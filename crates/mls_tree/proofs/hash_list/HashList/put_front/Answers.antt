@@ -2,7 +2,8 @@ use Rattle.std.proofs.Common.{◌≡◌, ◌≤◌, ◌*◌, ◌++◌, length, t
 use Rattle.std.specs.Vec.{with_items}
 use Rattle.std.proofs.Math.Nat.{mul-le-mul_left}
 use Rattle.std.proofs.lemmas.List.{with_items_is, length-take-le}
-use Rattle.mls_tree.specs.HashLists.{EqualHashes, hashes_in}
+use Rattle.mls_tree.specs.HashLists.{EqualHashes}
+use Rattle.mls_tree.specs.HashListsInternal.{hashes_in}
 use Rattle.mls_tree.proofs.HashRows.{length-hashes_in}
 use Rattle.mls_tree.proofs.HashFronts.{hashes_in-front, slice_range-start}
 use Rattle.mls_tree.proofs.hash_list.HashList.put_front.Goals as goal

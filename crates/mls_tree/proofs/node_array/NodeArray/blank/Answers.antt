@@ -1,6 +1,6 @@
 use Rattle.std.proofs.Common.{ap, sym, subst, ◌∙◌, arith, ◌≡◌, ◌<◌, ◌*◌, ◌-◌, None, Err, replicate, ◌++◌, ◌+◌}
 use Rattle.std.specs.Prelude.{◌↔◌}
-use Rattle.mls_tree.specs.Tree.{leaves_at}
+use Rattle.mls_tree.specs.TreeInternal.{leaves_at}
 use Rattle.mls_tree.specs.TreeSizes.{IsPowerOfTwo}
 use Rattle.mls_tree.specs.NodeArray.{height-tree_in}
 use Rattle.mls_tree.specs.declared.error.TreeError.TheVariants.{TooManyLeaves, OutOfMemory}

@@ -1,7 +1,8 @@
 use Rattle.std.proofs.Common.{ap, ◌∙◌, sym, subst, ◌≡◌, ◌+◌, ◌*◌, refl}
-use Rattle.mls_tree.specs.Tree.{leaf_count, leaves_at}
+use Rattle.mls_tree.specs.Tree.{leaf_count}
+use Rattle.mls_tree.specs.TreeInternal.{leaves_at}
 use Rattle.mls_tree.specs.NodeArray.{IsArrayOf, tree_in}
-use Rattle.mls_tree.specs.RatchetTree.{RatchetTree-same}
+use Rattle.mls_tree.specs.RatchetTreeInternal.{RatchetTree-same}
 use Rattle.mls_tree.proofs.Numbers.{leaves_at-full}
 use Rattle.mls_tree.proofs.Lookups.{leaf_count-seen}
 use Rattle.mls_tree.specs.declared.error.TreeError.TheVariants.{OutOfMemory}

@@ -2,7 +2,8 @@ use Rattle.std.proofs.Common.{sym, ◌∙◌, arith, subst, refl, ◌≡◌, ◌
 use Rattle.std.specs.Prelude.{slice_get}
 use Rattle.mls_nodes.specs.NodeModel.{entry_value}
 use Rattle.mls_tree.specs.NodeArray.{FitsNodeIndex, IsNoLength, ratchet_tree_in, tree_in}
-use Rattle.mls_tree.specs.Tree.{listing, leaves_at}
+use Rattle.mls_tree.specs.Tree.{listing}
+use Rattle.mls_tree.specs.TreeInternal.{leaves_at}
 use Rattle.mls_tree.specs.TreeSizes.{IsListing, IsTooLong}
 use Rattle.mls_tree.specs.declared.error.TreeError.TheVariants.{BadShape}
 use Rattle.mls_tree.proofs.Refusals.{IsBad, bad_length, bad-ok, bad-too_many, bad-shape, IsTooLong-height, no_refusal-ok}

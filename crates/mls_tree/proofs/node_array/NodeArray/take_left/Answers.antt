@@ -1,7 +1,7 @@
 use Rattle.std.proofs.Common.{ap, ◌∙◌, arith, ◌≡◌, ◌+◌, ◌*◌, ◌-◌, ◌++◌, replicate, length, None, Option}
 use Rattle.std.proofs.Math.ListN.{length-replicate}
 use Rattle.mls_nodes.specs.declared.node.Node.{Node}
-use Rattle.mls_tree.specs.Tree.{leaves_at}
+use Rattle.mls_tree.specs.TreeInternal.{leaves_at}
 use Rattle.mls_tree.specs.TreeOperations.{left_subtree}
 use Rattle.mls_tree.proofs.Rejoining.{front-left, rejoined-before, branch-high}
 use Rattle.mls_tree.proofs.node_array.NodeArray.take_left.Goals as goal

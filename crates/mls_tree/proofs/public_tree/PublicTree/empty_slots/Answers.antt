@@ -2,7 +2,8 @@ use Rattle.std.proofs.Common.{◌≡◌, ◌∙◌, None, ap, arith, sym, subst}
 use Rattle.std.specs.Prelude.{IsSome}
 use Rattle.mls_tree.specs.Tree.{leaf_count}
 use Rattle.mls_tree.specs.PublicTreeModel.{KeptTree}
-use Rattle.mls_tree.specs.HashCache.{hash_by, AreAllFilled, AreSlotsOf}
+use Rattle.mls_tree.specs.HashCache.{hash_by, AreAllFilled}
+use Rattle.mls_tree.specs.HashCacheInternal.{AreSlotsOf}
 use Rattle.mls_tree.specs.CacheModel.{kind_in, slots_in}
 use Rattle.mls_tree.proofs.Descent.{leaf_count-limit}
 use Rattle.mls_tree.proofs.Trees.{leaf_count-positive}

@@ -1,5 +1,6 @@
 use Rattle.std.proofs.Common.{sym, subst, arith}
-use Rattle.mls_tree.specs.HashCache.{AreSlots, AreSlotsOf, hash_by, IsRightHash}
+use Rattle.mls_tree.specs.HashCache.{hash_by, IsRightHash}
+use Rattle.mls_tree.specs.HashCacheInternal.{AreSlots, AreSlotsOf}
 use Rattle.mls_tree.specs.PublicTreeModel.{KeptTree}
 use Rattle.mls_tree.specs.CacheModel.{kind_in, slots_in}
 use Rattle.mls_tree.proofs.Emptying.{AreSlots-filled, hash_at-inside, filled-there}

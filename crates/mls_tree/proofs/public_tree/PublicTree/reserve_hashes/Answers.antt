@@ -1,7 +1,8 @@
 use Rattle.std.proofs.Common.{ap, ◌∙◌, ◌*◌, ◌-◌, length, sym, subst, arith, replicate, None}
 use Rattle.mls_tree.specs.Tree.{leaf_count}
 use Rattle.mls_tree.specs.PublicTreeModel.{KeptTree}
-use Rattle.mls_tree.specs.HashCache.{AreSlots, hash_by}
+use Rattle.mls_tree.specs.HashCache.{hash_by}
+use Rattle.mls_tree.specs.HashCacheInternal.{AreSlots}
 use Rattle.mls_tree.proofs.Trees.{leaf_count-positive}
 use Rattle.mls_tree.proofs.Descent.{leaf_count-limit}
 use Rattle.mls_tree.proofs.Emptying.{AreSlots-fresh}

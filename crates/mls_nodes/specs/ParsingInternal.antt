@@ -1,0 +1,156 @@
+-- Reading nodes, GroupContexts and trees from left to right, as functions of the input. Internal: no public contract
+-- uses this, except that of `Decode::read`.
+use Rattle.std.specs.Prelude.{◌≡◌, ℕ, ◌%◌, List, length, ◌&&◌, Option, Some, None, Result, Ok, Err, nat_eq, nat_le, if◌then◌else◌}
+use Rattle.std.specs.Int.{w8, w16, w32, w64}
+use Rattle.mls_wire.specs.Input.{Input, at}
+use Rattle.mls_wire.specs.Parsing.{◌>>=◌, number_at, vector_at, list_at, body_at, items_at}
+use Rattle.mls_wire.specs.ParsingInternal.{optional_at}
+use Rattle.mls_nodes.specs.Limits.{leaf_limit}
+use Rattle.mls_nodes.specs.NodeModel.{NodeValue, leaf_node, parent_node}
+use Rattle.mls_nodes.specs.RatchetTreeEncoding.{has_valid_layout, ends_non_blank}
+use Rattle.mls_nodes.specs.Parsing.{credential_at, codes_at}
+use Rattle.mls_nodes.specs.declared.leaf_source.LeafSource.{LeafSource}
+use Rattle.mls_nodes.specs.declared.leaf_source.LeafSource.TheVariants.{KeyPackage, Update, Commit}
+use Rattle.mls_nodes.specs.declared.leaf_source.Lifetime.{Lifetime}
+use Rattle.mls_nodes.specs.declared.extension.Extension.{Extension}
+use Rattle.mls_nodes.specs.declared.capabilities.Capabilities.{Capabilities}
+use Rattle.mls_nodes.specs.declared.leaf.LeafNode.{LeafNode}
+use Rattle.mls_nodes.specs.declared.parent.ParentNode.{ParentNode}
+use Rattle.mls_nodes.specs.declared.context.GroupContext.{GroupContext}
+use Rattle.mls_nodes.specs.declared.fault.NodeFault.{NodeFault}
+use Rattle.mls_nodes.specs.declared.fault.NodeFault.TheVariants as faults
+
+-- `extension_at i` is the extension at the front.
+unfoldable pub extension_at : Input → Option (Extension × Input)
+extension_at i = do
+  kind ← number_at w16 i
+  body ← vector_at kind.1
+  Some (record { kind = kind.0; body = body.0 }, body.1)
+
+-- `capabilities_at i` is the capabilities at the front.
+unfoldable pub capabilities_at : Input → Option (Capabilities × Input)
+capabilities_at i = do
+  versions ← codes_at i
+  cipher_suites ← codes_at versions.1
+  extensions ← codes_at cipher_suites.1
+  proposals ← codes_at extensions.1
+  credentials ← codes_at proposals.1
+  Some (record { versions = versions.0; cipher_suites = cipher_suites.0; extensions = extensions.0; proposals = proposals.0; credentials = credentials.0 }, credentials.1)
+
+-- `lifetime_at i` is the lifetime at the front.
+unfoldable pub lifetime_at : Input → Option (Lifetime × Input)
+lifetime_at i = do
+  not_before ← number_at w64 i
+  not_after ← number_at w64 not_before.1
+  Some (record { not_before = not_before.0; not_after = not_after.0 }, not_after.1)
+
+-- `source_at i` is the source of a leaf node at the front.
+unfoldable pub source_at : Input → Option (LeafSource × Input)
+source_at i = do
+  kind ← number_at w8 i
+  if nat_eq kind.0 1 then (lifetime_at kind.1 >>= λ x. Some (KeyPackage x.0, x.1))
+      else if nat_eq kind.0 2 then Some (Update, kind.1)
+      else if nat_eq kind.0 3 then (vector_at kind.1 >>= λ x. Some (Commit x.0, x.1))
+      else None
+
+-- `leaf_node_at i` is the leaf node at the front.
+unfoldable pub leaf_node_at : Input → Option (LeafNode × Input)
+leaf_node_at i = do
+  encryption_key ← vector_at i
+  signature_key ← vector_at encryption_key.1
+  credential ← credential_at signature_key.1
+  capabilities ← capabilities_at credential.1
+  source ← source_at capabilities.1
+  extensions ← list_at extension_at source.1
+  signature ← vector_at extensions.1
+  Some (
+    record {
+      encryption_key = encryption_key.0;
+      signature_key = signature_key.0;
+      credential = credential.0;
+      capabilities = capabilities.0;
+      source = source.0;
+      extensions = extensions.0;
+      signature = signature.0;
+    },
+    signature.1,
+  )
+
+-- `unmerged_at i` is the list of unmerged leaves at the front, within its limit.
+unfoldable pub unmerged_at : Input → Option (List ℕ × Input)
+unmerged_at i = do
+  leaves ← list_at (number_at w32) i
+  if nat_le (length leaves.0) leaf_limit then Some (leaves.0, leaves.1) else None
+
+-- `parent_node_at i` is the parent node at the front.
+unfoldable pub parent_node_at : Input → Option (ParentNode × Input)
+parent_node_at i = do
+  encryption_key ← vector_at i
+  parent_hash ← vector_at encryption_key.1
+  unmerged ← unmerged_at parent_hash.1
+  Some (record { encryption_key = encryption_key.0; parent_hash = parent_hash.0; unmerged = unmerged.0 }, unmerged.1)
+
+-- `node_model_at i` is the node at the front.
+unfoldable pub node_model_at : Input → Option (NodeValue × Input)
+node_model_at i = do
+  kind ← number_at w8 i
+  if nat_eq kind.0 1 then (leaf_node_at kind.1 >>= λ x. Some (leaf_node x.0, x.1))
+      else if nat_eq kind.0 2 then (parent_node_at kind.1 >>= λ x. Some (parent_node x.0, x.1))
+      else None
+
+-- `node_in node_index i` is the node at the front, which may be at this node index. Its type is checked before its
+-- body.
+unfoldable pub node_in : ℕ → Input → Option (NodeValue × Input)
+node_in node_index i = do
+  kind ← number_at w8 i
+  if nat_eq kind.0 1 && nat_eq (node_index % 2) 0 then (leaf_node_at kind.1 >>= λ x. Some (leaf_node x.0, x.1))
+      else if nat_eq kind.0 2 && nat_eq (node_index % 2) 1 then (parent_node_at kind.1 >>= λ x. Some (parent_node x.0, x.1))
+      else None
+
+-- `group_context_at i` is the GroupContext at the front.
+unfoldable pub group_context_at : Input → Option (GroupContext × Input)
+group_context_at i = do
+  version ← number_at w16 i
+  cipher_suite ← number_at w16 version.1
+  group_id ← vector_at cipher_suite.1
+  epoch ← number_at w64 group_id.1
+  tree_hash ← vector_at epoch.1
+  confirmed ← vector_at tree_hash.1
+  extensions ← list_at extension_at confirmed.1
+  Some (
+    record {
+      version = version.0;
+      cipher_suite = cipher_suite.0;
+      group_id = group_id.0;
+      epoch = epoch.0;
+      tree_hash = tree_hash.0;
+      confirmed = confirmed.0;
+      extensions = extensions.0;
+    },
+    extensions.1,
+  )
+
+-- `well_laid_out nodes` is the entries, if each may be at its node index.
+abbrev pub well_laid_out : Option (List (Option NodeValue)) → Option (List (Option NodeValue))
+well_laid_out None = None
+well_laid_out (Some nodes) = if has_valid_layout nodes then Some nodes else None
+
+-- `tree_at bytes` is the entries of a ratchet_tree up to the last non-blank one, read from all of the bytes.
+unfoldable pub tree_at : List ℕ → Option (List (Option NodeValue))
+tree_at bytes = do
+  body ← body_at (at 0 bytes)
+  nodes ← well_laid_out (items_at (optional_at node_model_at) (length body.0.left) body.0)
+  if ends_non_blank nodes then (if nat_eq (length body.1.left) 0 then Some nodes else None) else None
+
+-- `FindsNodes found result`: a call returned what was found. On error nothing was, or the call ran out of memory.
+abbrev pub FindsNodes : {A : Type 0} → Option A → Result A NodeFault → Type 0
+FindsNodes found (Ok x) = found ≡ Some x
+FindsNodes found (Err faults.OutOfMemory) = Unit {0}
+FindsNodes found (Err e) = found ≡ None
+
+-- `GivesNode read old new result`: a call returned what `read` returns, with the rest of the input. On error nothing is
+-- said of the rest.
+abbrev pub GivesNode : {A : Type 0} → (Input → Option (A × Input)) → Input → Input → Result A NodeFault → Type 0
+GivesNode read old new (Ok x) = read old ≡ Some (x, new)
+GivesNode read old new (Err faults.OutOfMemory) = Unit {0}
+GivesNode read old new (Err e) = read old ≡ None

@@ -1,5 +1,5 @@
 -- Which contents have a SignContent: those within the limit of a vector.
-use Rattle.std.proofs.Common.{◌≡◌, ℕ, ◌<◌, ◌≤◌, List, length, Option, Some, None, IsSome, false, refl, sym, ap, ◌∙◌, subst, inl, inr, arith}
+use Rattle.std.proofs.Common.{◌≡◌, ℕ, ◌<◌, ◌≤◌, List, length, Option, Some, None, IsSome, false, true, refl, sym, ap, ◌∙◌, subst, inl, inr, arith}
 use Rattle.std.specs.Prelude.{◌⊎◌, codes, option_map}
 use Rattle.mls_wire.specs.Encoding.{◌⊕◌, length_form, vector}
 use Rattle.mls_wire.specs.EncodingConcat.{no_left, no_right}
@@ -7,7 +7,7 @@ use Rattle.mls_wire.specs.EncodedSizes.{some_size, vector_some}
 use Rattle.mls_wire.specs.VectorsExact.{vector_within}
 use Rattle.mls_nodes.specs.declared.leaf.LeafNode.{LeafNode}
 use Rattle.mls_nodes.specs.LeafNodeTBS.{leaf_tbs}
-use Rattle.mls_check.specs.Signatures.{VerifyFn, sign_content, is_good, is_signed, is_signed_text}
+use Rattle.mls_check.specs.Signatures.{AcceptsAll, VerifyFn, sign_content, is_good, is_signed, is_signed_text}
 use Rattle.mls_check.specs.LeafValidation.{is_leaf_signed}
 
 both_there : (a b : Option (List ℕ)) → IsSome a → IsSome b → IsSome (a ⊕ b)
@@ -51,6 +51,21 @@ pub is_leaf_signed-over : (G : VerifyFn) (suite : ℕ) (group_id : List ℕ) (i 
     → option_map length (leaf_tbs x group_id i) ≡ Some n → 1073741823 < n → is_leaf_signed G suite group_id i x ≡ false
 unfolding is_leaf_signed
 is_leaf_signed-over G suite group_id i x n long over = is_signed_text-over G suite x.signature_key (codes "MLS 1.0 LeafNodeTBS") x.signature (leaf_tbs x group_id i) n long over
+
+-- the signature over a SignContent, if every signature is good
+good-all : (G : VerifyFn) (suite : ℕ) (key signature : List ℕ) → AcceptsAll G → (o : Option (List ℕ)) → IsSome o → is_good G suite key signature o ≡ true
+good-all G suite key signature all None there = absurd cc
+good-all G suite key signature all (Some content) there = all suite key content signature
+
+-- a leaf whose LeafNodeTBS is within the limit is signed, if every signature is good
+pub is_leaf_signed-all : (G : VerifyFn) (suite : ℕ) (group_id : List ℕ) (i : ℕ) (x : LeafNode) (n : ℕ)
+    → option_map length (leaf_tbs x group_id i) ≡ Some n → n ≤ 1073741823 → AcceptsAll G → is_leaf_signed G suite group_id i x ≡ true
+unfolding is_leaf_signed
+is_leaf_signed-all G suite group_id i x n long low all =
+    let t = some_size (leaf_tbs x group_id i) n long in
+    ap (λ o. is_signed_text G suite x.signature_key (codes "MLS 1.0 LeafNodeTBS") o x.signature) t.1
+    ∙ good-all G suite x.signature_key x.signature all (sign_content (codes "MLS 1.0 LeafNodeTBS") t.0)
+    (sign_content-within (codes "MLS 1.0 LeafNodeTBS") t.0 (omega arith) (omega (arith, t.2, low)))
 
 -- a vector whose body has this length
 body_sized : (tbs : List ℕ) (text : Option (List ℕ)) (n : ℕ) → text ≡ Some tbs → length tbs ≡ n → length_form n ⊕ text ≡ vector tbs

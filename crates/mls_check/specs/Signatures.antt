@@ -7,6 +7,10 @@ use Rattle.mls_wire.specs.Encoding.{◌⊕◌, vector}
 abbrev pub VerifyFn : Type 0
 VerifyFn = ℕ → List ℕ → List ℕ → List ℕ → Bool
 
+-- `AcceptsAll G`: every signature is good.
+abbrev pub AcceptsAll : VerifyFn → Type 0
+AcceptsAll G = (suite : ℕ) (key content signature : List ℕ) → G suite key content signature ≡ true
+
 -- `Extends G K`: what `G` accepts, `K` accepts.
 abbrev pub Extends : VerifyFn → VerifyFn → Type 0
 Extends G K =

@@ -101,6 +101,10 @@ impl SignatureCheck for Receipts {
             None => false,
         }
     }
+
+    fn accepts_all(&self) -> bool {
+        false
+    }
 }
 
 impl LearningCheck for Receipts {

@@ -1,7 +1,8 @@
 //! Signatures (RFC 9420, 5.1.2), which a checker verifies that the caller supplies.
 
 ghost use Rattle.std.specs.Prelude.{◌≡◌, ℕ, List, Bool, true, IfOk, IsErr, IsSome};
-ghost use Rattle.mls_check.specs.Signatures.{is_signed, sign_content};
+ghost use Rattle.std.specs.Bool.{OnTrue};
+ghost use Rattle.mls_check.specs.Signatures.{AcceptsAll, is_signed, sign_content};
 ghost use Rattle.mls_wire.specs.ReadContracts.{seen};
 ghost use Rattle.mls_wire.specs.WriteContracts.{Makes};
 
@@ -20,6 +21,11 @@ pub trait SignatureCheck: Drop {
     /// in the cipher suite `suite`.
     fn good(&self, suite: u16, key: &[u8], content: &[u8], signature: &[u8]) -> bool
         ensures { result ≡ meaning self.now suite key.now content.now signature.now };
+
+    /// Returns `true` only if every signature is good, whatever its content. For such a checker no content has to be
+    /// made. A checker that verifies signatures returns `false`.
+    fn accepts_all(&self) -> bool
+        ensures { OnTrue result (AcceptsAll (meaning self.now)) };
 }
 
 /// A checker that accepts each signature.
@@ -30,6 +36,10 @@ impl SignatureCheck for Trusting {
     ghost meaning = { λ _ _ _ _ _. true };
 
     fn good(&self, _suite: u16, _key: &[u8], _content: &[u8], _signature: &[u8]) -> bool {
+        true
+    }
+
+    fn accepts_all(&self) -> bool {
         true
     }
 }

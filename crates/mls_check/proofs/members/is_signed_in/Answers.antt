@@ -1,11 +1,17 @@
 use Rattle.std.proofs.Common.{◌∙◌, sym, arith}
 use Rattle.mls_nodes.proofs.Drafted.{drafted}
-use Rattle.mls_check.proofs.Contents.{is_leaf_signed-over, is_leaf_signed-content, sized_content-there}
+use Rattle.mls_tree.proofs.Entering.{true_gives}
+use Rattle.mls_check.proofs.Contents.{is_leaf_signed-all, is_leaf_signed-over, is_leaf_signed-content, sized_content-there}
 use Rattle.mls_check.proofs.members.is_signed_in.Goals as goal
 
 pub returns-then-len-clause-good : goal.returns-then-len-clause-good
 returns-then-len-clause-good g c =
     sym (is_leaf_signed-over _ c.args.suite c.args.group_id.now c.args.index c.args.leaf.now c.leaf_tbs_len-len.result c.leaf_tbs_len-len.ensures.length c.if-len.true)
+
+pub returns-then-accepts_all-clause-good : goal.returns-then-accepts_all-clause-good
+returns-then-accepts_all-clause-good g c =
+    sym (is_leaf_signed-all _ c.args.suite c.args.group_id.now c.args.index c.args.leaf.now c.leaf_tbs_len-len.result c.leaf_tbs_len-len.ensures.length c.if-len.false
+    (true_gives c.accepts_all.result c.if-accepts_all.true c.accepts_all.ensures))
 
 pub unreachable-requires : goal.unreachable-requires
 unreachable-requires g c =

@@ -13,5 +13,5 @@ returns-in-Ok-records-clause-queries c =
     c.as_slice-in-Ok-records.ensures.value ∙ c.in-Ok-records.ensures
     ∙ ap (λ (digests : List (List ℕ)). query_records (listed digests) c.as_slice.result.now) (c.checker.ensures ∙ c.signatures_to_verify.ensures.checker)
     ∙ ap (λ (list : List SignatureToVerify). query_records (meaning_in c.args.self.now) list) c.as_slice.ensures.value in
-    PutsQuery.lists c.in-Ok.signatures.items c.in-Ok.ensures.signatures
+    PutsQuery.lists c.in-Ok.signatures.items c.in-Ok.ensures.needed
     (subst (λ (xs : List ℕ). IsPut xs c.args.buffer.now c.put_sized.new.buffer c.put_sized.new.needed c.put_sized.result) same c.put_sized.ensures)

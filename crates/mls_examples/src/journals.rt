@@ -158,7 +158,7 @@ fn kept_changes_stay(rt: HostRuntime) -> Result<(), Fail> {
 }
 
 /// The node indices that a journal returns after changes of the tree of four leaves, one of which is unmerged.
-fn told(alloc: Global, changes: &[Change]) -> Result<String, Fail> {
+fn changed_node_indices(alloc: Global, changes: &[Change]) -> Result<String, Fail> {
     let mut tree = tree_with(alloc, GROWN)?;
     let mut journal = Journal::new(alloc);
     for step in changes {
@@ -190,7 +190,7 @@ fn changed_node_indices_are_returned(rt: HostRuntime) -> Result<(), Fail> {
         ),
     ];
     for (input, expected) in CHANGES {
-        expect_text(&rt, told(alloc, *input)?, expected);
+        expect_text(&rt, changed_node_indices(alloc, *input)?, expected);
     }
     Ok(())
 }

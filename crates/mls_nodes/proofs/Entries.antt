@@ -1,14 +1,14 @@
 -- Reading entries one after the other, each at its place, and whole trees.
 use Rattle.std.specs.Int.{w8}
-use Rattle.std.proofs.Common.{◌≡◌, ℕ, suc, ◌+◌, ◌≤◌, ◌<◌, Bool, true, false, ◌&&◌, List, [], ◌∷◌, ◌++◌, length, Option, Some, None, Err, refl, sym, ap, ◌∙◌, append_assoc, arith, length-append, nat_le, Result, Ok, cond, eqb, ◌-◌, ◌%◌, map, subst}
-use Rattle.std.proofs.lemmas.Bool.{leb-true, and_left, and_right, and_from, le-leb, lt-leb, eqb-true, and_parts}
+use Rattle.std.proofs.Common.{◌≡◌, ℕ, suc, ◌+◌, ◌≤◌, ◌<◌, Bool, true, false, ◌&&◌, List, [], ◌∷◌, ◌++◌, length, Option, Some, None, Err, refl, sym, ap, ◌∙◌, append_assoc, arith, nat_le, Result, Ok, cond, eqb, ◌-◌, ◌%◌, map, subst}
+use Rattle.std.proofs.lemmas.Bool.{leb-true, and_from, eqb-true, and_parts}
 use Rattle.mls_wire.specs.Input.{Input, at}
 use Rattle.mls_wire.specs.Parsing.{number_at, items_at, body_at, ◌>>=◌}
 use Rattle.mls_wire.specs.ParsingInternal.{flag_at, optional_at}
 use Rattle.mls_wire.specs.Encoding.{optional, items, list, sized}
-use Rattle.mls_wire.specs.ListLoops.{with_front, Shortens, shortens, items_stop, items_go_on}
+use Rattle.mls_wire.specs.ListLoops.{Shortens, shortens}
 use Rattle.mls_wire.specs.OptionalsExact.{optional_exact, optional_long}
-use Rattle.mls_wire.specs.ListsExact.{items_some, items_take, items_again, sized_of, sized_parts}
+use Rattle.mls_wire.specs.ListsExact.{items_take, items_again, sized_of, sized_parts}
 use Rattle.mls_wire.specs.ExactParsers.{IsExact}
 use Rattle.mls_wire.specs.OptionBind.{bind_some, some_is, allowed}
 use Rattle.mls_wire.specs.VectorsExact.{body_takes, body_again}
@@ -22,7 +22,7 @@ use Rattle.std.proofs.lemmas.List.{map_push}
 use Rattle.mls_wire.specs.ReadContracts.{seen}
 use Rattle.mls_nodes.specs.RatchetTreeEncoding.{full_from, full_size, filled}
 use Rattle.mls_nodes.specs.FilledTree.{full_from-doubles}
-use Rattle.mls_nodes.specs.ParsingInternal.{node_model_at, node_in, leaf_node_at, parent_node_at, well_laid_out, tree_at, FindsNodes, GivesNode}
+use Rattle.mls_nodes.specs.ParsingInternal.{node_model_at, node_in, leaf_node_at, parent_node_at, well_laid_out, tree_at}
 use Rattle.mls_nodes.specs.RatchetTreeContracts.{DecodesTree}
 use Rattle.mls_nodes.specs.declared.leaf.LeafNode.{LeafNode}
 use Rattle.mls_nodes.specs.declared.parent.ParentNode.{ParentNode}
@@ -42,41 +42,13 @@ stand_push p (y ∷ xs) x more =
     ap (λ (b : Bool). fits_at p y && b) (stand_push (p + 1) xs x more ∙ ap (λ (n : ℕ). fit_from (p + 1) xs && (fits_at n x && fit_from (n + 1) more)) e)
     ∙ and_assoc (fits_at p y) (fit_from (p + 1) xs) _
 
-refused : (ns : List (Option NodeValue)) → fit_from 0 ns ≡ false → well_laid_out (Some ns) ≡ None
-refused ns e = rw e refl
-
-pub wrong_node_index : (xs : List (Option NodeValue)) (x : Option NodeValue) (o total : Option (List (Option NodeValue))) → fits_at (length xs) x ≡ false → with_front (xs ++ x ∷ []) o ≡ total → well_laid_out total ≡ None
-wrong_node_index xs x None total h e = ap well_laid_out (sym e)
-wrong_node_index xs x (Some more) total h e =
-    let here : fits_at (0 + length xs) x ≡ false = ap (λ (n : ℕ). fits_at n x) (omega arith) ∙ h in
-    let bad : fit_from 0 (xs ++ x ∷ more) ≡ false = stand_push 0 xs x more ∙ and_right (fit_from 0 xs) _ (and_left _ (fit_from (0 + length xs + 1) more) here) in
-    let same : (xs ++ x ∷ []) ++ more ≡ xs ++ x ∷ more = append_assoc xs (x ∷ []) more in
-    ap well_laid_out (sym e) ∙ refused ((xs ++ x ∷ []) ++ more) (ap (fit_from 0) same ∙ bad)
-
 pub entry_short : Shortens (optional_at node_model_at)
 entry_short = shortens (optional node) (optional_at node_model_at) (optional_exact node node_model_at node_exact) (optional_long node)
-
-crowded : (ns : List (Option NodeValue)) → 2097151 < length ns → well_laid_out (Some ns) ≡ None
-crowded ns lt = rw (and_right (fit_from 0 ns) _ (lt-leb (length ns) 2097151 lt)) refl
-
-pub too_many : (xs ys : List (Option NodeValue)) (total : Option (List (Option NodeValue))) → 2097151 ≤ length xs → 0 < length ys → with_front xs (Some ys) ≡ total → well_laid_out total ≡ None
-too_many xs ys total le some e = ap well_laid_out (sym e) ∙ crowded (xs ++ ys) (omega (arith, length-append xs ys))
-
-too_many_of : (i : Input) (xs : List (Option NodeValue)) (o total : Option (List (Option NodeValue))) → items_at (optional_at node_model_at) (length i.left) i ≡ o → 2097151 ≤ length xs → (i.left ≡ [] → ⊥) → with_front xs o ≡ total → well_laid_out total ≡ None
-too_many_of i xs None total r le some e = ap well_laid_out (sym e)
-too_many_of i xs (Some ys) total r le some e = too_many xs ys total le (items_some (optional node) (optional_at node_model_at) (optional_exact node node_model_at node_exact) i ys some r) e
-
-pub too_many_entries : (i : Input) (xs : List (Option NodeValue)) (total : Option (List (Option NodeValue))) → 2097151 ≤ length xs → (i.left ≡ [] → ⊥)
-    → with_front xs (items_at (optional_at node_model_at) (length i.left) i) ≡ total → well_laid_out total ≡ None
-too_many_entries i xs total le some e = too_many_of i xs (items_at (optional_at node_model_at) (length i.left) i) total refl le some e
 
 pub stand_more : (xs : List (Option NodeValue)) (x : Option NodeValue) → fit_from 0 xs ≡ true → fits_at (length xs) x ≡ true → fit_from 0 (xs ++ x ∷ []) ≡ true
 stand_more xs x p q =
     let here : fits_at (0 + length xs) x ≡ true = ap (λ (n : ℕ). fits_at n x) (omega arith) ∙ q in
     stand_push 0 xs x [] ∙ and_from _ _ p (and_from _ _ here refl)
-
-pub all_well_laid_out : (xs : List (Option NodeValue)) → fit_from 0 xs ≡ true → length xs ≤ 2097151 → well_laid_out (Some xs) ≡ Some xs
-all_well_laid_out xs p le = rw (p, le-leb (length xs) 2097151 le) refl
 
 -- ---- an entry whose kind is judged before its body
 
@@ -85,7 +57,7 @@ abbrev kept : ℕ → Option (NodeValue × Input) → Option (NodeValue × Input
 kept node_index None = None
 kept node_index (Some n) = cond (fits_at node_index (Some n.0)) (Some n) None
 
-abbrev entry_kept : ℕ → Option (Option NodeValue × Input) → Option (Option NodeValue × Input)
+abbrev pub entry_kept : ℕ → Option (Option NodeValue × Input) → Option (Option NodeValue × Input)
 entry_kept node_index None = None
 entry_kept node_index (Some x) = cond (fits_at node_index x.0) (Some x) None
 
@@ -137,7 +109,7 @@ entry_of : (node_index : ℕ) (o : Option (Bool × Input))
 entry_of node_index None = refl
 entry_of node_index (Some there) = there_kept node_index there.0 there.1
 
-entry_in-kept : (node_index : ℕ) (i : Input) → optional_at (node_in node_index) i ≡ entry_kept node_index (optional_at node_model_at i)
+pub entry_in-kept : (node_index : ℕ) (i : Input) → optional_at (node_in node_index) i ≡ entry_kept node_index (optional_at node_model_at i)
 unfolding optional_at
 entry_in-kept node_index i = entry_of node_index (flag_at i)
 
@@ -151,29 +123,9 @@ kept_is node_index (Some y) x j e =
 pub entry_found : (node_index : ℕ) (i : Input) (x : Option NodeValue) (j : Input) → optional_at (node_in node_index) i ≡ Some (x, j) → (optional_at node_model_at i ≡ Some (x, j)) × (fits_at node_index x ≡ true)
 entry_found node_index i x j e = kept_is node_index (optional_at node_model_at i) x j (sym (entry_in-kept node_index i) ∙ e)
 
-refused_test : {A : Type 0} (b : Bool) (x : A) → cond b (Some x) None ≡ None → b ≡ false
+pub refused_test : {A : Type 0} (b : Bool) (x : A) → cond b (Some x) None ≡ None → b ≡ false
 refused_test true x e = absurd cc
 refused_test false x e = refl
-
-entry_lost : (xs : List (Option NodeValue)) (i : Input) (o : Option (Option NodeValue × Input)) (total : Option (List (Option NodeValue))) → (i.left ≡ [] → ⊥) → optional_at node_model_at i ≡ o → entry_kept (length xs) o ≡ None
-    → with_front xs (items_at (optional_at node_model_at) (length i.left) i) ≡ total → well_laid_out total ≡ None
-entry_lost xs i None total some read none e = ap well_laid_out (items_stop (optional_at node_model_at) entry_short xs i total some read e)
-entry_lost xs i (Some y) total some read none e =
-    wrong_node_index xs y.0 _ total (refused_test (fits_at (length xs) y.0) y none) (items_go_on (optional_at node_model_at) entry_short xs i y.0 y.1 total some read e)
-
--- where no entry was read there is no tree
-pub entry_refused : (i : Input) (xs : List (Option NodeValue)) (total : Option (List (Option NodeValue))) → (i.left ≡ [] → ⊥) → optional_at (node_in (length xs)) i ≡ None
-    → with_front xs (items_at (optional_at node_model_at) (length i.left) i) ≡ total → well_laid_out total ≡ None
-entry_refused i xs total some none e = entry_lost xs i (optional_at node_model_at i) total some refl (sym (entry_in-kept (length xs) i) ∙ none) e
-
-pub entry_fault : (e : NodeFault) (node_index : ℕ) (i new : Input) (xs : List (Option NodeValue)) (total : Option (List (Option NodeValue))) → (i.left ≡ [] → ⊥) → node_index ≡ length xs
-    → GivesNode (optional_at (node_in node_index)) i new (Err e) → with_front xs (items_at (optional_at node_model_at) (length i.left) i) ≡ total → FindsNodes {A = List (Option NodeValue)} (well_laid_out total) (Err e)
-entry_fault nodes.OutOfMemory node_index i new xs total some p h e = tt
-entry_fault (nodes.Wire f) node_index i new xs total some p h e = entry_refused i xs total some (subst (λ (n : ℕ). optional_at (node_in n) i ≡ None) p h) e
-entry_fault (nodes.WrongNodeKind f) node_index i new xs total some p h e = entry_refused i xs total some (subst (λ (n : ℕ). optional_at (node_in n) i ≡ None) p h) e
-entry_fault nodes.LastBlank node_index i new xs total some p h e = entry_refused i xs total some (subst (λ (n : ℕ). optional_at (node_in n) i ≡ None) p h) e
-entry_fault nodes.EmptyTree node_index i new xs total some p h e = entry_refused i xs total some (subst (λ (n : ℕ). optional_at (node_in n) i ≡ None) p h) e
-entry_fault nodes.TooManyLeaves node_index i new xs total some p h e = entry_refused i xs total some (subst (λ (n : ℕ). optional_at (node_in n) i ≡ None) p h) e
 
 -- ---- whole trees
 
@@ -225,14 +177,6 @@ tree_few bytes nodes e =
     let a = allowed (has_valid_layout nodes && ends_non_blank nodes) (list (optional node) nodes) bytes (tree_takes bytes nodes e) in
     let b = and_parts (has_valid_layout nodes) (ends_non_blank nodes) a.0 in
     leb-true (length nodes) 2097151 (and_parts (fit_from 0 nodes) _ b.0).1
-
-pub is_refused : (e : NodeFault) (bytes : List ℕ) → FindsNodes {A = List (Option NodeValue)} (tree_at bytes) (Err e) → DecodesTree bytes (Err e)
-is_refused nodes.OutOfMemory bytes h = tt
-is_refused (nodes.Wire w) bytes h = λ ns e le. let bad = sym h ∙ tree_again bytes ns e in absurd cc
-is_refused (nodes.WrongNodeKind w) bytes h = λ ns e le. let bad = sym h ∙ tree_again bytes ns e in absurd cc
-is_refused nodes.LastBlank bytes h = λ ns e le. let bad = sym h ∙ tree_again bytes ns e in absurd cc
-is_refused nodes.EmptyTree bytes h = λ ns e le. let bad = sym h ∙ tree_again bytes ns e in absurd cc
-is_refused nodes.TooManyLeaves bytes h = λ ns e le. let bad = sym h ∙ tree_again bytes ns e in absurd cc
 
 -- ---- filling up
 

@@ -1,4 +1,5 @@
 pub mod Entries
+pub mod RestOfTree
 pub mod Limits
 mod SortedLists
 pub mod Trimming

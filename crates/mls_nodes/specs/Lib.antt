@@ -7,6 +7,7 @@ pub mod RatchetTreeEncoding
 pub mod FilledTree
 pub mod RatchetTreeContracts
 pub mod RatchetTreeContractsInternal
+pub mod RatchetTreeReading
 pub mod Requirements
 pub mod ExternalSenders
 pub mod LeafNodeTBS

@@ -1,13 +1,13 @@
 -- Reading nodes, GroupContexts and trees from left to right, as functions of the input. Internal: no public contract
 -- uses this, except that of `Decode::read`.
-use Rattle.std.specs.Prelude.{◌≡◌, ℕ, ◌%◌, List, length, ◌&&◌, Option, Some, None, Result, Ok, Err, nat_eq, nat_le, if◌then◌else◌}
+use Rattle.std.specs.Prelude.{◌≡◌, ℕ, ◌+◌, ◌%◌, List, [], ◌∷◌, length, Bool, ◌&&◌, Option, Some, None, Result, Ok, Err, nat_eq, nat_le, if◌then◌else◌}
 use Rattle.std.specs.Int.{w8, w16, w32, w64}
 use Rattle.mls_wire.specs.Input.{Input, at}
 use Rattle.mls_wire.specs.Parsing.{◌>>=◌, number_at, vector_at, list_at, body_at, items_at}
 use Rattle.mls_wire.specs.ParsingInternal.{optional_at}
-use Rattle.mls_nodes.specs.Limits.{leaf_limit}
+use Rattle.mls_nodes.specs.Limits.{leaf_limit, entry_limit}
 use Rattle.mls_nodes.specs.NodeModel.{NodeValue, leaf_node, parent_node}
-use Rattle.mls_nodes.specs.RatchetTreeEncoding.{has_valid_layout, ends_non_blank}
+use Rattle.mls_nodes.specs.RatchetTreeEncoding.{fit_from, has_valid_layout, ends_non_blank}
 use Rattle.mls_nodes.specs.Parsing.{credential_at, codes_at}
 use Rattle.mls_nodes.specs.declared.leaf_source.LeafSource.{LeafSource}
 use Rattle.mls_nodes.specs.declared.leaf_source.LeafSource.TheVariants.{KeyPackage, Update, Commit}
@@ -142,11 +142,24 @@ tree_at bytes = do
   nodes ← well_laid_out (items_at (optional_at node_model_at) (length body.0.left) body.0)
   if ends_non_blank nodes then (if nat_eq (length body.1.left) 0 then Some nodes else None) else None
 
--- `FindsNodes found result`: a call returned what was found. On error nothing was, or the call ran out of memory.
-abbrev pub FindsNodes : {A : Type 0} → Option A → Result A NodeFault → Type 0
-FindsNodes found (Ok x) = found ≡ Some x
-FindsNodes found (Err faults.OutOfMemory) = Unit {0}
-FindsNodes found (Err e) = found ≡ None
+-- `ends_after is_non_blank nodes`: the last of these entries is non-blank, or there are none and `is_non_blank` says so of
+-- the one before them.
+abbrev pub ends_after : Bool → List (Option NodeValue) → Bool
+ends_after is_non_blank [] = is_non_blank
+ends_after is_non_blank (x ∷ xs) = ends_non_blank (x ∷ xs)
+
+-- `ending node_index is_non_blank is_whole nodes` is the entries, the first at this node index, if each may be at its
+-- node index, they end in a non-blank one, and `is_whole` says that no byte is after them.
+abbrev pub ending : ℕ → Bool → Bool → Option (List (Option NodeValue)) → Option (List (Option NodeValue))
+ending node_index is_non_blank is_whole None = None
+ending node_index is_non_blank is_whole (Some nodes) =
+    if (fit_from node_index nodes && nat_le (node_index + length nodes) entry_limit) && (ends_after is_non_blank nodes && is_whole) then Some nodes else None
+
+-- `rest_at node_index is_non_blank after body` is the last entries of a ratchet_tree, which are all of `body`. `after` is
+-- the input after the vector.
+unfoldable pub rest_at : ℕ → Bool → Input → Input → Option (List (Option NodeValue))
+rest_at node_index is_non_blank after body =
+    ending node_index is_non_blank (nat_eq (length after.left) 0) (items_at (optional_at node_model_at) (length body.left) body)
 
 -- `GivesNode read old new result`: a call returned what `read` returns, with the rest of the input. On error nothing is
 -- said of the rest.

@@ -3,9 +3,11 @@
 
 mod decode;
 mod encode;
+mod reader;
 
-pub use decode::decode_ratchet_tree;
+pub use decode::{decode_ratchet_tree, full_size_of};
 pub use encode::encode_ratchet_tree;
+pub use reader::RatchetTreeReader;
 
 /// The most entries of a tree, those of 1,048,576 leaves.
 const MAX_ENTRIES: usize = 2097151;

@@ -2,7 +2,7 @@
 use Rattle.std.proofs.Common.{◌≡◌, ◌≢◌, get_or, ℕ, zero, suc, ◌+◌, ◌*◌, ◌-◌, ◌/◌, ◌<◌, ◌≤◌, List, [], ◌∷◌, ◌++◌, drop, length, Option, Some, None, true, false, refl, sym, ap, ◌∙◌, subst, inl, inr, arith, unwrap_or, nat_lt, Box, Global}
 use Rattle.std.specs.Prelude.{slice_get, ◌⊎◌, ◌==◌, if◌then◌else◌, option_map}
 use Rattle.std.specs.List.{list_any, range_with_len}
-use Rattle.std.proofs.lemmas.Bool.{cases_lt, cases_eq, cases_order}
+use Rattle.std.proofs.lemmas.Bool.{cases_lt}
 use Rattle.std.proofs.lemmas.Bool.Decides.{nat_tests}
 use Rattle.std.proofs.lemmas.List.{append_assoc, drop_more}
 use Rattle.std.proofs.lemmas.List.Folds.{list_any-append}
@@ -10,11 +10,11 @@ use Rattle.std.proofs.lemmas.Option.{slice_get_past}
 use Rattle.std.proofs.Math.ListN.{drop_of_length-le}
 use Rattle.mls_nodes.specs.declared.leaf.LeafNode.{LeafNode}
 use Rattle.mls_nodes.specs.declared.parent.ParentNode.{ParentNode}
-use Rattle.mls_tree.specs.Tree.{Tree, leaf, branch, height, leaf_count, listing, leaf_entry, parent_entry, node_at, Subtree, subtree_at, IsBranch, IsParent, IsPerfect}
+use Rattle.mls_tree.specs.Tree.{Tree, leaf, branch, height, leaf_count, listing, leaf_entry, parent_entry, node_at, Subtree, subtree_at, IsBranch, IsParent, IsPerfect, entry_of}
 use Rattle.mls_tree.specs.TreeInternal.{leaves_at}
 use Rattle.mls_tree.specs.RatchetTree.{HasShape, RatchetTree}
 use Rattle.mls_tree.specs.PublicTreeModel.{KeptTree}
-use Rattle.mls_tree.specs.TreeOperations.{put_leaf, put_parent, left_subtree, with_left, rejoined}
+use Rattle.mls_tree.specs.TreeOperations.{put_leaf, put_parent, left_subtree, rejoined}
 use Rattle.mls_tree.specs.Journals.{undone, all_undone}
 use Rattle.mls_tree.specs.ChangedNodes.{AgreeExceptAt}
 use Rattle.mls_tree.specs.declared.journal.UndoEntry.{UndoEntry}
@@ -25,10 +25,10 @@ use Rattle.mls_tree.proofs.Elsewhere.{put_parent-elsewhere}
 use Rattle.mls_tree.proofs.Growing.{slice_get-append_left}
 use Rattle.mls_tree.proofs.Kept.{either, or_none, height-put_leaf, IsPerfect-put_leaf, leaf_count-put_leaf, leaf_count-put_parent}
 use Rattle.mls_tree.proofs.Positions.{node_at-listing}
-use Rattle.mls_tree.proofs.Rejoining.{rejoined-fits, rejoined-not}
+use Rattle.mls_tree.proofs.Fronts.{rejoined-low, shape-rejoined, fewer-leaves, leaves-le, leaf_count-rejoined, subtree_at-kept}
 use Rattle.mls_tree.proofs.Replacing.{listing-put_leaf, listing-put_parent}
-use Rattle.mls_tree.proofs.Trees.{leaf_count-positive, leaf_count-perfect, length-listing}
-use Rattle.mls_tree.proofs.Numbers.{leaves_at-positive, leaves_at-le, leaves_at-low}
+use Rattle.mls_tree.proofs.Trees.{leaf_count-positive, leaf_count-perfect, length-listing, subtree_at-none}
+use Rattle.mls_tree.proofs.Numbers.{leaves_at-low}
 
 -- ---- lists of places
 
@@ -117,10 +117,6 @@ same-left : (l : Tree) (n : Option ParentNode) (r : Tree) (a c : ℕ) → a ≡ 
 same-left l n r a c from count p out =
     left-entry l n r p (elim (outside a c p out) [ inl lt ↦ inl (omega arith) | inr ge ↦ inr (omega arith) ])
 
-same-right : (l : Tree) (n : Option ParentNode) (r : Tree) (a c : ℕ) → a ≡ 2 * leaf_count l - 1 → c ≡ 2 * leaf_count r
-    → AgreeExceptAt (range_with_len a c) (branch l n r) l
-same-right l n r a c from count p out = sym (same-left l n r a c from count p out)
-
 halves-count : (l r : Tree) (n : Option ParentNode) → IsPerfect (branch l n r) → leaf_count l ≡ leaf_count r
 halves-count l r n h = leaf_count-perfect l h.1 ∙ ap leaves_at h.0 ∙ sym (leaf_count-perfect r h.2)
 
@@ -152,20 +148,6 @@ shape-put_parent t p x s = record { perfect = IsPerfect-put_parent 0 t p x s.per
 shape-left_subtree : (t : Tree) → HasShape t → HasShape (left_subtree t)
 shape-left_subtree (leaf x) s = s
 shape-left_subtree (branch l n r) s = record { perfect = s.perfect.1; low = let low = s.low in omega arith }
-
-shape-with_left : (t w : Tree) → HasShape t → HasShape w → height t + 1 ≡ height w → HasShape (with_left t w)
-shape-with_left t (leaf x) s big e = big
-shape-with_left t (branch l n r) s big e = record {
-  perfect = (let level = big.perfect.0 in let same : height t ≡ height r = omega arith in same, s.perfect, big.perfect.2);
-  low = let low = big.low in omega arith;
-}
-
-shape-rejoined : (t w : Tree) → HasShape t → HasShape w → HasShape (rejoined t w)
-shape-rejoined t w s big =
-    elim (cases_eq (height t + 1) (height w)) [
-      | inl e ↦ subst HasShape (sym (rejoined-fits t w e)) (shape-with_left t w s big e)
-      | inr away ↦ subst HasShape (sym (rejoined-not t w away)) s
-    ]
 
 shape-before : (x : UndoEntry) (t : Tree) → HasShape t → HasShape (undone x t)
 shape-before (Leaf i x) t s =
@@ -241,52 +223,37 @@ pub lists_changes-grown : (old new : List ℕ) (n half : ℕ) → n ≢ 1 → ha
 lists_changes-grown old new n half more at pushed =
     lists_changes-added old new (range_with_len (2 * half - 1) (2 * (n - half))) n half Extended pushed (λ t e. half-changes_listed t.tree n half t.shape.perfect e more at)
 
--- trees are as high as they have leaves
-count-up : (t w : Tree) → IsPerfect t → IsPerfect w → height t + 1 ≡ height w → leaf_count w ≡ 2 * leaf_count t
-count-up t w h k e =
-    let next : height w ≡ suc (height t) = omega arith in
-    let double : leaves_at (height w) ≡ leaves_at (height t) + leaves_at (height t) = ap leaves_at next in
-    omega (arith, leaf_count-perfect t h, leaf_count-perfect w k)
+pub few-leaves : (t : Tree) → HasShape t → leaf_count t ≤ 1048576
+few-leaves t s = omega (arith, leaf_count-perfect t s.perfect, leaves_at-low (height t) s.low)
 
-height-up : (t w : Tree) → IsPerfect t → IsPerfect w → leaf_count w ≡ 2 * leaf_count t → height t + 1 ≡ height w
-height-up t w h k e =
-    let a = leaf_count-perfect t h in
-    let b = leaf_count-perfect w k in
-    let pos = leaves_at-positive (height t) in
-    elim (cases_order (height t + 1) (height w)) [
-      | inl at ↦ at
-      | inr (inl lt) ↦
-          (let le : leaves_at (suc (suc (height t))) ≤ leaves_at (height w) = leaves_at-le (suc (suc (height t))) (height w) (omega arith) in
-          absurd (omega arith))
-      | inr (inr gt) ↦
-          (let le : leaves_at (height w) ≤ leaves_at (height t) = leaves_at-le (height w) (height t) (omega arith) in
-          absurd (omega arith))
-    ]
+-- a tree with as many leaves is as high
+not-higher : (t w : Tree) → IsPerfect t → IsPerfect w → leaf_count w ≤ leaf_count t → height w ≤ height t
+not-higher t w a b le = elim (cases_lt (height t) (height w)) [ inl lt ↦ absurd (let more = fewer-leaves t w a b lt in omega arith) | inr ge ↦ ge ]
 
-pub lists_changes-no_whole : (old new : List ℕ) (n : ℕ) (b : Box KeptTree Global) → leaf_count b.value.tree ≢ 2 * n → new ≡ old → Lists old new n n (Truncated b)
-lists_changes-no_whole old new n b away stays =
+pub lists_changes-no_whole : (old new : List ℕ) (n : ℕ) (b : Box KeptTree Global) → leaf_count b.value.tree ≤ n → new ≡ old → Lists old new n n (Truncated b)
+lists_changes-no_whole old new n b low stays =
     let w = b.value in
-    lists_changes-none old new n (Truncated b) stays
-    (λ t e. rejoined-not t.tree w.tree (λ up. away (count-up t.tree w.tree t.shape.perfect w.shape.perfect up ∙ ap (λ k. 2 * k) e)))
+    lists_changes-none old new n (Truncated b) stays (λ t e. rejoined-low t.tree w.tree (not-higher t.tree w.tree t.shape.perfect w.shape.perfect (omega arith)))
 
-whole-changes_listed : (t w : Tree) (n : ℕ) → IsPerfect t → IsPerfect w → leaf_count t ≡ n → leaf_count w ≡ 2 * n → height t + 1 ≡ height w
-    → (leaf_count (with_left t w) ≡ leaf_count w) × AgreeExceptAt (range_with_len (2 * n - 1) (2 * n)) (with_left t w) t
-whole-changes_listed t (leaf x) n h k e double up = absurd (omega arith)
-whole-changes_listed t (branch l v r) n h k e double up =
-    let level = halves-count l r v k in
-    (omega arith, same-right t v r (2 * n - 1) (2 * n) (omega arith) (omega arith))
+-- behind the leftmost subtree are the nodes of the whole
+same-rejoined : (t w : Tree) (n m : ℕ) → IsPerfect t → IsPerfect w → leaf_count t ≡ n → leaf_count w ≡ m → n < m
+    → (leaf_count (rejoined t w) ≡ m) × AgreeExceptAt (range_with_len (2 * n - 1) (2 * (m - n))) (rejoined t w) t
+same-rejoined t w n m a b few many more =
+    let low : height t ≤ height w = elim (cases_lt (height w) (height t)) [ inl lt ↦ absurd (let less = leaves-le w t b a (omega arith) in omega arith) | inr ge ↦ ge ] in
+    let count = leaf_count-rejoined t w a b low in (
+      count ∙ many,
+      λ p out. elim (outside (2 * n - 1) (2 * (m - n)) p out) [
+        | inl lt ↦ ap entry_of (subtree_at-kept t w p (omega arith))
+        | inr ge ↦ ap entry_of (subtree_at-none 0 (rejoined t w) p (omega arith) ∙ sym (subtree_at-none 0 t p (omega arith)))
+      ],
+    )
 
-pub lists_changes-halved : (old new : List ℕ) (n m : ℕ) (b : Box KeptTree Global) → m ≡ leaf_count b.value.tree → m ≡ 2 * n → new ≡ old ++ range_with_len (2 * n - 1) (2 * n) → Lists old new n m (Truncated b)
-lists_changes-halved old new n m b whole double pushed =
+pub lists_changes-truncated : (old new : List ℕ) (n m : ℕ) (b : Box KeptTree Global) → m ≡ leaf_count b.value.tree → n < m → new ≡ old ++ range_with_len (2 * n - 1) (2 * (m - n))
+    → Lists old new n m (Truncated b)
+lists_changes-truncated old new n m b whole more pushed =
     let w = b.value in
-    lists_changes-added old new (range_with_len (2 * n - 1) (2 * n)) n m (Truncated b) pushed
-    (λ t e.
-    let up = height-up t.tree w.tree t.shape.perfect w.shape.perfect (omega arith) in
-    let changes_listed = whole-changes_listed t.tree w.tree n t.shape.perfect w.shape.perfect e (omega arith) up in
-    let fits = rejoined-fits t.tree w.tree up in (
-      ap leaf_count fits ∙ changes_listed.0 ∙ sym whole,
-      subst (λ v. AgreeExceptAt (range_with_len (2 * n - 1) (2 * n)) v t.tree) (sym fits) changes_listed.1,
-    ))
+    lists_changes-added old new (range_with_len (2 * n - 1) (2 * (m - n))) n m (Truncated b) pushed
+    (λ t e. same-rejoined t.tree w.tree n m t.shape.perfect w.shape.perfect e (sym whole) more)
 
 -- ---- what is told of the last changes of a journal
 
@@ -305,9 +272,8 @@ changes_listed-positive xs t node_indices n changes_listed = let e = changes_lis
 
 pub changes_listed-low : (xs : List UndoEntry) (t : Tree) (node_indices : List ℕ) (n : ℕ) → AreListedOf xs t node_indices n → n ≤ 1048576
 changes_listed-low xs t node_indices n changes_listed =
-    let u = all_undone xs t in
     let e = changes_listed.count in
-    omega (arith, leaf_count-perfect u changes_listed.shape.perfect, leaves_at-low (height u) changes_listed.shape.low)
+    omega (arith, few-leaves (all_undone xs t) changes_listed.shape)
 
 -- the change before
 module _ (all : List UndoEntry) (i : ℕ) (x : UndoEntry) (t : Tree) (old : List ℕ) (n : ℕ) (changes_listed : AreListedOf (drop i all) t old n)

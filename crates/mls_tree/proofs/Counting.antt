@@ -10,13 +10,14 @@ use Rattle.mls_tree.specs.declared.subtree_counts.Count.{Count}
 use Rattle.mls_tree.specs.Tree.{Tree, leaf, branch, leaf_count, member_count}
 use Rattle.mls_tree.specs.TreeInternal.{leaves_at}
 use Rattle.mls_tree.specs.NodeArray.{parent_part, tree_in}
-use Rattle.mls_tree.specs.TreeOperations.{put_leaf, put_parent, change_above, truncate, has_non_blank_leaf, left_subtree}
+use Rattle.mls_tree.specs.TreeOperations.{put_leaf, put_parent, change_above, front_subtree}
 use Rattle.mls_tree.specs.SubtreeCounts.{parent_weight, non_blank_count, subtree_count, AreCounts, AreOutside, IsKeptOutside}
 use Rattle.mls_tree.proofs.Choices.{below, from, here, before, after}
 use Rattle.mls_tree.proofs.Trees.{leaf_count-positive}
 use Rattle.mls_tree.proofs.Arrays.{leaf_count-tree_in, slice_get-set_same, slice_get-set_other}
+use Rattle.mls_tree.proofs.Fronts.{to_front}
 use Rattle.mls_tree.proofs.Growing.{slice_get-take}
-use Rattle.mls_tree.proofs.Kept.{either, leaf_count-put_leaf, leaf_count-put_parent, leaf_count-change_above}
+use Rattle.mls_tree.proofs.Kept.{leaf_count-put_leaf, leaf_count-put_parent, leaf_count-change_above}
 use Rattle.mls_tree.proofs.Numbers.{leaves_at-positive}
 use Rattle.mls_tree.proofs.Walking.{tree_in-split}
 
@@ -243,13 +244,8 @@ beside-put_parent first (branch l n r) q x i cs e ok =
 
 -- ---- a part of the tree
 
-pub AreCounts-left_subtree : (first : ℕ) (t : Tree) (cs : List Count) → AreCounts first t cs → AreCounts first (left_subtree t) cs
-AreCounts-left_subtree first (leaf x) cs ok = ok
-AreCounts-left_subtree first (branch l n r) cs ok = ok.0
-
-pub AreCounts-truncate : (first : ℕ) (t : Tree) (cs : List Count) → AreCounts first t cs → AreCounts first (truncate t) cs
-AreCounts-truncate first (leaf x) cs ok = ok
-AreCounts-truncate first (branch l n r) cs ok = either (λ t. AreCounts first t cs) (has_non_blank_leaf r) (branch l n r) (truncate l) ok (AreCounts-truncate first l cs ok.0)
+pub AreCounts-front : (h : ℕ) (t : Tree) (cs : List Count) → AreCounts 0 t cs → AreCounts 0 (front_subtree h t) cs
+AreCounts-front h t cs = to_front h (λ w f. AreCounts 0 w cs → AreCounts 0 f cs) (λ w ok. ok) (λ l n r ge ih ok. ih ok.0) t
 
 pub AreCounts-take : (t : Tree) (cs : List Count) (k : ℕ) → k + 1 ≡ leaf_count t → AreCounts 0 t cs → AreCounts 0 t (take k cs)
 AreCounts-take t cs k e ok = AreCounts-same cs (take k cs) 0 t (λ p low high. slice_get-take cs k p (omega arith)) ok

@@ -7,7 +7,7 @@ use Rattle.mls_tree.specs.declared.subtree_counts.Count.{Count}
 use Rattle.mls_tree.specs.Tree.{Tree, leaf, branch, leaf_count, member_count, Subtree, subtree_at}
 use Rattle.mls_tree.specs.TreeInternal.{leaves_at}
 use Rattle.mls_tree.specs.NodeArray.{tree_in}
-use Rattle.mls_tree.specs.TreeOperations.{has_non_blank_leaf, left_subtree}
+use Rattle.mls_tree.specs.TreeOperations.{has_non_blank_leaf}
 use Rattle.mls_tree.specs.Paths.{resolution}
 use Rattle.mls_tree.specs.SubtreeCounts.{non_blank_count, AreCounts}
 use Rattle.mls_tree.specs.CountsModel.{AreCountsIfAny}
@@ -15,8 +15,6 @@ use Rattle.mls_tree.proofs.Choices.{is_less, not_less}
 use Rattle.mls_tree.proofs.Arrays.{leaf_count-tree_in}
 use Rattle.mls_tree.proofs.Trees.{along}
 use Rattle.mls_tree.proofs.Walking.{tree_in-split, append-set, append-set_right, leaves_at-split}
-use Rattle.mls_tree.proofs.KeptSlots.{leaf_count-left_subtree}
-use Rattle.mls_tree.proofs.Counting.{AreCounts-left_subtree}
 
 -- ---- counts of the whole have those of the halves
 
@@ -98,7 +96,3 @@ resolution-subtree_count leaves first t n e = (
   λ some. resolution-some leaves first t (let lt = ltb-true 0 n some in omega arith),
   λ some. elim (cases_lt 0 n) [ inl lt ↦ is_less 0 n lt | inr ge ↦ absurd (some (resolution-none leaves first t (omega arith))) ],
 )
-
-pub if_any-left_subtree : (o : Option (List Count)) (t : Tree) → AreCountsIfAny o 0 t → AreCountsIfAny o 0 (left_subtree t)
-if_any-left_subtree None t ok = tt
-if_any-left_subtree (Some cs) t ok = (let capacity = ok.0 in let low = leaf_count-left_subtree t in omega arith, AreCounts-left_subtree 0 t cs ok.1)

@@ -76,7 +76,7 @@ emptied-filled slots (q ∷ ps) p h e =
 
 module _ (first p : ℕ) (l : Tree) (n m : Option ParentNode) (r : Tree) where
   -- the left half is another one
-  in_left : (v : Tree) → leaf_count v ≡ leaf_count l → (p ≡ 2 * (first + leaf_count l) - 1 → ⊥) → subtree_at first v p ≡ subtree_at first l p
+  pub in_left : (v : Tree) → leaf_count v ≡ leaf_count l → (p ≡ 2 * (first + leaf_count l) - 1 → ⊥) → subtree_at first v p ≡ subtree_at first l p
       → subtree_at first (branch v m r) p ≡ subtree_at first (branch l n r) p
   in_left v c away e =
       let pos = leaf_count-positive l in
@@ -99,7 +99,7 @@ module _ (first p : ℕ) (l : Tree) (n m : Option ParentNode) (r : Tree) where
       ]
 
 -- the direct path below the root
-abbrev if_path : ℕ → Tree → Tree → ℕ → List ℕ
+abbrev pub if_path : ℕ → Tree → Tree → ℕ → List ℕ
 if_path first l r i = if nat_lt i (first + leaf_count l) then direct_path first l i else direct_path (first + leaf_count l) r i
 
 pub beside-put_leaf : (first : ℕ) (t : Tree) (i : ℕ) (x : Option LeafNode) (p : ℕ) → first ≤ i → i < first + leaf_count t → (p ≡ 2 * i → ⊥) → IsAway p (direct_path first t i)

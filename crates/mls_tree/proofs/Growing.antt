@@ -1,5 +1,5 @@
--- The array cut to its left half, and made twice as large.
-use Rattle.std.proofs.Common.{◌≡◌, ◌≢◌, ℕ, zero, suc, ◌+◌, ◌*◌, ◌-◌, ◌<◌, ◌≤◌, List, [], ◌∷◌, ◌++◌, length, take, replicate, Option, Some, None, Result, Ok, Err, OnErr, refl, sym, ap, ◌∙◌, subst, inl, inr, arith, length-append}
+-- The array cut to its first nodes, and made twice as large.
+use Rattle.std.proofs.Common.{◌≡◌, ℕ, zero, suc, ◌+◌, ◌*◌, ◌-◌, ◌<◌, ◌≤◌, List, [], ◌∷◌, ◌++◌, length, take, replicate, Option, Some, None, Result, Ok, Err, OnErr, refl, sym, ap, ◌∙◌, subst, inl, inr, arith, length-append}
 use Rattle.std.specs.Prelude.{slice_get, ◌⊎◌}
 use Rattle.std.proofs.lemmas.Bool.{cases_lt}
 use Rattle.std.proofs.lemmas.Option.{slice_get_past}
@@ -10,7 +10,7 @@ use Rattle.mls_tree.specs.Tree.{Tree, leaf, branch, height}
 use Rattle.mls_tree.specs.TreeInternal.{leaves_at}
 use Rattle.mls_tree.specs.NodeArray.{leaf_part, parent_part, tree_in, IsNoLeaf, IsNoParent, IsArrayOf, height-tree_in}
 use Rattle.mls_tree.specs.TreeOperations.{blank_tree, extend}
-use Rattle.mls_tree.proofs.Numbers.{leaves_at-positive}
+use Rattle.mls_tree.proofs.Numbers.{leaves_at-positive, leaves_at-le}
 use Rattle.mls_tree.proofs.Arrays.{tree_in-same}
 
 module _ {X : Type 0} where
@@ -37,31 +37,24 @@ module _ {X : Type 0} where
   pub slice_get-take_past : (xs : List X) (n p : ℕ) → n ≤ p → slice_get (take n xs) p ≡ None
   slice_get-take_past xs n p h = slice_get_past (take n xs) p (omega (arith, length-take n xs))
 
--- cut
-module _ (xs : List (Option Node)) (h : ℕ) (deep : h ≢ 0) (ok : IsArrayOf xs h) (half : ℕ) (e : half ≡ leaves_at (h - 1)) where
-  pub whole-split : leaves_at h ≡ half + half
-  whole-split = let up : h ≡ suc (h - 1) = omega arith in ap leaves_at up ∙ (λ i. sym e i + sym e i)
-
-  pub half-low : h ≤ 20 → half + leaves_at (h - 1) ≤ leaves_at h
-  half-low l = omega (arith, whole-split)
-
-  pub IsArrayOf-take : IsArrayOf (take (2 * half - 1) xs) (h - 1)
+-- cut to its first nodes
+module _ (xs : List (Option Node)) (h low : ℕ) (le : low ≤ h) (ok : IsArrayOf xs h) (front : ℕ) (e : front ≡ leaves_at low) where
+  pub IsArrayOf-take : IsArrayOf (take (2 * front - 1) xs) low
   IsArrayOf-take =
-      let pos : 0 < half = subst (λ n. 0 < n) (sym e) (leaves_at-positive (h - 1)) in
       record {
-        long = omega (arith, length-take (2 * half - 1) xs, ok.long, whole-split);
-        even = λ i. elim (cases_lt (2 * i) (2 * half - 1)) [
-          | inl lt ↦ subst (λ o. IsNoParent o) (sym (slice_get-take xs (2 * half - 1) (2 * i) lt)) (ok.even i)
-          | inr ge ↦ subst (λ o. IsNoParent o) (sym (slice_get-take_past xs (2 * half - 1) (2 * i) ge)) tt
+        long = omega (arith, length-take (2 * front - 1) xs, ok.long, leaves_at-le low h le, leaves_at-positive low);
+        even = λ i. elim (cases_lt (2 * i) (2 * front - 1)) [
+          | inl lt ↦ subst (λ o. IsNoParent o) (sym (slice_get-take xs (2 * front - 1) (2 * i) lt)) (ok.even i)
+          | inr ge ↦ subst (λ o. IsNoParent o) (sym (slice_get-take_past xs (2 * front - 1) (2 * i) ge)) tt
         ];
-        odd = λ i. elim (cases_lt (2 * i + 1) (2 * half - 1)) [
-          | inl lt ↦ subst (λ o. IsNoLeaf o) (sym (slice_get-take xs (2 * half - 1) (2 * i + 1) lt)) (ok.odd i)
-          | inr ge ↦ subst (λ o. IsNoLeaf o) (sym (slice_get-take_past xs (2 * half - 1) (2 * i + 1) ge)) tt
+        odd = λ i. elim (cases_lt (2 * i + 1) (2 * front - 1)) [
+          | inl lt ↦ subst (λ o. IsNoLeaf o) (sym (slice_get-take xs (2 * front - 1) (2 * i + 1) lt)) (ok.odd i)
+          | inr ge ↦ subst (λ o. IsNoLeaf o) (sym (slice_get-take_past xs (2 * front - 1) (2 * i + 1) ge)) tt
         ];
       }
 
-  pub tree_in-take : tree_in (take (2 * half - 1) xs) (h - 1) 0 ≡ tree_in xs (h - 1) 0
-  tree_in-take = tree_in-same (take (2 * half - 1) xs) xs (h - 1) 0 (λ p a b. slice_get-take xs (2 * half - 1) p (omega arith))
+  pub tree_in-take : tree_in (take (2 * front - 1) xs) low 0 ≡ tree_in xs low 0
+  tree_in-take = tree_in-same (take (2 * front - 1) xs) xs low 0 (λ p a b. slice_get-take xs (2 * front - 1) p (omega arith))
 
 -- made larger
 pub tree_in-blank : (xs : List (Option Node)) (h first : ℕ)

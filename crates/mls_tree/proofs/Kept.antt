@@ -193,11 +193,6 @@ pub height-truncate : (t : Tree) → height (truncate t) ≤ height t
 height-truncate (leaf x) = omega arith
 height-truncate (branch l n r) = either (λ t. height t ≤ suc (height l)) (has_non_blank_leaf r) (branch l n r) (truncate l) (omega arith) (let a = height-truncate l in omega arith)
 
-pub leaf_count-truncate : (t : Tree) → leaf_count (truncate t) ≤ leaf_count t
-leaf_count-truncate (leaf x) = omega arith
-leaf_count-truncate (branch l n r) =
-    either (λ t. leaf_count t ≤ leaf_count l + leaf_count r) (has_non_blank_leaf r) (branch l n r) (truncate l) (omega arith) (let a = leaf_count-truncate l in omega arith)
-
 pub HasShape-truncate : (t : Tree) → HasShape t → HasShape (truncate t)
 HasShape-truncate t s = record { perfect = IsPerfect-truncate t s.perfect; low = let a = height-truncate t in omega arith }
 

@@ -7,12 +7,12 @@ use Rattle.mls_nodes.specs.declared.parent.ParentNode.{ParentNode}
 use Rattle.mls_tree.specs.declared.subtree_counts.Count.{Count}
 use Rattle.mls_tree.specs.declared.cached_counts.Counts.{Counts}
 use Rattle.mls_tree.specs.Tree.{Tree, leaf_count}
-use Rattle.mls_tree.specs.TreeOperations.{put_leaf, put_parent, change_above, truncate, left_subtree}
+use Rattle.mls_tree.specs.TreeOperations.{put_leaf, put_parent, change_above, front_subtree}
 use Rattle.mls_tree.specs.SubtreeCounts.{AreCounts, AreOutside}
 use Rattle.mls_tree.specs.CountsModel.{AreCountsIn, AreBesideIn, AreFrontOf}
-use Rattle.mls_tree.proofs.Kept.{leaf_count-put_leaf, leaf_count-put_parent, leaf_count-change_above, leaf_count-truncate}
-use Rattle.mls_tree.proofs.KeptSlots.{leaf_count-left_subtree}
-use Rattle.mls_tree.proofs.Counting.{beside, beside-put_leaf, beside-put_parent, beside-change_above, AreCounts-left_subtree, AreCounts-truncate}
+use Rattle.mls_tree.proofs.Fronts.{leaf_count-front}
+use Rattle.mls_tree.proofs.Kept.{leaf_count-put_leaf, leaf_count-put_parent, leaf_count-change_above}
+use Rattle.mls_tree.proofs.Counting.{beside, beside-put_leaf, beside-put_parent, beside-change_above, AreCounts-front}
 
 module _ (counts : Option Counts) (t u : Tree) where
   beside-in : (i : ℕ) → leaf_count u ≡ leaf_count t → ((c : Counts) → AreCounts 0 t c.list.items → AreOutside 0 u i c.list.items) → AreCountsIn counts t → AreBesideIn counts u i
@@ -54,15 +54,10 @@ module _ (counts : Option Counts) (t u : Tree) where
   counts-if_put_parent (Ok a) q i x e put same = counts-put_parent q i x e put
   counts-if_put_parent (Err a) q i x e put same = counts-same i same
 
-  -- where the tree is halved once
-  pub counts-left_subtree : u ≡ left_subtree t → AreCountsIn counts t → AreFrontOf counts u
-  counts-left_subtree at =
-      front-in (let a = ap leaf_count at in let b = leaf_count-left_subtree t in omega arith) (λ c ok. subst (λ v. AreCounts 0 v c.list.items) (sym at) (AreCounts-left_subtree 0 t c.list.items ok))
-
-  -- where it is halved as often as it can be
-  pub counts-truncate : u ≡ truncate t → AreCountsIn counts t → AreFrontOf counts u
-  counts-truncate at =
-      front-in (let a = ap leaf_count at in let b = leaf_count-truncate t in omega arith) (λ c ok. subst (λ v. AreCounts 0 v c.list.items) (sym at) (AreCounts-truncate 0 t c.list.items ok))
+  -- where the leftmost subtree of height h is left
+  pub counts-front : (h : ℕ) → u ≡ front_subtree h t → AreCountsIn counts t → AreFrontOf counts u
+  counts-front h at =
+      front-in (let a = ap leaf_count at in let b = leaf_count-front h t in omega arith) (λ c ok. subst (λ v. AreCounts 0 v c.list.items) (sym at) (AreCounts-front h t c.list.items ok))
 
 -- what stands in a list whose slice was written
 pub counts-written : (t : Tree) (cs items : List Count) (n : ℕ) → n ≡ length items → length cs ≡ length items → length items + 1 ≡ leaf_count t → AreCounts 0 t cs

@@ -2,7 +2,7 @@
 use Rattle.std.proofs.Common.{◌≡◌, ℕ, zero, suc, ◌+◌, ◌*◌, ◌-◌, ◌∷◌, ◌<◌, ◌≤◌, List, [], ◌++◌, length, replicate, take, map, Result, Ok, Err, Option, Some, None, refl, sym, ap, subst, ◌∙◌, inl, inr, arith}
 use Rattle.std.specs.Prelude.{slice_get, option_and_then, OnOk, OnErr}
 use Rattle.std.proofs.lemmas.Bool.{cases_lt}
-use Rattle.std.proofs.lemmas.List.{length-take-le, length-append, length-map, take_all, take-take}
+use Rattle.std.proofs.lemmas.List.{length-take-le, length-append, length-map}
 use Rattle.std.proofs.Math.ListN.{length-replicate}
 use Rattle.mls_nodes.specs.declared.leaf.LeafNode.{LeafNode}
 use Rattle.mls_nodes.specs.declared.parent.ParentNode.{ParentNode}
@@ -10,16 +10,17 @@ use Rattle.mls_tree.specs.declared.hash_kind.HashKind.{HashKind}
 use Rattle.mls_tree.specs.declared.hash_cache.Slots.{Slots}
 use Rattle.mls_nodes.specs.declared.node.Node.{Node}
 use Rattle.mls_nodes.specs.NodeModel.{entry_value}
-use Rattle.mls_tree.specs.Tree.{Tree, leaf, branch, height, leaf_count, listing, IsPerfect, Subtree, subtree_at}
+use Rattle.mls_tree.specs.Tree.{Tree, branch, height, leaf_count, listing, IsPerfect, Subtree, subtree_at}
 use Rattle.mls_tree.specs.TreeInternal.{leaves_at}
 use Rattle.mls_tree.specs.TreeHash.{tree_hash}
-use Rattle.mls_tree.specs.TreeOperations.{put_leaf, put_parent, change_above, truncate, has_non_blank_leaf, left_subtree, extend, blank_tree}
+use Rattle.mls_tree.specs.TreeOperations.{put_leaf, put_parent, change_above, extend, front_subtree, blank_tree}
 use Rattle.mls_tree.specs.Paths.{direct_path}
 use Rattle.mls_tree.specs.HashCache.{emptied, parents_from, extended, hash_by}
 use Rattle.mls_tree.specs.HashCacheInternal.{AreSlots, AreSlotsOf}
 use Rattle.mls_tree.specs.CacheModel.{kind_in, slots_in, IsOfHeight}
 use Rattle.mls_tree.proofs.Trees.{leaf_count-perfect, leaf_count-positive, length-listing, subtree_at-in_left}
-use Rattle.mls_tree.proofs.Kept.{either, leaf_count-put_leaf, leaf_count-put_parent, leaf_count-change_above, leaf_count-truncate, height-blank_tree, IsPerfect-blank_tree}
+use Rattle.mls_tree.proofs.Kept.{leaf_count-put_leaf, leaf_count-put_parent, leaf_count-change_above, height-blank_tree, IsPerfect-blank_tree}
+use Rattle.mls_tree.proofs.Fronts.{leaf_count-front, subtree_at-front}
 use Rattle.mls_tree.proofs.Growing.{slice_get-take, slice_get-take_past, slice_get-append_left, slice_get-fill}
 use Rattle.mls_tree.proofs.Emptying.{IsAway, AreSlots-emptied, emptied-nothing, beside-put_leaf, beside-put_parent, beside-change_above}
 
@@ -44,7 +45,7 @@ slots-short (Some kind) t slots ok = omega (arith, ok.count)
 -- ---- cells are emptied
 
 module _ (kind : Option HashKind) (t u : Tree) (slots new : List (Option (List ℕ))) where
-  slots-emptied : (ps : List ℕ) → new ≡ emptied slots ps → leaf_count u ≡ leaf_count t → ((p : ℕ) → IsAway p ps → subtree_at 0 u p ≡ subtree_at 0 t p)
+  pub slots-emptied : (ps : List ℕ) → new ≡ emptied slots ps → leaf_count u ≡ leaf_count t → ((p : ℕ) → IsAway p ps → subtree_at 0 u p ≡ subtree_at 0 t p)
       → AreSlotsOf kind t slots → AreSlotsOf kind u new
   slots-emptied ps e c same ok = by_kind kind ok
     where
@@ -150,49 +151,9 @@ module _ (kind : Option HashKind) (t u : Tree) (slots new : List (Option (List �
       by_kind None ok = e ∙ ap (take (2 * leaf_count u - 1)) ok ∙ nothing (2 * leaf_count u - 1)
       by_kind (Some k) ok = subst (AreSlots (hash_by k) u) (sym e) (AreSlots-taken (hash_by k) t u slots low same ok)
 
-subtree_at-truncate : (t : Tree) (p : ℕ) → p + 1 < 2 * leaf_count (truncate t) → subtree_at 0 (truncate t) p ≡ subtree_at 0 t p
-subtree_at-truncate (leaf x) p lt = refl
-subtree_at-truncate (branch l n r) p lt =
-    either (λ v. p + 1 < 2 * leaf_count v → subtree_at 0 v p ≡ subtree_at 0 (branch l n r) p) (has_non_blank_leaf r) (branch l n r) (truncate l) (λ _. refl)
-    (λ low. subtree_at-truncate l p low ∙ sym (subtree_at-in_left 0 l n r p (let a = leaf_count-truncate l in omega arith)))
-    lt
-
-subtree_at-left_subtree : (t : Tree) (p : ℕ) → p + 1 < 2 * leaf_count (left_subtree t) → subtree_at 0 (left_subtree t) p ≡ subtree_at 0 t p
-subtree_at-left_subtree (leaf x) p lt = refl
-subtree_at-left_subtree (branch l n r) p lt = sym (subtree_at-in_left 0 l n r p (omega arith))
-
-pub leaf_count-left_subtree : (t : Tree) → leaf_count (left_subtree t) ≤ leaf_count t
-leaf_count-left_subtree (leaf x) = omega arith
-leaf_count-left_subtree (branch l n r) = omega arith
-
-module _ (kind : Option HashKind) (t u : Tree) (slots new : List (Option (List ℕ))) where
-  -- the tree is halved as often as it can be
-  pub slots-truncate : u ≡ truncate t → new ≡ take (2 * leaf_count u - 1) slots → AreSlotsOf kind t slots → AreSlotsOf kind u new
-  slots-truncate at =
-      slots-taken kind t u slots new (let a = ap leaf_count at in let b = leaf_count-truncate t in omega arith)
-      (λ p lt. ap (λ v. subtree_at 0 v p) at ∙ subtree_at-truncate t p (let a = ap leaf_count at in omega arith))
-
-  -- the tree is halved once
-  pub slots-left_subtree : u ≡ left_subtree t → new ≡ take (2 * leaf_count u - 1) slots → AreSlotsOf kind t slots → AreSlotsOf kind u new
-  slots-left_subtree at =
-      slots-taken kind t u slots new (let a = ap leaf_count at in let b = leaf_count-left_subtree t in omega arith)
-      (λ p lt. ap (λ v. subtree_at 0 v p) at ∙ subtree_at-left_subtree t p (let a = ap leaf_count at in omega arith))
-
--- ---- the tree is halved some times
-
--- the lists have the same entries up to the n-th
-abbrev pub SameFront : ℕ → List (Option (List ℕ)) → List (Option (List ℕ)) → Type 0
-SameFront n xs ys = (k : ℕ) → k ≤ n → take k xs ≡ take k ys
-
-pub front-start : (n : ℕ) (xs : List (Option (List ℕ))) → SameFront n xs xs
-front-start n xs k low = refl
-
-pub front-step : (n m : ℕ) (old new all : List (Option (List ℕ))) → m ≤ n → new ≡ take m old → SameFront n old all → SameFront m new all
-front-step n m old new all low e same k under = ap (take k) e ∙ take-take k m old under ∙ same k (omega arith)
-
-pub front-end : (n : ℕ) (xs all : List (Option (List ℕ))) → length xs < n → SameFront (n - 1) xs all → xs ≡ take (n - 1) all
-front-end n xs all short same = sym (take_all (n - 1) xs (omega arith)) ∙ same (n - 1) (omega arith)
-
--- a half has no more leaves
-pub half-low : (t u : Tree) → u ≡ left_subtree t → 2 * leaf_count u - 1 ≤ 2 * leaf_count t - 1
-half-low t u at = omega (arith, ap leaf_count at, leaf_count-left_subtree t)
+-- the leftmost subtree of height h is left
+pub slots-front : (kind : Option HashKind) (h : ℕ) (t u : Tree) (slots new : List (Option (List ℕ))) → u ≡ front_subtree h t → new ≡ take (2 * leaf_count u - 1) slots
+    → AreSlotsOf kind t slots → AreSlotsOf kind u new
+slots-front kind h t u slots new at =
+    slots-taken kind t u slots new (let a = ap leaf_count at in let b = leaf_count-front h t in omega arith)
+    (λ p lt. ap (λ v. subtree_at 0 v p) at ∙ subtree_at-front h t p (let a = ap leaf_count at in omega arith))

@@ -30,9 +30,10 @@ pub mod SlotsBack
 pub mod ParentEntries
 pub mod Emptying
 pub mod LeafCounts
+pub mod Fronts
 pub mod Rejoining
 pub mod KeptSlots
-pub mod HalfSlots
+pub mod FrontSlots
 pub mod EmptyFronts
 pub mod EmptiedAgain
 pub mod ChangedNodeIndices

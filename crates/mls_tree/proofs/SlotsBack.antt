@@ -1,5 +1,5 @@
 -- The slots of a tree after its changes are undone.
-use Rattle.std.proofs.Common.{◌≡◌, ℕ, zero, suc, ◌+◌, ◌*◌, ◌-◌, ◌<◌, ◌≤◌, nat_lt, List, [], ◌∷◌, ◌++◌, length, take, drop, Option, Some, None, refl, sym, ap, ◌∙◌, subst, inl, inr, arith, length-set, Box, Global}
+use Rattle.std.proofs.Common.{◌≡◌, ℕ, zero, suc, ◌+◌, ◌*◌, ◌-◌, ◌<◌, ◌≤◌, nat_lt, List, [], ◌∷◌, ◌++◌, length, take, drop, Option, Some, None, refl, sym, ap, ◌∙◌, subst, inl, inr, arith, Box, Global}
 use Rattle.std.specs.Prelude.{All, Contains, Bool, true, false, ◌==◌, ◌||◌, if◌then◌else◌, option_map, slice_get, slice_set, Result, Ok, Err, OnOk, OnErr, IsErr}
 use Rattle.std.specs.List.{list_any}
 use Rattle.std.proofs.lemmas.Bool.{cases_lt}
@@ -7,7 +7,7 @@ use Rattle.std.proofs.lemmas.Bool.Decides.{nat_tests}
 use Rattle.std.proofs.lemmas.Option.{none-some}
 use Rattle.std.proofs.lemmas.List.{length-take, length-append, length-drop}
 use Rattle.std.proofs.lemmas.List.Elements.{All-head, All-tail, All-nil, All-cons, All-push, All-pop, All-contains}
-use Rattle.mls_tree.specs.Tree.{Tree, leaf, branch, height, leaf_count, leaf_at, node_at, IsPerfect, IsBranch, IsParentNodeIndex}
+use Rattle.mls_tree.specs.Tree.{Tree, leaf, branch, height, leaf_count, leaf_at, node_at, IsPerfect, IsParentNodeIndex}
 use Rattle.mls_tree.specs.TreeInternal.{leaves_at}
 use Rattle.mls_nodes.specs.declared.leaf.LeafNode.{LeafNode}
 use Rattle.mls_nodes.specs.declared.parent.ParentNode.{ParentNode}
@@ -29,7 +29,7 @@ use Rattle.mls_tree.proofs.Growing.{slice_get-take, slice_get-take_past}
 use Rattle.mls_tree.proofs.TakenBack.{undone-last, leaf-undone, parent-undone}
 use Rattle.mls_tree.proofs.Kept.{leaf_count-put_leaf, height-put_leaf}
 use Rattle.mls_tree.proofs.ChangedNodeIndices.{height-put_parent}
-use Rattle.mls_tree.proofs.Trees.{leaf_count-perfect, leaf_count-positive}
+use Rattle.mls_tree.proofs.Trees.{leaf_count-perfect}
 
 -- ---- a cell of a changed list is told by that cell of the list
 
@@ -67,13 +67,16 @@ emptied-alike : (ps : List ℕ) (xs ys : List (Option (List ℕ))) (p : ℕ) →
 emptied-alike [] xs ys p h = h
 emptied-alike (q ∷ ps) xs ys p h = emptied-alike ps (slice_set xs q None) (slice_set ys q None) p (set-alike xs ys q None p h)
 
-joined_slots-alike : (xs ys whole : List (Option (List ℕ))) (p : ℕ) → length xs ≡ length ys → slice_get xs p ≡ slice_get ys p → slice_get (joined_slots xs whole) p ≡ slice_get (joined_slots ys whole) p
-joined_slots-alike xs ys whole p e h =
-    (λ i. slice_get (slice_set (xs ++ drop (e i) whole) (e i) None) p)
-    ∙ set-alike (xs ++ drop (length ys) whole) (ys ++ drop (length ys) whole) (length ys) None p (append-alike xs ys (drop (length ys) whole) p e h)
+joined_slots-alike : (xs ys : List (Option (List ℕ))) (w : Tree) (whole : List (Option (List ℕ))) (p : ℕ) → length xs ≡ length ys → slice_get xs p ≡ slice_get ys p
+    → slice_get (joined_slots xs w whole) p ≡ slice_get (joined_slots ys w whole) p
+joined_slots-alike xs ys w whole p e h =
+    let rest = emptied whole (direct_path 0 w 0) in
+    (λ i. slice_get (xs ++ drop (e i) rest) p) ∙ append-alike xs ys (drop (length ys) rest) p e h
 
-pub length-joined_slots : (xs whole : List (Option (List ℕ))) → length (joined_slots xs whole) ≡ length xs + (length whole - length xs)
-length-joined_slots xs whole = length-set (xs ++ drop (length xs) whole) (length xs) None ∙ length-append xs (drop (length xs) whole) ∙ ap (λ n. length xs + n) (length-drop (length xs) whole)
+pub length-joined_slots : (xs : List (Option (List ℕ))) (w : Tree) (whole : List (Option (List ℕ))) → length (joined_slots xs w whole) ≡ length xs + (length whole - length xs)
+length-joined_slots xs w whole =
+    let rest = emptied whole (direct_path 0 w 0) in
+    length-append xs (drop (length xs) rest) ∙ ap (λ n. length xs + n) (length-drop (length xs) rest ∙ ap (λ n. n - length xs) (length-emptied whole (direct_path 0 w 0)))
 
 -- two lists became others, as long as one another, whose cells are alike where those of the lists were
 record BecameAlike (xs ys us vs : List (Option (List ℕ))) : Type 0 where
@@ -97,10 +100,11 @@ back-alike Extended t xs ys e =
     let n = 2 * leaf_count (left_subtree t) - 1 in
     record { count = omega (arith, length-take n xs, length-take n ys, e); each = λ p h. take-alike n xs ys p h }
 back-alike (Truncated b) t xs ys e =
-    if-alike ((height t + 1) == height b.value.tree) xs ys (joined_slots xs b.value.slots) (joined_slots ys b.value.slots) e
+    let w = b.value.tree in
+    if-alike (nat_lt (height t) (height w)) xs ys (joined_slots xs w b.value.slots) (joined_slots ys w b.value.slots) e
     (record {
-      count = omega (arith, length-joined_slots xs b.value.slots, length-joined_slots ys b.value.slots, e);
-      each = λ p h. joined_slots-alike xs ys b.value.slots p e h;
+      count = omega (arith, length-joined_slots xs w b.value.slots, length-joined_slots ys w b.value.slots, e);
+      each = λ p h. joined_slots-alike xs ys w b.value.slots p e h;
     })
 
 all-back-alike : (es : List UndoEntry) (t : Tree) (xs ys : List (Option (List ℕ))) → length xs ≡ length ys → BecameAlike xs ys (all_slots_back es t xs) (all_slots_back es t ys)
@@ -134,16 +138,6 @@ emptied-other [] slots p away = refl
 emptied-other (q ∷ ps) slots p away =
     let h = any-none (q == p) (list_any (λ q. q == p) ps) away in
     sym (slice_get-set_other slots q p None (other-node_index q p h.0)) ∙ emptied-other ps (slice_set slots q None) p h.1
-
-pub away-front : (p : ℕ) (ps qs : List ℕ) → list_any (λ q. q == p) (ps ++ qs) ≡ false → list_any (λ q. q == p) ps ≡ false
-away-front p [] qs away = refl
-away-front p (q ∷ ps) qs away =
-    let h = any-none (q == p) (list_any (λ q. q == p) (ps ++ qs)) away in
-    both-none (q == p) (list_any (λ q. q == p) ps) h.0 (away-front p ps qs h.1)
-
-pub away-back : (p : ℕ) (ps qs : List ℕ) → list_any (λ q. q == p) (ps ++ qs) ≡ false → list_any (λ q. q == p) qs ≡ false
-away-back p [] qs away = away
-away-back p (q ∷ ps) qs away = away-back p ps qs (any-none (q == p) (list_any (λ q. q == p) (ps ++ qs)) away).1
 
 others : (p : ℕ) (ps : List ℕ) → list_any (λ q. q == p) ps ≡ false → All (λ q. (q == p) ≡ false) ps
 others p [] away = All-nil _
@@ -293,41 +287,18 @@ agree-above path t i all left rest node_index xs ys same here among split a =
     let inside : Contains (direct_path 0 t i) node_index = subst (λ ps. Contains ps node_index) (sym here) at in
     agree-among path (parents_from 0 t node_index) xs ys (subst (λ ps. All (Contains ps) (parents_from 0 t node_index)) (here ∙ same) (parents_from-among 0 t i node_index inside)) a
 
--- ---- a tree is halved
-
--- what is away from these places is away from those
-abbrev pub AreAwayToo : List ℕ → List ℕ → Type 0
-AreAwayToo ps qs = (p : ℕ) → list_any (λ q. q == p) ps ≡ false → list_any (λ q. q == p) qs ≡ false
-
-left-away : (t : Tree) → IsBranch t → AreAwayToo (direct_path 0 t 0) (direct_path 0 (left_subtree t) 0)
-left-away (leaf x) b p away = absurd b
-left-away (branch l n r) b p away =
-    let pos = leaf_count-positive l in
-    ap (λ ps. list_any (λ q. q == p) ps) (sym (below 0 (0 + leaf_count l) (direct_path 0 l 0) (direct_path (0 + leaf_count l) r 0) (omega arith)))
-    ∙ away-front p (if nat_lt 0 (0 + leaf_count l) then direct_path 0 l 0 else direct_path (0 + leaf_count l) r 0) ((2 * (0 + leaf_count l) - 1) ∷ []) away
-
-root-away : (t : Tree) → IsPerfect t → IsBranch t → AreAwayToo (direct_path 0 t 0) ((leaf_count t - 1) ∷ [])
-root-away (leaf x) perfect b p away = absurd b
-root-away (branch l n r) perfect b p away =
-    let d : leaf_count l ≡ leaf_count r = leaf_count-perfect l perfect.1 ∙ ap leaves_at perfect.0 ∙ sym (leaf_count-perfect r perfect.2) in
-    let at : leaf_count l + leaf_count r - 1 ≡ 2 * (0 + leaf_count l) - 1 = omega arith in
-    ap (λ q. list_any (λ q. q == p) (q ∷ [])) at
-    ∙ away-back p (if nat_lt 0 (0 + leaf_count l) then direct_path 0 l 0 else direct_path (0 + leaf_count l) r 0) ((2 * (0 + leaf_count l) - 1) ∷ []) away
-
-pub halved-away : (path : List ℕ) (t u : Tree) → IsBranch t → u ≡ left_subtree t → AreAwayToo path (direct_path 0 t 0) → AreAwayToo path (direct_path 0 u 0)
-halved-away path t u b half above p away = ap (λ v. list_any (λ q. q == p) (direct_path 0 v 0)) half ∙ left-away t b p (above p away)
-
-pub halved-slots : (path : List ℕ) (t u : KeptTree) (old capacity new : List UndoEntry) → capacity ≡ old → (left rest : KeptTree) (b : Box KeptTree Global) → IsBranch t.tree → u ≡ left → b.value ≡ rest
-    → rejoined left.tree rest.tree ≡ t.tree → length t.slots ≡ length (rejoined_slots left.tree left.slots rest.tree rest.slots)
-    → SlotsAgreeExceptAt ((leaf_count t.tree - 1) ∷ []) t.slots (rejoined_slots left.tree left.slots rest.tree rest.slots) → new ≡ capacity ++ Truncated b ∷ [] → AreAwayToo path (direct_path 0 t.tree 0)
+-- the tree was truncated
+pub truncated-slots : (path : List ℕ) (t u : KeptTree) (old capacity new : List UndoEntry) → capacity ≡ old → (front rest : KeptTree) (b : Box KeptTree Global) → u ≡ front → b.value ≡ rest
+    → rejoined front.tree rest.tree ≡ t.tree → length t.slots ≡ length (rejoined_slots front.tree front.slots rest.tree rest.slots)
+    → SlotsAgreeExceptAt path t.slots (rejoined_slots front.tree front.slots rest.tree rest.slots) → new ≡ capacity ++ Truncated b ∷ []
     → SlotsAgreeExceptAt path (all_slots_back old t.tree t.slots) (all_slots_back new u.tree u.slots)
-halved-slots path t u old capacity new reserved left rest b deep now whole back count again pushed above =
-    let same : rejoined_slots left.tree left.slots rest.tree rest.slots ≡ rejoined_slots u.tree u.slots b.value.tree b.value.slots
+truncated-slots path t u old capacity new reserved front rest b now whole back count again pushed =
+    let same : rejoined_slots front.tree front.slots rest.tree rest.slots ≡ rejoined_slots u.tree u.slots b.value.tree b.value.slots
     = λ i. rejoined_slots ((sym now) i).tree ((sym now) i).slots ((sym whole) i).tree ((sym whole) i).slots in
     slots-kept_back t.tree u.tree old capacity new reserved t.slots u.slots path (Truncated b) pushed
     ((λ i. rejoined (now i).tree (whole i).tree) ∙ back)
     (count ∙ ap length same)
-    (λ p away. again p (root-away t.tree t.shape.perfect deep p (above p away)) ∙ ap (λ cs. slice_get cs p) same)
+    (λ p away. again p away ∙ ap (λ cs. slice_get cs p) same)
 
 -- a leaf that is put back, or refused since there is no place for one
 pub leaf-put_back : {A E : Type 0} (r : Result A E) (t u : KeptTree) (i : ℕ) (x : Option (Box LeafNode Global)) → OnOk r (u.slots ≡ emptied t.slots (2 * i ∷ direct_path 0 t.tree i)) → OnErr r (u ≡ t)

@@ -187,10 +187,10 @@ undone-step t u all rest x split e = ap (all_undone rest) e ∙ sym (undone-last
 pub undone-end : (t : Tree) (left : List UndoEntry) → left ≡ [] → all_undone left t ≡ t
 undone-end t left e = ap (λ xs. all_undone xs t) e
 
--- the tree was halved
-pub halved-kept_back : (t u : Tree) (b : Box KeptTree Global) (old capacity new : List UndoEntry) → capacity ≡ old → rejoined u b.value.tree ≡ t → new ≡ capacity ++ Truncated b ∷ []
+-- the tree was truncated
+pub truncated-kept_back : (t u : Tree) (b : Box KeptTree Global) (old capacity new : List UndoEntry) → capacity ≡ old → rejoined u b.value.tree ≡ t → new ≡ capacity ++ Truncated b ∷ []
     → all_undone new u ≡ all_undone old t
-halved-kept_back t u b old capacity new reserved back pushed =
+truncated-kept_back t u b old capacity new reserved back pushed =
     ap (λ xs. all_undone xs u) (pushed ∙ ap (λ xs. xs ++ Truncated b ∷ []) reserved)
     ∙ undone-last old (Truncated b) u
     ∙ ap (all_undone old) back

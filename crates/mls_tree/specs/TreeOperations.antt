@@ -108,14 +108,15 @@ abbrev pub left_subtree : Tree → Tree
 left_subtree (leaf x) = leaf x
 left_subtree (branch l _ _) = l
 
--- `with_left t w` is the tree `w` with `t` as its left subtree.
-abbrev pub with_left : Tree → Tree → Tree
-with_left t (leaf x) = leaf x
-with_left t (branch _ n r) = branch t n r
+-- `front_subtree h t` is the leftmost subtree of height h. It is `t` if `t` is not higher.
+abbrev pub front_subtree : ℕ → Tree → Tree
+front_subtree h (leaf x) = leaf x
+front_subtree h (branch l n r) = if nat_lt (height l) h then branch l n r else front_subtree h l
 
--- `rejoined t w` is `with_left t w`, if `t` is as high as a child of `w`, else `t`.
+-- `rejoined t w` is the tree `w` with `t` as its leftmost subtree of that height. It is `t` if `w` is not higher.
 abbrev pub rejoined : Tree → Tree → Tree
-rejoined t w = if (height t + 1) == height w then with_left t w else t
+rejoined t (leaf x) = t
+rejoined t (branch l n r) = if nat_lt (height l) (height t) then t else branch (rejoined t l) n r
 
 -- `extend t` is the tree as the left subtree of one twice as large, whose other nodes are blank (RFC 9420, 7.7): the
 -- call `extend`.

@@ -7,7 +7,8 @@ ghost use Rattle.std.specs.Vec.{VecUnchanged};
 ghost use Rattle.mls_nodes.specs.Limits.{leaf_limit};
 ghost use Rattle.mls_tree.specs.TreeInternal.{leaves_at};
 ghost use Rattle.mls_tree.specs.NodeArray.{tree_in, ChangesWithin};
-ghost use Rattle.mls_tree.specs.TreeOperations.{change_above, has_non_blank_leaf};
+ghost use Rattle.mls_tree.specs.Tree.{height};
+ghost use Rattle.mls_tree.specs.TreeOperations.{change_above, has_non_blank_leaf, truncate};
 ghost use Rattle.mls_tree.specs.BlankLeaves.{next_blank_leaf};
 ghost use Rattle.mls_tree.specs.SubtreeCounts.{AreCounts};
 ghost use Rattle.mls_tree.specs.CountsModel.{AreCountsIfAny};
@@ -74,6 +75,25 @@ pub(crate) fn counts_non_blank_leaf(
         Some(counts) => count_of(nodes, counts, level, first).members > 0,
         None => has_non_blank_leaf(nodes, level, first),
     }
+}
+
+/// Returns the height of the tree truncated (RFC 9420, 7.7): of its leftmost subtree whose right subtree has a
+/// non-blank leaf, or else of its first leaf. `level` is the tree's height. Uses the counts of the tree's parents, if
+/// there are any.
+pub(crate) fn truncated_height(nodes: &[Option<Node>], counts: Option<&[Count]>, level: u32) -> u32
+    requires low { level ≤ 20 }
+    requires long { 2 * leaves_at level ≤ length nodes.now + 1 }
+    requires counts { AreCountsIfAny (option_copied counts) 0 (tree_in nodes.now level 0) }
+    ensures { result ≡ height (truncate (tree_in nodes.now level 0)) }
+{
+    if level == 0 {
+        return 0;
+    }
+    let below = level - 1;
+    if counts_non_blank_leaf(nodes, counts, below, leaves_of(below)) {
+        return level;
+    }
+    truncated_height(nodes, counts, below)
 }
 
 /// Returns the index of the leftmost blank leaf of the subtree from `start` on, by the counts of the subtree's parents.

@@ -1,5 +1,5 @@
 //! The optional cache of a tree's hashes, changed as the tree is changed.
-ghost use Rattle.std.specs.Prelude.{◌≡◌, ◌+◌, ◌*◌, ◌^◌, ◌∷◌, ◌<◌, ◌≤◌, Some, OnOk, IfOk, IfSome, length, take};
+ghost use Rattle.std.specs.Prelude.{◌≡◌, ◌*◌, ◌∷◌, ◌++◌, ◌<◌, ◌≤◌, Some, OnOk, IfOk, IfSome, take};
 ghost use Rattle.std.specs.List.{range_with_len};
 ghost use Rattle.mls_tree.specs.Tree.{Tree, height, IsPerfect};
 ghost use Rattle.mls_tree.specs.TreeInternal.{leaves_at};
@@ -106,29 +106,34 @@ pub(crate) fn clone_front(
     }
 }
 
-/// Empties the first `count + 1` slots.
-pub(crate) fn empty_front(slots: &mut Option<Slots>, count: u32)
-    requires few { count + 1 < 2 ^ 32 }
-    requires long { HasMoreThan count slots.old }
-    ensures slots { slots_in slots.new
-        ≡ emptied (slots_in slots.old) (range_with_len 0 (count + 1)) }
+/// Empties the first `count` slots and those of the parents above leaf 0. `level` is the tree's height.
+pub(crate) fn empty_front(slots: &mut Option<Slots>, count: u32, level: u32)
+    requires few { HasMoreThan count slots.old }
+    requires low { level ≤ 20 }
+    requires long { IsOfHeight level slots.old }
+    ensures slots { (t : Tree) → IsPerfect t → height t ≡ level → slots_in slots.new
+        ≡ emptied (slots_in slots.old) (range_with_len 0 count ++ direct_path 0 t 0) }
     ensures kind { kind_in slots.new ≡ kind_in slots.old }
 {
     let Some(slots) = slots else {
         return;
     };
-    slots.clear_front(count + 1);
+    slots.clear_front(count);
+    slots.blank_path(level, 0, 0);
 }
 
-/// Returns the cache of a tree that becomes the left subtree of another one, whose right subtree has its slots still.
-/// `None` if the two caches are not of one kind. Does not allocate.
-pub(crate) fn join_slots(slots: Option<Slots>, whole: Option<Slots>) -> Option<Slots>
+/// Returns the cache of a tree that becomes the leftmost subtree of another one, whose other subtrees have their slots
+/// still. `level` is the other tree's height. `None` if the two caches are not of one kind. Does not allocate.
+pub(crate) fn join_slots(slots: Option<Slots>, whole: Option<Slots>, level: u32) -> Option<Slots>
     requires fewer { AreFewer slots whole }
-    requires short { length (slots_in whole) < 2 ^ 32 }
+    requires low { level ≤ 20 }
+    requires long { IsOfHeight level whole }
     ensures joined_slots { IfSome result (λ c. (kind_in slots ≡ Some c.kind) × (kind_in whole ≡ Some c.kind)
-        × (c.hashes.items ≡ joined_slots (slots_in slots) (slots_in whole))) }
+        × ((t : Tree) → IsPerfect t → height t ≡ level
+        → c.hashes.items ≡ joined_slots (slots_in slots) t (slots_in whole))) }
     ensures same { kind_in slots ≡ kind_in whole → (kind_in result ≡ kind_in slots)
-        × (slots_in result ≡ joined_slots (slots_in slots) (slots_in whole)) }
+        × ((t : Tree) → IsPerfect t → height t ≡ level
+        → slots_in result ≡ joined_slots (slots_in slots) t (slots_in whole)) }
 {
     let Some(slots) = slots else {
         return None;
@@ -139,7 +144,7 @@ pub(crate) fn join_slots(slots: Option<Slots>, whole: Option<Slots>) -> Option<S
     if slots.kind != whole.kind {
         return None;
     }
-    whole.put_front(&slots);
+    whole.put_front(&slots, level);
     Some(whole)
 }
 

@@ -62,10 +62,10 @@ pub(crate) fn push_changed(
         }
         UndoEntry::Truncated(whole) => {
             let count = whole.leaf_count();
-            if count != 2 * leaves {
+            if count <= leaves {
                 return Ok(leaves);
             }
-            push_range(out, 2 * leaves - 1, 2 * leaves)?;
+            push_range(out, 2 * leaves - 1, 2 * (count - leaves))?;
             Ok(count)
         }
     }

@@ -167,18 +167,19 @@ impl Slots {
         }
     }
 
-    /// Replaces the first slots by those of `front`, which is of the same kind. The next slot is emptied.
-    pub(crate) fn put_front(&mut self, front: &Slots)
-        requires fewer { length front.now.hashes.items < length self.old.hashes.items }
-        requires short { length self.old.hashes.items < 2 ^ 32 }
+    /// Replaces the first slots by those of `front`, which is of the same kind. Empties the other slots of parents above
+    /// leaf 0, in a tree of height `level`.
+    pub(crate) fn put_front(&mut self, front: &Slots, level: u32)
+        requires fewer { length front.now.hashes.items ≤ length self.old.hashes.items }
+        requires low { level ≤ 20 }
+        requires long { length self.old.hashes.items + 1 ≡ 2 * leaves_at level }
         requires kind { front.now.kind ≡ self.old.kind }
-        ensures slots { self.new.hashes.items
-            ≡ joined_slots front.now.hashes.items self.old.hashes.items }
+        ensures slots { (t : Tree) → IsPerfect t → height t ≡ level → self.new.hashes.items
+            ≡ joined_slots front.now.hashes.items t self.old.hashes.items }
         ensures kind { self.new.kind ≡ self.old.kind }
     {
-        let root = front.hashes.len() as u32;
+        self.blank_path(level, 0, 0);
         self.hashes.put_front(&front.hashes);
-        self.hashes.clear(root);
         self.empty = self.hashes.count_empty();
     }
 

@@ -43,7 +43,7 @@ pub(crate) enum UndoEntry {
     },
     /// The tree, which has been extended.
     Extended,
-    /// A tree twice as large, without its left subtree.
+    /// A larger tree, without the leftmost subtree that the tree now is.
     Truncated(Box<PublicTree>),
 }
 
@@ -292,10 +292,11 @@ impl Journal {
     }
 
     /// Truncates the tree (RFC 9420, 7.7): replaces it by its left subtree as long as its right subtree has no
-    /// non-blank leaf. The journal stores the right subtrees and the roots. If memory runs out, the tree may have been
-    /// truncated some of these times.
+    /// non-blank leaf. The journal stores the larger tree, and what remains is copied once. If memory runs out,
+    /// the tree is unchanged.
     pub fn truncate(&mut self, alloc: Global, tree: &mut PublicTree) -> Result<(), AllocError>
         ensures shrunk { OnOk result (tree.new.tree ≡ truncate tree.old.tree) }
+        ensures unchanged_on_error { OnErr result (tree.new ≡ tree.old) }
         ensures before { before self.new tree.new.tree ≡ before self.old tree.old.tree }
         ensures kind { tree.new.kind ≡ tree.old.kind }
         ensures slots { OnOk result (tree.new.slots
@@ -304,14 +305,15 @@ impl Journal {
         ensures slots_back { SlotsAgreeExceptAt (direct_path 0 tree.old.tree 0)
             (slots_before self.old tree.old) (slots_before self.new tree.new) }
     {
-        while tree.can_be_halved() {
-            self.formers.try_reserve(1)?;
-            let slot = new_box(alloc)?;
-            let left = tree.take_left(alloc)?;
-            let whole = mem::replace(tree, left);
-            let whole = put_in(slot, whole);
-            self.formers.push_reserved(UndoEntry::Truncated(whole));
-        }
+        let Some(level) = tree.truncated_height() else {
+            return Ok(());
+        };
+        self.formers.try_reserve(1)?;
+        let slot = new_box(alloc)?;
+        let front = tree.take_front(alloc, level)?;
+        let whole = mem::replace(tree, front);
+        let whole = put_in(slot, whole);
+        self.formers.push_reserved(UndoEntry::Truncated(whole));
         Ok(())
     }
 

@@ -3,16 +3,16 @@ ghost use Rattle.std.specs.Prelude.{◌≡◌, ℕ, ◌+◌, ◌≤◌, ◌<◌,
 ghost use Rattle.std.specs.Bool.{OnTrue, OnFalse};
 ghost use Rattle.mls_nodes.specs.Limits.{leaf_limit};
 ghost use Rattle.mls_nodes.specs.NodeModel.{entry_value, node_value};
-ghost use Rattle.mls_tree.specs.Tree.{leaf_count, member_count, height, listing, node_at, leaf_at, IsBranch, IsParentNodeIndex};
+ghost use Rattle.mls_tree.specs.Tree.{leaf_count, member_count, height, listing, node_at, leaf_at, IsParentNodeIndex};
 ghost use Rattle.mls_tree.specs.Paths.{direct_path, copath, filtered_direct_path, resolution_at, count_not_in};
 ghost use Rattle.mls_tree.specs.BlankLeaves.{first_blank_leaf, next_blank_leaf, IsFirstBlank, AllLeavesNonBlank};
-ghost use Rattle.mls_tree.specs.TreeOperations.{put_leaf, put_parent, blank_path, change_parent, with_unmerged, without_unmerged, add_unmerged, is_overfilled, is_overfilled_above, IsOverfull, truncate, blank_tree, extend, left_subtree, rejoined};
+ghost use Rattle.mls_tree.specs.TreeOperations.{put_leaf, put_parent, blank_path, change_parent, with_unmerged, without_unmerged, add_unmerged, is_overfilled, is_overfilled_above, IsOverfull, truncate, blank_tree, extend, left_subtree, front_subtree, rejoined};
 ghost use Rattle.mls_tree.specs.NodeView.{parent_of};
 ghost use Rattle.mls_tree.specs.TreeSizes.{IsPowerOfTwo, IsTooLong, IsListing};
 ghost use Rattle.mls_tree.specs.SubtreeCounts.{subtree_count, AreCounts, AreOutside};
 ghost use Rattle.mls_tree.specs.CountsModel.{AreCountsIfAny};
 
-use crate::blanks::{blank_above, counted_blank_leaf, counts_non_blank_leaf, push_blanks};
+use crate::blanks::{blank_above, counted_blank_leaf, push_blanks, truncated_height};
 use crate::entries::{
     all_fit, as_leaf, clone_entries, count_leaves, into_leaf, into_parent, leaf_entry, parent_entry,
 };
@@ -514,24 +514,27 @@ impl NodeArray {
             return;
         }
         let below = self.height - 1;
-        self.nodes.truncate(2 * leaves_of(below) as usize - 1);
-        self.height = below;
+        self.shorten(below);
     }
 
-    /// Returns whether the tree has a right subtree without a non-blank leaf. Uses the counts of the tree's parents, if
-    /// there are any.
-    pub(crate) fn can_be_halved(&self, counts: Option<&[Count]>) -> bool
-        requires { AreCountsIfAny (option_copied counts) 0 self.now.tree }
-        ensures halves { OnTrue result (IsBranch self.now.tree) }
-        ensures smaller { OnTrue result
-            (truncate self.now.tree ≡ truncate (left_subtree self.now.tree)) }
-        ensures done { OnFalse result (truncate self.now.tree ≡ self.now.tree) }
+    // Replaces the tree by its leftmost subtree of height `level`.
+    fn shorten(&mut self, level: u32)
+        requires { level ≤ height self.old.tree }
+        ensures { self.new.tree ≡ front_subtree level self.old.tree }
     {
-        if self.height == 0 {
-            return false;
-        }
-        let below = self.height - 1;
-        !counts_non_blank_leaf(self.nodes.as_slice(), counts, below, leaves_of(below))
+        self.nodes.truncate(2 * leaves_of(level) as usize - 1);
+        self.height = level;
+    }
+
+    /// Returns the height of the tree truncated (RFC 9420, 7.7). Uses the counts of the tree's parents, if there are
+    /// any.
+    pub(crate) fn truncated_height(&self, counts: Option<&[Count]>) -> u32
+        requires { AreCountsIfAny (option_copied counts) 0 self.now.tree }
+        ensures value { result ≡ height (truncate self.now.tree) }
+        ensures front { front_subtree result self.now.tree ≡ truncate self.now.tree }
+        ensures low { result ≤ height self.now.tree }
+    {
+        truncated_height(self.nodes.as_slice(), counts, self.height)
     }
 
     /// Truncates the tree (RFC 9420, 7.7): replaces it by its left subtree as long as its right subtree has no
@@ -540,35 +543,35 @@ impl NodeArray {
         requires { AreCountsIfAny (option_copied counts) 0 self.old.tree }
         ensures { self.new.tree ≡ truncate self.old.tree }
     {
-        while self.can_be_halved(counts) {
-            self.cut();
-        }
+        let level = self.truncated_height(counts);
+        self.shorten(level);
     }
 
-    /// Takes out and returns the left subtree. The tree has blank nodes in its place.
-    pub(crate) fn take_left(&mut self, alloc: Global) -> Result<NodeArray, AllocError>
-        requires { IsBranch self.old.tree }
-        ensures left { IfOk result (λ l. l.tree ≡ left_subtree self.old.tree) }
-        ensures rest { IfOk result (λ l. rejoined l.tree self.new.tree ≡ self.old.tree) }
+    /// Takes out and returns the leftmost subtree of height `level`. The tree has blank nodes in its place.
+    pub(crate) fn take_front(&mut self, alloc: Global, level: u32) -> Result<NodeArray, AllocError>
+        requires { level ≤ height self.old.tree }
+        ensures front { IfOk result (λ f. f.tree ≡ front_subtree level self.old.tree) }
+        ensures level { IfOk result (λ f. height f.tree ≡ level) }
+        ensures rest { IfOk result (λ f. rejoined f.tree self.new.tree ≡ self.old.tree) }
+        ensures rest_height { height self.new.tree ≡ height self.old.tree }
         ensures unchanged_on_error { OnErr result (self.new ≡ self.old) }
     {
-        let below = self.height - 1;
         let mut nodes = Vec::new(alloc);
-        push_blanks(&mut nodes, 2 * leaves_of(below) - 1)?;
+        push_blanks(&mut nodes, 2 * leaves_of(level) - 1)?;
         swap_prefix(&mut self.nodes, &mut nodes);
-        let left = NodeArray {
+        let front = NodeArray {
             nodes,
-            height: below,
+            height: level,
         };
-        Ok(left)
+        Ok(front)
     }
 
-    /// Replaces the left subtree of `whole` by this tree, and this tree by the result. A tree of another height is
-    /// unchanged. Does not allocate.
+    /// Replaces the leftmost subtree of `whole` that is as high as this tree by this tree, and this tree by the result.
+    /// If `whole` is not higher, this tree is unchanged. Does not allocate.
     pub(crate) fn rejoin(&mut self, mut whole: NodeArray)
         ensures { self.new.tree ≡ rejoined self.old.tree whole.tree }
     {
-        if self.height + 1 != whole.height {
+        if self.height >= whole.height {
             return;
         }
         swap_prefix(&mut whole.nodes, &mut self.nodes);

@@ -4,10 +4,10 @@ ghost use Rattle.std.specs.Bool.{OnTrue, OnFalse};
 ghost use Rattle.mls_tree.specs.SlotChanges.{rejoined_slots, SlotsAgreeExceptAt};
 ghost use Rattle.mls_nodes.specs.Limits.{leaf_limit};
 ghost use Rattle.mls_nodes.specs.NodeModel.{entry_value, node_value};
-ghost use Rattle.mls_tree.specs.Tree.{leaf_count, member_count, height, listing, node_at, leaf_at, IsBranch, IsParentNodeIndex};
+ghost use Rattle.mls_tree.specs.Tree.{leaf_count, member_count, height, listing, node_at, leaf_at, IsParentNodeIndex};
 ghost use Rattle.mls_tree.specs.Paths.{direct_path, copath, filtered_direct_path, resolution_at, count_not_in};
 ghost use Rattle.mls_tree.specs.BlankLeaves.{first_blank_leaf, next_blank_leaf, IsFirstBlank, AllLeavesNonBlank};
-ghost use Rattle.mls_tree.specs.TreeOperations.{put_leaf, put_parent, blank_path, change_parent, with_unmerged, without_unmerged, add_unmerged, is_overfilled, is_overfilled_above, IsOverfull, truncate, blank_tree, extend, left_subtree, rejoined, seat};
+ghost use Rattle.mls_tree.specs.TreeOperations.{put_leaf, put_parent, blank_path, change_parent, with_unmerged, without_unmerged, add_unmerged, is_overfilled, is_overfilled_above, IsOverfull, truncate, blank_tree, extend, left_subtree, front_subtree, rejoined, seat};
 ghost use Rattle.mls_tree.specs.NodeView.{parent_of};
 ghost use Rattle.mls_tree.specs.TreeSizes.{IsPowerOfTwo, IsTooLong, IsListing};
 ghost use Rattle.mls_tree.specs.HashCache.{emptied, empty_count, extended, parents_from, hash_in, IsRightHash, AreAllFilled};
@@ -25,6 +25,7 @@ use crate::hash_cache::Slots;
 use crate::hash_kind::HashKind;
 use crate::hash_value::HashValue;
 use crate::node_array::NodeArray;
+use crate::tree_size::leaves_of;
 use mls_nodes::{LeafNode, Node, ParentNode};
 use std::alloc::{AllocError, Global};
 use std::collections::BTreeSet;
@@ -561,15 +562,19 @@ impl PublicTree {
         truncate_counts(&mut self.counts, self.tree.leaf_count());
     }
 
-    /// Returns whether the tree has a right subtree without a non-blank leaf.
-    pub(crate) fn can_be_halved(&self) -> bool
-        ensures halves { OnTrue result (IsBranch self.now.tree) }
-        ensures smaller { OnTrue result
-            (truncate self.now.tree ≡ truncate (left_subtree self.now.tree)) }
-        ensures done { OnFalse result (truncate self.now.tree ≡ self.now.tree) }
+    /// Returns the height of the tree truncated (RFC 9420, 7.7). `None` if truncating leaves the tree unchanged.
+    pub(crate) fn truncated_height(&self) -> Option<u32>
+        ensures lower { IfSome result (λ level. level < height self.now.tree) }
+        ensures front { IfSome result
+            (λ level. front_subtree level self.now.tree ≡ truncate self.now.tree) }
+        ensures unchanged { result ≡ None → truncate self.now.tree ≡ self.now.tree }
         ensures slots { length self.now.slots < 2 * leaf_count self.now.tree }
     {
-        self.tree.can_be_halved(counts_in(&self.counts))
+        let level = self.tree.truncated_height(counts_in(&self.counts));
+        if level == self.tree.height() {
+            return None;
+        }
+        Some(level)
     }
 
     /// Truncates the tree (RFC 9420, 7.7): replaces it by its left subtree as long as its right subtree has no
@@ -585,50 +590,54 @@ impl PublicTree {
         truncate_counts(&mut self.counts, self.tree.leaf_count());
     }
 
-    /// Takes out and returns the left subtree, with its cache slots. The tree has blank nodes and empty slots in its place.
-    pub(crate) fn take_left(&mut self, alloc: Global) -> Result<PublicTree, AllocError>
-        requires { IsBranch self.old.tree }
-        ensures left { IfOk result (λ l. l.tree ≡ left_subtree self.old.tree) }
-        ensures rest { IfOk result (λ l. rejoined l.tree self.new.tree ≡ self.old.tree) }
-        ensures kind { IfOk result (λ l. l.kind ≡ self.old.kind) }
+    /// Takes out and returns the leftmost subtree of height `level`, with its cache slots. The tree has blank nodes and
+    /// empty slots in its place, and the slots of the parents above leaf 0 are empty.
+    pub(crate) fn take_front(&mut self, alloc: Global, level: u32) -> Result<PublicTree, AllocError>
+        requires { level < height self.old.tree }
+        ensures front { IfOk result (λ f. f.tree ≡ front_subtree level self.old.tree) }
+        ensures rest { IfOk result (λ f. rejoined f.tree self.new.tree ≡ self.old.tree) }
+        ensures kind { IfOk result (λ f. f.kind ≡ self.old.kind) }
         ensures slots { IfOk result
-            (λ l. l.slots ≡ take (2 * leaf_count l.tree - 1) self.old.slots) }
+            (λ f. f.slots ≡ take (2 * leaf_count f.tree - 1) self.old.slots) }
         ensures unchanged_on_error { OnErr result (self.new ≡ self.old) }
         ensures rest_kind { OnOk result (self.new.kind ≡ self.old.kind) }
-        ensures count { IfOk result (λ l. length self.old.slots
-            ≡ length (rejoined_slots l.tree l.slots self.new.tree self.new.slots)) }
-        ensures again { IfOk result (λ l. SlotsAgreeExceptAt
-            ((leaf_count self.old.tree - 1) ∷ []) self.old.slots
-            (rejoined_slots l.tree l.slots self.new.tree self.new.slots)) }
+        ensures count { IfOk result (λ f. length self.old.slots
+            ≡ length (rejoined_slots f.tree f.slots self.new.tree self.new.slots)) }
+        ensures again { IfOk result (λ f. SlotsAgreeExceptAt
+            (direct_path 0 self.old.tree 0) self.old.slots
+            (rejoined_slots f.tree f.slots self.new.tree self.new.slots)) }
     {
-        let count = self.tree.leaf_count() - 1;
+        let height = self.tree.height();
+        let count = 2 * leaves_of(level) - 1;
         let slots = clone_front(alloc, &self.slots, count as usize)?;
-        let left = self.tree.take_left(alloc)?;
-        empty_front(&mut self.slots, count);
+        let front = self.tree.take_front(alloc, level)?;
+        empty_front(&mut self.slots, count, height);
         let mut counts = mem::replace(&mut self.counts, None);
-        truncate_counts(&mut counts, left.leaf_count());
+        truncate_counts(&mut counts, front.leaf_count());
         Ok(PublicTree {
-            tree: left,
+            tree: front,
             slots,
             counts,
         })
     }
 
-    /// Makes the tree the left subtree of `whole`, and replaces the tree by the result. A tree of another height is
-    /// unchanged. If both caches are of one kind, the slots of both subtrees are unchanged. Does not allocate.
+    /// Makes the tree the leftmost subtree of `whole` that is as high, and replaces the tree by the result. If `whole`
+    /// is not higher, the tree is unchanged. If both caches are of one kind, only the slots of the parents above that
+    /// subtree become empty. Does not allocate.
     pub(crate) fn rejoin(&mut self, whole: PublicTree)
         ensures tree { self.new.tree ≡ rejoined self.old.tree whole.tree }
         ensures kind { whole.kind ≡ self.old.kind → self.new.kind ≡ self.old.kind }
         ensures slots { whole.kind ≡ self.old.kind → self.new.slots
             ≡ rejoined_slots self.old.tree self.old.slots whole.tree whole.slots }
     {
-        if self.tree.height() + 1 != whole.tree.height() {
+        let level = whole.tree.height();
+        if self.tree.height() >= level {
             return;
         }
         let slots = mem::replace(&mut self.slots, None);
         let counts = mem::replace(&mut self.counts, None);
         self.tree.rejoin(whole.tree);
-        self.slots = join_slots(slots, whole.slots);
+        self.slots = join_slots(slots, whole.slots, level);
         self.counts = count_in_place(counts, &self.tree);
     }
 

@@ -1,4 +1,4 @@
-//! Left subtrees that are taken out of a tree and put back.
+//! Leftmost subtrees that are taken out of a tree and put back.
 ghost use Rattle.std.specs.Prelude.{◌≡◌, ℕ, ◌<◌, ◌≤◌, length, slice_get};
 
 use mls_nodes::Node;

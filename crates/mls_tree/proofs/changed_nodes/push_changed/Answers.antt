@@ -1,7 +1,7 @@
 use Rattle.std.proofs.Common.{◌/◌, ◌∙◌, ap, sym, refl, subst, arith}
 use Rattle.mls_tree.specs.Tree.{leaf_count}
 use Rattle.mls_tree.specs.PublicTreeModel.{KeptTree}
-use Rattle.mls_tree.proofs.ChangedNodeIndices.{Lists, lists_changes-one, lists_changes-no_whole, lists_changes-leaf, lists_changes-parent, lists_changes-in_lists, lists_changes-grown, lists_changes-halved}
+use Rattle.mls_tree.proofs.ChangedNodeIndices.{Lists, few-leaves, lists_changes-one, lists_changes-no_whole, lists_changes-leaf, lists_changes-parent, lists_changes-in_lists, lists_changes-grown, lists_changes-truncated}
 use Rattle.mls_tree.proofs.changed_nodes.push_changed.Goals as goal
 
 pub returns-then-leaves-eq1-clause-leaves : goal.returns-then-leaves-eq1-clause-leaves
@@ -25,7 +25,7 @@ returns-then-count-leaves-clause-leaves c =
     let old = c.args.out.now.items in
     let new = c.args.out.now.items in
     let n = c.args.leaves in
-    let changes_listed : Lists old new n n c.args.former.now = subst (λ f. Lists old new n n f) (sym c.in-Truncated.is) (lists_changes-no_whole old old n c.in-Truncated.whole (λ e. c.if-count-leaves.true (c.leaf_count-count.ensures ∙ ap (λ (v : KeptTree). leaf_count v.tree) c.deref.ensures ∙ e)) refl) in
+    let changes_listed : Lists old new n n c.args.former.now = subst (λ f. Lists old new n n f) (sym c.in-Truncated.is) (lists_changes-no_whole old old n c.in-Truncated.whole (omega (arith, c.if-count-leaves.true, c.leaf_count-count.ensures, ap (λ (v : KeptTree). leaf_count v.tree) c.deref.ensures)) refl) in
     changes_listed.count
 
 pub returns-then-count-leaves-clause-node_indices : goal.returns-then-count-leaves-clause-node_indices
@@ -33,7 +33,7 @@ returns-then-count-leaves-clause-node_indices c =
     let old = c.args.out.now.items in
     let new = c.args.out.now.items in
     let n = c.args.leaves in
-    let changes_listed : Lists old new n n c.args.former.now = subst (λ f. Lists old new n n f) (sym c.in-Truncated.is) (lists_changes-no_whole old old n c.in-Truncated.whole (λ e. c.if-count-leaves.true (c.leaf_count-count.ensures ∙ ap (λ (v : KeptTree). leaf_count v.tree) c.deref.ensures ∙ e)) refl) in
+    let changes_listed : Lists old new n n c.args.former.now = subst (λ f. Lists old new n n f) (sym c.in-Truncated.is) (lists_changes-no_whole old old n c.in-Truncated.whole (omega (arith, c.if-count-leaves.true, c.leaf_count-count.ensures, ap (λ (v : KeptTree). leaf_count v.tree) c.deref.ensures)) refl) in
     changes_listed.node_indices
 
 pub returns-in_ok-push-in-Leaf-clause-leaves : goal.returns-in_ok-push-in-Leaf-clause-leaves
@@ -105,7 +105,7 @@ returns-in_ok-push_range-in-Truncated-clause-leaves c =
     let old = c.args.out.now.items in
     let new = c.push_range-in-Truncated.new.out.items in
     let n = c.args.leaves in
-    let changes_listed : Lists old new n c.leaf_count-count.result c.args.former.now = subst (λ f. Lists old new n c.leaf_count-count.result f) (sym c.in-Truncated.is) (lists_changes-halved old new n c.leaf_count-count.result c.in-Truncated.whole (c.leaf_count-count.ensures ∙ ap (λ (v : KeptTree). leaf_count v.tree) c.deref.ensures) c.if-count-leaves.false c.in_ok-push_range-in-Truncated.ensures) in
+    let changes_listed : Lists old new n c.leaf_count-count.result c.args.former.now = subst (λ f. Lists old new n c.leaf_count-count.result f) (sym c.in-Truncated.is) (lists_changes-truncated old new n c.leaf_count-count.result c.in-Truncated.whole (c.leaf_count-count.ensures ∙ ap (λ (v : KeptTree). leaf_count v.tree) c.deref.ensures) c.if-count-leaves.false c.in_ok-push_range-in-Truncated.ensures) in
     changes_listed.count
 
 pub returns-in_ok-push_range-in-Truncated-clause-node_indices : goal.returns-in_ok-push_range-in-Truncated-clause-node_indices
@@ -113,5 +113,11 @@ returns-in_ok-push_range-in-Truncated-clause-node_indices c =
     let old = c.args.out.now.items in
     let new = c.push_range-in-Truncated.new.out.items in
     let n = c.args.leaves in
-    let changes_listed : Lists old new n c.leaf_count-count.result c.args.former.now = subst (λ f. Lists old new n c.leaf_count-count.result f) (sym c.in-Truncated.is) (lists_changes-halved old new n c.leaf_count-count.result c.in-Truncated.whole (c.leaf_count-count.ensures ∙ ap (λ (v : KeptTree). leaf_count v.tree) c.deref.ensures) c.if-count-leaves.false c.in_ok-push_range-in-Truncated.ensures) in
+    let changes_listed : Lists old new n c.leaf_count-count.result c.args.former.now = subst (λ f. Lists old new n c.leaf_count-count.result f) (sym c.in-Truncated.is) (lists_changes-truncated old new n c.leaf_count-count.result c.in-Truncated.whole (c.leaf_count-count.ensures ∙ ap (λ (v : KeptTree). leaf_count v.tree) c.deref.ensures) c.if-count-leaves.false c.in_ok-push_range-in-Truncated.ensures) in
     changes_listed.node_indices
+
+pub overflow_mul-count : goal.overflow_mul-count
+overflow_mul-count c = let w = c.deref.result.now in omega (arith, few-leaves w.tree w.shape, c.leaf_count-count.ensures)
+
+pub push_range-requires-in-Truncated : goal.push_range-requires-in-Truncated
+push_range-requires-in-Truncated c = let w = c.deref.result.now in omega (arith, few-leaves w.tree w.shape, c.leaf_count-count.ensures)

@@ -1,7 +1,7 @@
 use Rattle.std.proofs.Common.{ap, sym, ◌∙◌, ◌*◌, ◌-◌, take}
 use Rattle.mls_tree.specs.Tree.{leaf_count}
 use Rattle.mls_tree.specs.PublicTreeModel.{KeptTree}
-use Rattle.mls_tree.proofs.HalfSlots.{front-extended}
+use Rattle.mls_tree.proofs.FrontSlots.{front-extended}
 use Rattle.mls_tree.specs.HashCache.{extended}
 use Rattle.mls_tree.specs.CacheModel.{kind_in, slots_in}
 use Rattle.mls_tree.proofs.KeptSlots.{of_kind, slots-extend}

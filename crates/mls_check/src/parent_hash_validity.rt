@@ -268,7 +268,7 @@ pub(crate) fn first_parent_hash_invalid(
     alloc: Global,
     suite: Suite,
     tree: &PublicTree,
-    hashes: &SubtreeHashes,
+    hashes: &SubtreeHashes<'_>,
 ) -> Result<Option<u32>, AllocError>
     requires hashes { AreSubtreeHashes (hash_of suite) tree.now.tree hashes.now }
     requires sorted { HasStrictlyIncreasingLists tree.now.tree }

@@ -54,7 +54,7 @@ impl From<AllocError> for TreeFault {
 }
 
 /// Returns whether the tree, whose subtrees have these hashes, has this tree hash.
-fn has_hash(tree: &PublicTree, hashes: &SubtreeHashes, hash: &[u8]) -> bool
+fn has_hash(tree: &PublicTree, hashes: &SubtreeHashes<'_>, hash: &[u8]) -> bool
     ensures { (H : List ℕ → List ℕ) → AreSubtreeHashes H tree.now.tree hashes.now
         → (IsTrue result ↔ (tree_hash H 0 tree.now.tree ≡ Some hash.now)) }
 {
@@ -94,7 +94,7 @@ fn validate_tree_by(
     suite: Suite,
     context: &GroupContext,
     tree: &PublicTree,
-    hashes: &SubtreeHashes,
+    hashes: &SubtreeHashes<'_>,
 ) -> Result<(), TreeFault>
     requires suite_of_context { suite ≡ context.now.cipher_suite }
     requires hashes { AreSubtreeHashes (hash_of suite) tree.now.tree hashes.now }

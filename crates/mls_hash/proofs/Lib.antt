@@ -6,5 +6,7 @@ pub mod Strips
 pub mod Answers
 pub mod Alike
 pub mod Known
+pub mod MarkedHashes
 pub mod Filling
 pub mod KeptHashing
+mod CachedLists

@@ -1,7 +1,7 @@
 //! The hash cache of a tree: reading it, and filling its empty slots (RFC 9420, 7.8).
 
-ghost use Rattle.std.specs.Prelude.{◌≡◌, ◌≢◌, ◌+◌, ◌*◌, Some, OnOk, IfOk, IfErr, IfSome};
-ghost use Rattle.mls_tree.specs.HashCache.{empty_count, AreAllFilled};
+ghost use Rattle.std.specs.Prelude.{◌≡◌, ◌≢◌, ◌+◌, ◌*◌, Some, OnOk, IfOk, IfErr, IfSome, slice_get};
+ghost use Rattle.mls_tree.specs.HashCache.{empty_count, hash_in, AreAllFilled};
 ghost use Rattle.mls_tree.specs.Tree.{leaf_count, subtree_at};
 ghost use Rattle.mls_hash.specs.SuiteHash.{hash_of, kind_of};
 ghost use Rattle.mls_hash.specs.HashInputs.{HashesSubtree};
@@ -18,7 +18,8 @@ use std::alloc::Global;
 
 /// Returns the cached tree hash of the subtree at a node index, if the cache is of the suite's hash function.
 pub(crate) fn kept_hash(suite: Suite, tree: &PublicTree, node_index: u32) -> Option<HashValue>
-    ensures { IfSome result (λ h. tree_hash_at (hash_of suite) tree.now.tree node_index ≡ Some h) }
+    ensures cached { IfSome result (λ h. hash_in (slice_get tree.now.slots node_index) ≡ Some h) }
+    ensures right { IfSome result (λ h. tree_hash_at (hash_of suite) tree.now.tree node_index ≡ Some h) }
 {
     if tree.hash_kind() != Some(suite.kind()) {
         return None;

@@ -44,7 +44,7 @@ pub struct ChildHashes {
 /// children are visited before their parent, and their lists agree, no subtree is hashed twice without them.
 #[derive(Drop)]
 pub struct OriginalHashes<'a> {
-    subtrees: &'a SubtreeHashes,
+    subtrees: &'a SubtreeHashes<'a>,
     own: OwnHashes,
     writer: Writer,
 }
@@ -62,7 +62,7 @@ impl<'a> OriginalHashes<'a> {
     pub fn new(
         alloc: Global,
         tree: &PublicTree,
-        subtrees: &'a SubtreeHashes,
+        subtrees: &'a SubtreeHashes<'a>,
     ) -> Result<OriginalHashes<'a>, AllocError>
         ensures { (H : List ℕ → List ℕ) → AreSubtreeHashes H tree.now.tree subtrees.now
             → IfOk result (λ o. AreKnownHashes H tree.now.tree o) }
@@ -148,7 +148,7 @@ impl<'a> OriginalHashes<'a> {
         }
     }
 
-    /// Stores the own hash of the parent at a node index, if its length is that of the other hashes.
+    /// Stores the own hash of the parent at a node index, if there is memory and its length is that of the others.
     fn store(&mut self, node_index: u32, hash: &HashValue)
         ensures { KeepsOwn node_index hash.now self.old self.new }
     {

@@ -9,21 +9,24 @@ use std::marker::Model;
 /// Hashes of one length, some of which are known.
 ///
 /// The model is the list of those that are known, each at its index.
+///
+/// `hashes` is empty until the first hash is stored, since most trees store none.
 #[derive(Drop)]
 pub(crate) struct OwnHashes {
+    alloc: Global,
     known: Vec<bool>,
     hashes: HashList,
 }
 
 impl Model for OwnHashes {
-    ghost use Rattle.std.specs.Prelude.{◌≡◌, ℕ, List, Option, length};
-    ghost use Rattle.mls_tree.specs.HashListsInternal.{known_hashes};
+    ghost use Rattle.std.specs.Prelude.{ℕ, List, Option};
+    ghost use Rattle.mls_hash.specs.OwnHashesInternal.{AreStored, marked_hashes};
 
     ghost Value = { List (Option (List ℕ)) };
 
-    ghost view = { λ o. known_hashes o.known.items o.hashes.hashes };
+    ghost view = { λ o. marked_hashes o.known.items o.hashes.hashes };
 
-    ghost invariant = { λ o. length o.known.items ≡ length o.hashes.hashes };
+    ghost invariant = { λ o. AreStored o.known.items o.hashes.hashes };
 }
 
 impl OwnHashes {
@@ -35,8 +38,9 @@ impl OwnHashes {
             (λ o. (k : ℕ) (hash : List ℕ) → slice_get o k ≢ Some (Some hash)) }
     {
         Ok(OwnHashes {
+            alloc,
             known: vec![in alloc; false; count]?,
-            hashes: HashList::blank(alloc, count, width)?,
+            hashes: HashList::blank(alloc, 0, width)?,
         })
     }
 
@@ -51,14 +55,23 @@ impl OwnHashes {
     }
 
     /// Stores a hash, if there is such an index and the hash has the length of the others. Otherwise nothing changes,
-    /// which only takes more time.
+    /// which only takes more time. The first hash that is stored allocates memory for all. If that fails, nothing
+    /// changes either.
     pub(crate) fn store(&mut self, index: u32, hash: &HashValue)
         ensures { (self.new ≡ self.old) ⊎ (self.new ≡ slice_set self.old index (Some hash.now)) }
     {
         let count = self.known.len();
-        if (index as usize) < count && hash.as_slice().len() == self.hashes.width() {
-            self.hashes.put(index, hash);
-            self.known[index as usize] = true;
+        let width = self.hashes.width();
+        if index as usize >= count || hash.as_slice().len() != width {
+            return;
         }
+        if self.hashes.get(index).is_none() {
+            let Ok(hashes) = HashList::blank(self.alloc, count, width) else {
+                return;
+            };
+            self.hashes = hashes;
+        }
+        self.hashes.put(index, hash);
+        self.known[index as usize] = true;
     }
 }

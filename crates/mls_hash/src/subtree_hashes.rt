@@ -1,13 +1,13 @@
 //! The tree hashes of all subtrees of a tree, each computed once (RFC 9420, 7.8).
 
-ghost use Rattle.std.specs.Prelude.{◌≡◌, ◌≤◌, IfOk, OnOk, slice_get};
+ghost use Rattle.std.specs.Prelude.{◌≡◌, ◌+◌, ◌*◌, ◌≤◌, IfOk, OnOk, slice_get};
 ghost use Rattle.std.specs.Bool.{OnTrue};
-ghost use Rattle.mls_tree.specs.Tree.{subtree_at};
+ghost use Rattle.mls_tree.specs.Tree.{leaf_count, subtree_at};
 ghost use Rattle.mls_hash.specs.SuiteHash.{hash_of};
 ghost use Rattle.mls_hash.specs.HashInputs.{HashesSubtree};
 ghost use Rattle.mls_hash.specs.WithoutLeaves.{tree_hash_at};
-ghost use Rattle.mls_hash.specs.SubtreeHashes.{AreAllHashes, AreSubtreeHashes};
-ghost use Rattle.mls_hash.specs.SubtreeHashesInternal.{AreHashesKept, AreHashesUnder, HasEntryForEachSubtree};
+ghost use Rattle.mls_hash.specs.SubtreeHashes.{AreAllHashes};
+ghost use Rattle.mls_hash.specs.SubtreeHashesInternal.{AreHashesKept, AreHashesUnder, HasEntryForEachSubtree, AreCachedHashes, AreFilledIn, hashes_in};
 
 use crate::cached_hashes::kept_hash;
 use crate::fault::HashFault;
@@ -19,20 +19,53 @@ use mls_wire::Writer;
 use std::alloc::{AllocError, Global};
 use std::marker::Model;
 
-/// The tree hash of the subtree at each node index of a tree (RFC 9420, 7.8), each computed once.
-///
-/// Each takes as many bytes as a hash of the suite. The model is the list of the hashes, by node index.
+/// Where the hashes are.
 #[derive(Drop)]
-pub struct SubtreeHashes {
-    hashes: HashList,
+enum Stored<'a> {
+    /// In the first `count` slots of a tree's cache, which are all filled.
+    InTree { tree: &'a PublicTree, count: u32 },
+    /// In a list.
+    InList(HashList),
 }
 
-impl Model for SubtreeHashes {
-    ghost use Rattle.std.specs.Prelude.{ℕ, List};
+impl<'a> Stored<'a> {
+    /// Returns the hash at a node index.
+    fn get(&self, node_index: u32) -> Option<HashValue>
+        requires { AreFilledIn self.now }
+        ensures { result ≡ slice_get (hashes_in self.now) node_index }
+    {
+        match self {
+            Stored::InTree { tree, count } => {
+                if node_index < *count {
+                    tree.kept_hash(node_index)
+                } else {
+                    None
+                }
+            }
+            Stored::InList(hashes) => hashes.get(node_index),
+        }
+    }
+}
+
+/// The tree hash of the subtree at each node index of a tree (RFC 9420, 7.8), each computed once.
+///
+/// If the tree caches all of them, they are read there. Otherwise each takes as many bytes as a hash of the suite. The
+/// model is the list of the hashes, by node index.
+#[derive(Drop)]
+pub struct SubtreeHashes<'a> {
+    stored: Stored<'a>,
+    width: usize,
+}
+
+impl<'a> Model for SubtreeHashes<'a> {
+    ghost use Rattle.std.specs.Prelude.{ℕ, ◌≤◌, List};
+    ghost use Rattle.mls_hash.specs.SubtreeHashesInternal.{AreFilledIn, hashes_in};
 
     ghost Value = { List (List ℕ) };
 
-    ghost view = { λ s. s.hashes.hashes };
+    ghost view = { λ s. hashes_in s.stored };
+
+    ghost invariant = { λ s. AreFilledIn s.stored × (s.width ≤ 64) };
 }
 
 /// Hashes the subtree at a node index, children first, and stores the hash of each of its subtrees. Uses one buffer.
@@ -77,53 +110,78 @@ fn put_hashes(
     }
 }
 
-/// Copies the cached tree hashes of a tree, if they are of the suite's hash function, and returns whether all slots are
-/// filled. Stops at the first empty one.
-fn put_kept(suite: Suite, tree: &PublicTree, hashes: &mut HashList) -> bool
-    requires { HasEntryForEachSubtree suite tree.now.tree hashes.old }
-    ensures capacity { HasEntryForEachSubtree suite tree.now.tree hashes.new }
-    ensures kept { OnTrue result
-        (AreSubtreeHashes (hash_of suite) tree.now.tree hashes.new.hashes) }
+/// Returns whether a tree caches the tree hashes of all its subtrees, by the suite's hash function. Stops at the first
+/// empty slot.
+fn are_all_cached(suite: Suite, tree: &PublicTree, count: u32) -> bool
+    requires { count + 1 ≡ 2 * leaf_count tree.now.tree }
+    ensures { OnTrue result (AreCachedHashes (hash_of suite) tree.now.tree count tree.now.slots) }
 {
-    for node_index in 0..2 * tree.leaf_count() - 1 {
-        let Some(hash) = kept_hash(suite, tree, node_index) else {
+    for node_index in 0..count {
+        if kept_hash(suite, tree, node_index).is_none() {
             return false;
-        };
-        hashes.put(node_index, &hash);
+        }
     }
     true
 }
 
-impl SubtreeHashes {
-    /// Hashes each subtree of a tree, children first: one hash for each node. If all of them are cached, they are
-    /// copied.
-    pub fn new(alloc: Global, suite: Suite, tree: &PublicTree) -> Result<SubtreeHashes, AllocError>
+/// Hashes each subtree of a tree, children first, into a list.
+fn hash_all(alloc: Global, suite: Suite, tree: &PublicTree) -> Result<HashList, AllocError>
+    ensures { IfOk result (λ list. AreAllHashes (hash_of suite) tree.now.tree list.hashes) }
+{
+    let mut hashes = HashList::blank(alloc, tree.nodes().len(), suite.hash_len())?;
+    let root = tree.leaf_count() - 1;
+    let mut writer = Writer::new(alloc);
+    match put_hashes(alloc, suite, tree, root, &mut hashes, &mut writer) {
+        Ok(_) => Ok(hashes),
+        Err(HashFault::OutOfMemory) => Err(AllocError),
+        Err(_) => unreachable!(),
+    }
+}
+
+/// Returns the tree hashes of all subtrees: those that the tree caches, if it caches all of them.
+fn stored_hashes<'a>(
+    alloc: Global,
+    suite: Suite,
+    tree: &'a PublicTree,
+) -> Result<Stored<'a>, AllocError>
+    ensures hashes { IfOk result
+        (λ stored. AreAllHashes (hash_of suite) tree.now.tree (hashes_in stored)) }
+    ensures filled { IfOk result (λ stored. AreFilledIn stored) }
+{
+    let count = 2 * tree.leaf_count() - 1;
+    if are_all_cached(suite, tree, count) {
+        return Ok(Stored::InTree { tree, count });
+    }
+    Ok(Stored::InList(hash_all(alloc, suite, tree)?))
+}
+
+impl<'a> SubtreeHashes<'a> {
+    /// Hashes each subtree of a tree, children first: one hash for each node. If the tree caches all of them, they are
+    /// not computed or copied.
+    pub fn new(
+        alloc: Global,
+        suite: Suite,
+        tree: &'a PublicTree,
+    ) -> Result<SubtreeHashes<'a>, AllocError>
         ensures { IfOk result (AreAllHashes (hash_of suite) tree.now.tree) }
     {
-        let mut hashes = HashList::blank(alloc, tree.nodes().len(), suite.hash_len())?;
-        if put_kept(suite, tree, &mut hashes) {
-            return Ok(SubtreeHashes { hashes });
-        }
-        let root = tree.leaf_count() - 1;
-        let mut writer = Writer::new(alloc);
-        match put_hashes(alloc, suite, tree, root, &mut hashes, &mut writer) {
-            Ok(_) => Ok(SubtreeHashes { hashes }),
-            Err(HashFault::OutOfMemory) => Err(AllocError),
-            Err(_) => unreachable!(),
-        }
+        Ok(SubtreeHashes {
+            stored: stored_hashes(alloc, suite, tree)?,
+            width: suite.hash_len(),
+        })
     }
 
     /// Returns the tree hash of the subtree at a node index. `None` if there is none.
     pub fn get(&self, node_index: u32) -> Option<HashValue>
         ensures { result ≡ slice_get self.now node_index }
     {
-        self.hashes.get(node_index)
+        self.stored.get(node_index)
     }
 
     /// Returns the length of each hash.
     pub(crate) fn width(&self) -> usize
         ensures { result ≤ 64 }
     {
-        self.hashes.width()
+        self.width
     }
 }

@@ -7,6 +7,8 @@ use mls_hash::{
     HashFault, HashValue, Side, SubtreeHashes, Suite, hash, original_tree_hash, parent_hash,
     ref_hash, tree_hash,
 };
+use mls_tree::PublicTree;
+use std::alloc::{AllocError, Global};
 
 /// A field that is the number of a cipher suite that is followed.
 pub(crate) fn suite_at(row: &Row, at: usize) -> Result<Suite, RowFault> {
@@ -100,15 +102,25 @@ pub(crate) fn hash_of_parent(row: &Row) -> Result<CallResult, RowFault> {
     hash_result(row, found)
 }
 
+/// Returns the hash of a node in the list of the hashes of all subtrees.
+fn listed_hash(
+    alloc: Global,
+    suite: Suite,
+    tree: &PublicTree,
+    index: u32,
+) -> Result<Option<HashValue>, AllocError> {
+    Ok(SubtreeHashes::new(alloc, suite, tree)?.get(index))
+}
+
 /// `subtree_hash | SUITE | TREE | NODE INDEX`: the hash of a node in the list of the hashes of all subtrees, or `none`.
 pub(crate) fn one_of_all(row: &Row) -> Result<CallResult, RowFault> {
     row.has(3)?;
     let index = row.number(3)?;
     let suite = suite_at(row, 1)?;
     let tree = row.tree(2)?;
-    let kept = SubtreeHashes::new(row.alloc, suite, &tree);
+    let hash = listed_hash(row.alloc, suite, &tree, index);
     drop(tree);
-    match kept?.get(index) {
+    match hash? {
         Some(hash) => CallResult::bytes(row.alloc, hash.as_slice()),
         None => CallResult::word(row.alloc, "none"),
     }

@@ -107,7 +107,7 @@ fn has_resolutions(alloc: Global, tree: &PublicTree, vector: &Value) -> Result<b
 /// Returns whether an entry is the cached tree hash at a node index.
 fn is_kept_hash(
     alloc: Global,
-    hashes: &SubtreeHashes,
+    hashes: &SubtreeHashes<'_>,
     node_index: u32,
     entry: &Value,
 ) -> Result<bool, AllocError>
@@ -123,7 +123,7 @@ fn is_kept_hash(
 fn are_kept_hashes(
     alloc: Global,
     leaves: u32,
-    hashes: &SubtreeHashes,
+    hashes: &SubtreeHashes<'_>,
     entries: &[Value],
 ) -> Result<bool, AllocError>
     requires { leaves ≤ leaf_limit }
@@ -149,7 +149,7 @@ fn are_kept_hashes(
 fn has_kept_hashes(
     alloc: Global,
     leaves: u32,
-    hashes: &SubtreeHashes,
+    hashes: &SubtreeHashes<'_>,
     vector: &Value,
 ) -> Result<bool, AllocError>
     requires { leaves ≤ leaf_limit }

@@ -1,7 +1,7 @@
 use Rattle.std.proofs.Common.{◌≡◌, ℕ, true, List, Option, Some, sym, ap, subst, ◌∙◌, rules}
 use Rattle.std.specs.Prelude.{IfSome, slice_get}
 use Rattle.std.proofs.lemmas.Option.{slice_get-get_or}
-use Rattle.mls_tree.proofs.HashRows.{read_option}
+use Rattle.mls_hash.proofs.MarkedHashes.{read_option}
 use Rattle.mls_hash.proofs.parent_original_hashes.OwnHashes.get.Goals as goal
 
 pub returns-in-Some-true : goal.returns-in-Some-true

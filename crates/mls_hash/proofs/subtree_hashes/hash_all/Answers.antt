@@ -6,29 +6,23 @@ use Rattle.mls_tree.proofs.Descent.{leaf_count-limit}
 use Rattle.mls_tree.proofs.Trees.{leaf_count-positive}
 use Rattle.mls_hash.specs.SuiteHash.{hash_of}
 use Rattle.mls_hash.proofs.Filling.{all_put, node_count, root_there}
-use Rattle.mls_hash.proofs.subtree_hashes.SubtreeHashes.new.Goals as goal
+use Rattle.mls_hash.proofs.subtree_hashes.hash_all.Goals as goal
 
-pub blank-requires : goal.blank-requires
-blank-requires c =
+pub blank-requires-clause-count : goal.blank-requires-clause-count
+blank-requires-clause-count c =
     let tree : RatchetTree = plain c.args.tree.now in
-    record {
-      count = omega (arith, node_count tree.tree c.nodes.result.now c.nodes.ensures, leaf_count-limit tree);
-      width = c.hash_len.ensures.limit;
-    }
+    omega (arith, node_count tree.tree c.nodes.result.now c.nodes.ensures, leaf_count-limit tree)
 
 pub overflow_sub-root : goal.overflow_sub-root
 overflow_sub-root c = let tree : RatchetTree = plain c.args.tree.now in omega (arith, c.leaf_count-root.ensures, leaf_count-positive tree.tree)
 
-pub put_kept-requires : goal.put_kept-requires
-put_kept-requires c =
+pub put_hashes-requires : goal.put_hashes-requires
+put_hashes-requires c =
     let tree : RatchetTree = plain c.args.tree.now in
     record {
       count = omega (arith, c.in_ok-hashes.ensures.count, node_count tree.tree c.nodes.result.now c.nodes.ensures);
       width = c.in_ok-hashes.ensures.width ∙ c.hash_len.ensures.length;
     }
-
-pub returns-then-put_kept : goal.returns-then-put_kept
-returns-then-put_kept c = record { each = rw c.if-put_kept.true at c.put_kept.ensures.kept; count = c.put_kept.ensures.capacity.count }
 
 pub unreachable-requires : goal.unreachable-requires
 unreachable-requires c =

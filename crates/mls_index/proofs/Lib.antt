@@ -2,6 +2,7 @@ pub mod Standing
 pub mod Changed
 pub mod Entries
 pub mod Meeting
+pub mod OptionalNumbers
 pub mod Tables
 pub mod Lookups
 pub mod Indexes

@@ -1,5 +1,5 @@
 -- The steps by which tables of keys are made, and by which keys come and go.
-use Rattle.std.proofs.Common.{◌≡◌, ◌≢◌, ◌∙◌, ◌⊎◌, ℕ, zero, suc, ◌+◌, ◌*◌, ◌<◌, ◌≤◌, List, [], ◌∷◌, ◌++◌, length, get_or, true, false, Option, Some, None, inl, inr, refl, sym, ap, subst, arith, BTreeSet}
+use Rattle.std.proofs.Common.{◌≡◌, ◌≢◌, ◌∙◌, ◌⊎◌, ℕ, zero, suc, ◌+◌, ◌*◌, ◌<◌, ◌≤◌, List, [], ◌∷◌, ◌++◌, length, true, false, Option, Some, None, inl, inr, refl, sym, ap, subst, arith, BTreeSet}
 use Rattle.std.specs.Prelude.{option_map, slice_get, slice_set, unwrap_or}
 use Rattle.std.proofs.lemmas.Bool.{cases_Bool, cases_eq, cases_lt, false≢true}
 use Rattle.std.proofs.lemmas.Option.{none-some, same_Some}
@@ -47,11 +47,6 @@ length-last : (xs : List (Option ℕ)) (o : Option ℕ) → length (xs ++ o ∷ 
 length-last [] o = refl
 length-last (x ∷ xs) o = omega (arith, length-last xs o)
 
-get-read : (xs : List (Option ℕ)) (p : ℕ) (o : Option ℕ) → p < length xs → o ≡ get_or xs p o → unwrap_or (slice_get xs p) None ≡ o
-get-read [] p o low e = absurd (omega (arith, low))
-get-read (x ∷ xs) zero o low e = sym e
-get-read (x ∷ xs) (suc p) o low e = get-read xs p o (omega (arith, low)) e
-
 get-before : (xs ys : List (Option ℕ)) (p : ℕ) → p < length xs → unwrap_or (slice_get (xs ++ ys) p) None ≡ unwrap_or (slice_get xs p) None
 get-before [] ys p low = absurd (omega (arith, low))
 get-before (x ∷ xs) ys zero low = refl
@@ -68,41 +63,36 @@ get-blank [] (suc p) = refl
 get-blank (x ∷ xs) zero = refl
 get-blank (x ∷ xs) (suc p) = get-blank xs p
 
-pub base-beyond : (k : KeyTable) (p : ℕ) → length k.fingerprints.items ≤ p → base_at k p ≡ None
+pub base-beyond : (k : KeyTable) (p : ℕ) → length k.fingerprints ≤ p → base_at k p ≡ None
 unfolding base_at
-base-beyond k p high = get-beyond k.fingerprints.items p high
+base-beyond k p high = get-beyond k.fingerprints p high
 
-pub base-same : (k n : KeyTable) → n.fingerprints.items ≡ k.fingerprints.items → (p : ℕ) → base_at n p ≡ base_at k p
+pub base-same : (k n : KeyTable) → n.fingerprints ≡ k.fingerprints → (p : ℕ) → base_at n p ≡ base_at k p
 unfolding base_at
 base-same k n e p = ap (λ xs. unwrap_or (slice_get xs p) None) e
 
-pub base-blank : (k n : KeyTable) → n.fingerprints.items ≡ k.fingerprints.items ++ None ∷ [] → (p : ℕ) → base_at n p ≡ base_at k p
+pub base-blank : (k n : KeyTable) → n.fingerprints ≡ k.fingerprints ++ None ∷ [] → (p : ℕ) → base_at n p ≡ base_at k p
 unfolding base_at
-base-blank k n e p = ap (λ xs. unwrap_or (slice_get xs p) None) e ∙ get-blank k.fingerprints.items p
+base-blank k n e p = ap (λ xs. unwrap_or (slice_get xs p) None) e ∙ get-blank k.fingerprints p
 
-base-last : (k n : KeyTable) (o : Option ℕ) → n.fingerprints.items ≡ k.fingerprints.items ++ o ∷ [] → base_at n (length k.fingerprints.items) ≡ o
+base-last : (k n : KeyTable) (o : Option ℕ) → n.fingerprints ≡ k.fingerprints ++ o ∷ [] → base_at n (length k.fingerprints) ≡ o
 unfolding base_at
-base-last k n o e = ap (λ xs. unwrap_or (slice_get xs (length k.fingerprints.items)) None) e ∙ get-last k.fingerprints.items o
+base-last k n o e = ap (λ xs. unwrap_or (slice_get xs (length k.fingerprints)) None) e ∙ get-last k.fingerprints o
 
-base-before : (k n : KeyTable) (o : Option ℕ) → n.fingerprints.items ≡ k.fingerprints.items ++ o ∷ [] → (p : ℕ) → p < length k.fingerprints.items
+base-before : (k n : KeyTable) (o : Option ℕ) → n.fingerprints ≡ k.fingerprints ++ o ∷ [] → (p : ℕ) → p < length k.fingerprints
     → base_at n p ≡ base_at k p
 unfolding base_at
-base-before k n o e p low = ap (λ xs. unwrap_or (slice_get xs p) None) e ∙ get-before k.fingerprints.items (o ∷ []) p low
+base-before k n o e p low = ap (λ xs. unwrap_or (slice_get xs p) None) e ∙ get-before k.fingerprints (o ∷ []) p low
 
--- what is read of a place is what is kept of it
-pub base-read : (k : KeyTable) (p : ℕ) (o : Option ℕ) → p < length k.fingerprints.items → o ≡ get_or k.fingerprints.items p o → base_at k p ≡ o
-unfolding base_at
-base-read k p o low e = get-read k.fingerprints.items p o low e
-
-base-set : (k n : KeyTable) (p : ℕ) (o : Option ℕ) → n.fingerprints.items ≡ slice_set k.fingerprints.items p o → p < length k.fingerprints.items
+base-set : (k n : KeyTable) (p : ℕ) (o : Option ℕ) → n.fingerprints ≡ slice_set k.fingerprints p o → p < length k.fingerprints
     → base_at n p ≡ o
 unfolding base_at
-base-set k n p o e low = ap (λ xs. unwrap_or (slice_get xs p) None) e ∙ ap (λ r. unwrap_or r None) (slice_get-set_same k.fingerprints.items p o low)
+base-set k n p o e low = ap (λ xs. unwrap_or (slice_get xs p) None) e ∙ ap (λ r. unwrap_or r None) (slice_get-set_same k.fingerprints p o low)
 
-base-unset : (k n : KeyTable) (p : ℕ) (o : Option ℕ) → n.fingerprints.items ≡ slice_set k.fingerprints.items p o → (q : ℕ) → q ≢ p
+base-unset : (k n : KeyTable) (p : ℕ) (o : Option ℕ) → n.fingerprints ≡ slice_set k.fingerprints p o → (q : ℕ) → q ≢ p
     → base_at n q ≡ base_at k q
 unfolding base_at
-base-unset k n p o e q other = ap (λ xs. unwrap_or (slice_get xs q) None) e ∙ ap (λ r. unwrap_or r None) (slice_get-set_other k.fingerprints.items p q o other)
+base-unset k n p o e q other = ap (λ xs. unwrap_or (slice_get xs q) None) e ∙ ap (λ r. unwrap_or r None) (slice_get-set_other k.fingerprints p q o other)
 
 -- whether there is this number
 is_it : (o : Option ℕ) (b : ℕ) → (o ≡ Some b) ⊎ (o ≢ Some b)
@@ -130,7 +120,7 @@ only_from x k cases b p has none = elim (cases b p has) [
 
 -- ---- a table is made
 
-pub filled-first : (x : ℕ → Option ℕ) (k : KeyTable) → k.entries.keys ≡ [] → k.fingerprints.items ≡ [] → k.came.items ≡ [] → TableIndexesFirst x 0 k
+pub filled-first : (x : ℕ → Option ℕ) (k : KeyTable) → k.entries.keys ≡ [] → k.fingerprints ≡ [] → k.came.items ≡ [] → TableIndexesFirst x 0 k
 filled-first x k entries fingerprints came = record {
   count = ap length fingerprints;
   base = λ p low. absurd (omega (arith, low));
@@ -139,10 +129,10 @@ filled-first x k entries fingerprints came = record {
   none_came = came;
 }
 
-pub filled-more : (x : ℕ → Option ℕ) (k n : KeyTable) (p : ℕ) (o : Option ℕ) → x p ≡ o → n.fingerprints.items ≡ k.fingerprints.items ++ o ∷ []
+pub filled-more : (x : ℕ → Option ℕ) (k n : KeyTable) (p : ℕ) (o : Option ℕ) → x p ≡ o → n.fingerprints ≡ k.fingerprints ++ o ∷ []
     → HasStaged o p k.entries n.entries → n.came.items ≡ k.came.items → TableIndexesFirst x p k → TableIndexesFirst x (p + 1) n
 filled-more x k n p o is e w came h = record {
-  count = ap length e ∙ length-last k.fingerprints.items o ∙ ap (λ m. m + 1) h.count;
+  count = ap length e ∙ length-last k.fingerprints o ∙ ap (λ m. m + 1) h.count;
   base = λ q low. elim (cases_eq q p) [
     | inl same ↦ ap (base_at n) (same ∙ sym h.count) ∙ base-last k n o e ∙ sym is ∙ ap x (sym same)
     | inr other ↦
@@ -176,9 +166,6 @@ filled-all kind t n k e h = record {
 
 -- ---- keys come
 
-pub put-none : (p : ℕ) (s : BTreeSet (ℕ × ℕ)) → HasStaged None p s s
-put-none p s = record { here = λ b e. absurd (none-some b e); remaining = λ b q had. had; only = λ b q has. inl has }
-
 pub put-some : (b p : ℕ) (s n : BTreeSet (ℕ × ℕ)) → WithEntry s n b p → HasStaged (Some b) p s n
 put-some b p s n w = record {
   here = λ c e. subst (λ d. has_entry n d p ≡ true) (same_Some b c e) w.here;
@@ -195,7 +182,7 @@ put-had b p s there = record {
 }
 
 pub between-same : (x : ℕ → Option ℕ) (k n : KeyTable) → ((b p : ℕ) → has_entry n.entries b p ≡ has_entry k.entries b p)
-    → n.fingerprints.items ≡ k.fingerprints.items → n.came.items ≡ k.came.items → TableHasBase x k → TableHasBase x n
+    → n.fingerprints ≡ k.fingerprints → n.came.items ≡ k.came.items → TableHasBase x k → TableHasBase x n
 between-same x k n entries fingerprints came h = record {
   base = λ p. base-same k n fingerprints p ∙ h.base p;
   all = λ b p e. entries b p ∙ h.all b p e;
@@ -219,7 +206,7 @@ between-base x k n entries came base h = record {
 }
 
 pub between-more : (x : ℕ → Option ℕ) (k n : KeyTable) (b p : ℕ) → has_entry k.entries b p ≡ false → WithEntry k.entries n.entries b p
-    → n.came.items ≡ k.came.items ++ (b, p) ∷ [] → n.fingerprints.items ≡ k.fingerprints.items → TableHasBase x k → TableHasBase x n
+    → n.came.items ≡ k.came.items ++ (b, p) ∷ [] → n.fingerprints ≡ k.fingerprints → TableHasBase x k → TableHasBase x n
 between-more x k n b p free w came fingerprints h = record {
   base = λ q. base-same k n fingerprints q ∙ h.base q;
   all = λ c q e. w.remaining c q (h.all c q e);
@@ -248,27 +235,17 @@ covers-more y k n r tail o is w h b p off e = elim (cases_eq p r) [
 
 -- the keys at the places that changed were entered
 pub covers-all : (x : ℕ → Option ℕ) (kind : KeyKind) (t : Tree) (node_indices : List ℕ) (count : ℕ) (k m n : KeyTable) → count + 1 ≡ 2 * leaf_count t
-    → m.entries ≡ k.entries → count ≤ length m.fingerprints.items → n.fingerprints ≡ m.fingerprints
+    → m.entries ≡ k.entries → count ≤ length m.fingerprints → n.fingerprints ≡ m.fingerprints
     → TableContainsKeys x k → AreSameBut node_indices x (fingerprint_at kind t) → (ContainsKeysBut node_indices (fingerprint_at kind t) m → ContainsKeysBut [] (fingerprint_at kind t) n)
     → TableContainsKeys (fingerprint_at kind t) n
 covers-all x kind t node_indices count k m n is entries capacity fingerprints had same put =
-    let wide : count ≤ length n.fingerprints.items = subst (λ v. count ≤ length v.items) (sym fingerprints) capacity in
+    let wide : count ≤ length n.fingerprints = subst (λ v. count ≤ length v) (sym fingerprints) capacity in
     record {
       entries = λ b p there. put (λ c q off e. ap (λ s. has_entry s c q) entries ∙ had.entries c q (same q off ∙ e)) b p refl there;
       capacity = λ b p there. let low = fingerprint_at-low kind t count p b is there in omega (arith, low, wide);
     }
 
 -- ---- keys go
-
-pub left-none : (now : Option ℕ) (p : ℕ) (s : BTreeSet (ℕ × ℕ)) → HasLeft None now p s s
-left-none now p s = record { gone = λ b e other. absurd (none-some b e); only = λ b q has. has; remaining = λ b q had. inl had }
-
-pub left-stays : (b : ℕ) (now : Option ℕ) (p : ℕ) (s : BTreeSet (ℕ × ℕ)) → now ≡ Some b → HasLeft (Some b) now p s s
-left-stays b now p s is = record {
-  gone = λ c e other. absurd (other (is ∙ e));
-  only = λ c q has. has;
-  remaining = λ c q had. inl had;
-}
 
 pub left-gone : (b : ℕ) (now : Option ℕ) (p : ℕ) (s n : BTreeSet (ℕ × ℕ)) → now ≢ Some b → WithoutEntry s n b p → HasLeft (Some b) now p s n
 left-gone b now p s n foreign w = record {
@@ -282,7 +259,7 @@ left-gone b now p s n foreign w = record {
 
 -- keys that are covered stay so
 covers-left : (y : ℕ → Option ℕ) (k n : KeyTable) (p : ℕ) (left o : Option ℕ) → y p ≡ o → HasLeft left o p k.entries n.entries
-    → length n.fingerprints.items ≡ length k.fingerprints.items → TableContainsKeys y k → TableContainsKeys y n
+    → length n.fingerprints ≡ length k.fingerprints → TableContainsKeys y k → TableContainsKeys y n
 covers-left y k n p left o is w long h = record {
   entries = λ b q e. elim (w.remaining b q (h.entries b q e)) [
     | inl stays ↦ stays
@@ -305,7 +282,7 @@ settling-first x y node_indices k h covers same = record {
 }
 
 -- a place beyond those that are kept, where no key stands
-pub settling-beyond : (y : ℕ → Option ℕ) (rest : List ℕ) (k : KeyTable) (p : ℕ) → length k.fingerprints.items ≤ p
+pub settling-beyond : (y : ℕ → Option ℕ) (rest : List ℕ) (k : KeyTable) (p : ℕ) → length k.fingerprints ≤ p
     → IsSettling y (p ∷ rest) k → IsSettling y rest k
 settling-beyond y rest k p high h = record {
   covers = h.covers;
@@ -331,8 +308,8 @@ settling-beyond y rest k p high h = record {
     none = none_at (y p) refl
 
 pub settling-more : (y : ℕ → Option ℕ) (rest : List ℕ) (k n : KeyTable) (p : ℕ) (left o : Option ℕ) → y p ≡ o → base_at k p ≡ left
-    → HasLeft left o p k.entries n.entries → n.fingerprints.items ≡ slice_set k.fingerprints.items p o → p < length k.fingerprints.items
-    → length n.fingerprints.items ≡ length k.fingerprints.items
+    → HasLeft left o p k.entries n.entries → n.fingerprints ≡ slice_set k.fingerprints p o → p < length k.fingerprints
+    → length n.fingerprints ≡ length k.fingerprints
     → n.came.items ≡ k.came.items → IsSettling y (p ∷ rest) k → IsSettling y rest n
 settling-more y rest k n p left o is stood_at w set low long came h = record {
   covers = covers-left y k n p left o is w long h.covers;
@@ -356,7 +333,7 @@ settling-more y rest k n p left o is stood_at w set low long came h = record {
 
 -- an entry that came goes, unless it is the one of a key
 pub settling-came : (y : ℕ → Option ℕ) (k n : KeyTable) (b p : ℕ) (o : Option ℕ) → y p ≡ o → k.came.items ≡ n.came.items ++ (b, p) ∷ []
-    → HasLeft (Some b) o p k.entries n.entries → n.fingerprints.items ≡ k.fingerprints.items → IsSettling y [] k → IsSettling y [] n
+    → HasLeft (Some b) o p k.entries n.entries → n.fingerprints ≡ k.fingerprints → IsSettling y [] k → IsSettling y [] n
 settling-came y k n b p o is came w fingerprints h = record {
   covers = covers-left y k n p (Some b) o is w (ap length fingerprints) h.covers;
   base = λ q off. base-same k n fingerprints q ∙ h.base q off;
@@ -379,13 +356,13 @@ pub settling-same : (y : ℕ → Option ℕ) (rest : List ℕ) (k n : KeyTable) 
 settling-same y rest k n entries fingerprints came h = record {
   covers = record {
     entries = λ b p e. ap (λ s. has_entry s b p) entries ∙ h.covers.entries b p e;
-    capacity = λ b p e. subst (λ v. p < length v.items) (sym fingerprints) (h.covers.capacity b p e);
+    capacity = λ b p e. subst (λ v. p < length v) (sym fingerprints) (h.covers.capacity b p e);
   };
-  base = λ p off. base-same k n (ap (λ v. v.items) fingerprints) p ∙ h.base p off;
+  base = λ p off. base-same k n fingerprints p ∙ h.base p off;
   only = λ b p has. elim (h.only b p (ap (λ s. has_entry s b p) (sym entries) ∙ has)) [
     | inl there ↦ inl there
     | inr (inl new) ↦ inr (inl (ap (λ es. contains_entry es b p) came ∙ new))
-    | inr (inr stood) ↦ inr (inr (stood.0, base-same k n (ap (λ v. v.items) fingerprints) p ∙ stood.1))
+    | inr (inr stood) ↦ inr (inr (stood.0, base-same k n fingerprints p ∙ stood.1))
   ];
 }
 
@@ -406,7 +383,7 @@ settling-last y k none h = record {
 
 -- an entry that came goes again
 pub between-less : (x : ℕ → Option ℕ) (k n : KeyTable) (b p : ℕ) → k.came.items ≡ n.came.items ++ (b, p) ∷ [] → WithoutEntry k.entries n.entries b p
-    → n.fingerprints.items ≡ k.fingerprints.items → TableHasBase x k → TableHasBase x n
+    → n.fingerprints ≡ k.fingerprints → TableHasBase x k → TableHasBase x n
 between-less x k n b p came w fingerprints h = record {
   base = λ q. base-same k n fingerprints q ∙ h.base q;
   all = λ c q e. elim (w.remaining c q (h.all c q e)) [
@@ -432,8 +409,8 @@ between-last x k none h = record { between = h; none_came = none }
 
 -- ---- what a table covers
 
-some_room : (k : KeyTable) (p b : ℕ) → base_at k p ≡ Some b → p < length k.fingerprints.items
-some_room k p b e = elim (cases_lt p (length k.fingerprints.items)) [
+some_room : (k : KeyTable) (p b : ℕ) → base_at k p ≡ Some b → p < length k.fingerprints
+some_room k p b e = elim (cases_lt p (length k.fingerprints)) [
   | inl low ↦ low
   | inr high ↦ absurd (none-some b (sym (base-beyond k p high) ∙ e))
 ]

@@ -21,7 +21,7 @@ contains_entry es b p = list_any (λ e. (e.0 == b) && (e.1 == p)) es
 
 -- `base_at k p` is the fingerprint that the table stores for a node index of its base tree.
 unfoldable pub base_at : KeyTable → ℕ → Option ℕ
-base_at k p = unwrap_or (slice_get k.fingerprints.items p) None
+base_at k p = unwrap_or (slice_get k.fingerprints p) None
 
 -- `TableHasBase x k`: the base of the table is `x`. It has further entries only for keys that were added since.
 pub record TableHasBase (x : ℕ → Option ℕ) (k : KeyTable) : Type 0 where
@@ -39,4 +39,4 @@ pub record IsTableOf (x : ℕ → Option ℕ) (k : KeyTable) : Type 0 where
 -- index.
 pub record TableContainsKeys (y : ℕ → Option ℕ) (k : KeyTable) : Type 0 where
   pub entries : (b p : ℕ) → y p ≡ Some b → has_entry k.entries b p ≡ true
-  pub capacity : (b p : ℕ) → y p ≡ Some b → p < length k.fingerprints.items
+  pub capacity : (b p : ℕ) → y p ≡ Some b → p < length k.fingerprints

@@ -40,7 +40,7 @@ IsTableOf-prop x k g h = λ i. record {
 
 -- `TableIndexesFirst x n k`: the table has the keys of `x` at the node indices below n.
 pub record TableIndexesFirst (x : ℕ → Option ℕ) (n : ℕ) (k : KeyTable) : Type 0 where
-  pub count : length k.fingerprints.items ≡ n
+  pub count : length k.fingerprints ≡ n
   pub base : (p : ℕ) → p < n → base_at k p ≡ x p
   pub all : (b p : ℕ) → p < n → x p ≡ Some b → has_entry k.entries b p ≡ true
   pub only : (b p : ℕ) → has_entry k.entries b p ≡ true → (p < n) × (x p ≡ Some b)

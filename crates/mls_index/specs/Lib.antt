@@ -1,5 +1,6 @@
 pub mod FirstIndex
 pub mod NodeKeys
+pub mod FingerprintsInternal
 pub mod KeyTable
 pub mod KeyTableInternal
 pub mod TreeIndex

@@ -6,6 +6,7 @@ ghost use Rattle.mls_index.specs.RepeatedKeysInternal.{FindsOther};
 ghost use Rattle.mls_index.specs.KeyTable.{has_entry, base_at, TableHasBase, IsTableOf, TableContainsKeys};
 ghost use Rattle.mls_index.specs.KeyTableInternal.{AreSameBut, ContainsKeysBut, TableIndexesFirst, IsSettling, HasStaged, HasLeft};
 
+use crate::fingerprints::Fingerprints;
 use crate::node_key::{
     KeyKind, fingerprint, fingerprint_at, has_key_at, is_number, key_at_node, node_index_count,
 };
@@ -20,7 +21,7 @@ pub(crate) struct KeyTable {
     /// The fingerprint of each key, and its node index.
     entries: BTreeSet<(u64, u32)>,
     /// By node index, the fingerprint of the key of the base tree.
-    fingerprints: Vec<Option<u64>>,
+    fingerprints: Fingerprints,
     /// The entries that were added to those of the base tree.
     came: Vec<(u64, u32)>,
 }
@@ -64,7 +65,7 @@ impl KeyTable {
     {
         KeyTable {
             entries: BTreeSet::new(alloc),
-            fingerprints: Vec::new(alloc),
+            fingerprints: Fingerprints::new(alloc),
             came: Vec::new(alloc),
         }
     }
@@ -108,7 +109,7 @@ impl KeyTable {
         ensures base { (p : ℕ) → base_at self.new p ≡ base_at self.old p }
         ensures entries { self.new.entries ≡ self.old.entries }
         ensures came { self.new.came ≡ self.old.came }
-        ensures capacity { OnOk result (count ≤ length self.new.fingerprints.items) }
+        ensures capacity { OnOk result (count ≤ length self.new.fingerprints) }
     {
         while self.fingerprints.len() < count as usize {
             self.fingerprints.push(None)?;
@@ -180,9 +181,9 @@ impl KeyTable {
         if index >= self.fingerprints.len() {
             return;
         }
-        let left = self.fingerprints[index];
+        let left = self.fingerprints.get(index);
         leave_entry(&mut self.entries, left, number, node_index);
-        self.fingerprints[index] = number;
+        self.fingerprints.set(index, number);
     }
 
     /// Stores the fingerprints at these node indices of a tree.

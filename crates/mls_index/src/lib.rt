@@ -11,6 +11,7 @@
 
 mod changed_leaves;
 mod credential_counts;
+mod fingerprints;
 mod key_table;
 pub mod laws;
 mod leaf_credentials;

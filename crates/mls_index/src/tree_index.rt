@@ -39,7 +39,7 @@ pub struct TreeIndex {
 }
 
 impl TreeIndex {
-    /// Returns the index of a tree. It takes some 80 bytes for each leaf of a full tree.
+    /// Returns the index of a tree. It takes some 115 bytes for each leaf of a full tree.
     pub fn of(alloc: Global, tree: &PublicTree) -> Result<TreeIndex, OutOfMemory>
         ensures { IfOk result (IsIndexOf tree.now.tree) }
     {

@@ -1,4 +1,4 @@
-use Rattle.std.proofs.Common.{◌≡◌, ◌-◌, ℕ, vec_len}
+use Rattle.std.proofs.Common.{◌≡◌, ◌-◌, ℕ, length}
 use Rattle.mls_index.specs.KeyTable.{base_at}
 use Rattle.mls_index.proofs.key_table.KeyTable.make_room.Given as goal
 
@@ -10,4 +10,4 @@ invariant-loop-self l = record {
 }
 
 abbrev pub decreases-loop-self : goal.decreases-loop-self
-decreases-loop-self l = l.count - vec_len l.self.fingerprints
+decreases-loop-self l = l.count - length l.self.fingerprints

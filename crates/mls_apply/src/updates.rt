@@ -1,30 +1,57 @@
 //! The Updates of a proposal list (RFC 9420, 12.1.2).
 
-ghost use Rattle.std.specs.Prelude.{◌≡◌, ◌⊎◌, Some, None, Err, IfErr, OnOk};
+ghost use Rattle.std.specs.Prelude.{◌≡◌, ◌⊎◌, ◌∷◌, List, Some, None, Err, IfErr, IsSome, OnOk};
+ghost use Rattle.mls_tree.specs.Tree.{Tree, leaf_at};
+ghost use Rattle.mls_tree.specs.TreeOperations.{update};
 ghost use Rattle.mls_tree.specs.Journals.{before};
-ghost use Rattle.mls_apply.specs.AppliedList.{after_update, after_updates};
+ghost use Rattle.mls_apply.specs.AppliedList.{after_updates};
+ghost use Rattle.mls_apply.specs.LastUpdates.{AreApplied};
+ghost use Rattle.mls_apply.specs.declared.list_item.ListItem.{ListItem as Item};
 
 use crate::fault::ApplyFault;
 use crate::leaf_changes::put_copy;
 use crate::list_item::ListItem;
 use crate::senders::member_index;
 use mls_msgs::Proposal;
+use mls_nodes::LeafNode;
 use mls_tree::{Journal, PublicTree};
 use std::alloc::Global;
+use std::collections::BTreeSet;
 
-/// Applies an item if it is an Update: its sender's leaf is replaced, and the parents above it become blank. `NoSuchLeaf`
-/// if the sender is no member, or its leaf is blank.
-#[tactic(auto, using(crate::proofs::Leaves::leaf_inside))]
+/// Replaces a non-blank leaf by a copy of a leaf node, and makes the parents above it blank.
+fn replace_leaf(
+    alloc: Global,
+    tree: &mut PublicTree,
+    journal: &mut Journal,
+    index: u32,
+    leaf: &LeafNode,
+) -> Result<(), ApplyFault>
+    requires { IsSome (leaf_at 0 tree.old.tree index) }
+    ensures updated { OnOk result (tree.new.tree ≡ update tree.old.tree index leaf.now) }
+    ensures memory { IfErr result (λ e. e ≡ ApplyFault.OutOfMemory) }
+    ensures before { before journal.new tree.new.tree ≡ before journal.old tree.old.tree }
+{
+    put_copy(alloc, tree, journal, index, leaf)?;
+    journal.blank_path(alloc, tree, index)?;
+    Ok(())
+}
+
+/// Applies an item if it is an Update: its sender's leaf is replaced, and the parents above it become blank. The Updates that
+/// follow it in the list must be applied. If one of them is of the same member, its leaf node stays. `replaced` has the leaf
+/// indices of their senders. `NoSuchLeaf` if the sender is no member, or its leaf is blank.
 fn apply_update(
     alloc: Global,
     tree: &mut PublicTree,
     journal: &mut Journal,
+    replaced: &mut BTreeSet<u32>,
     item: &ListItem<'_>,
 ) -> Result<(), ApplyFault>
-    ensures updated { OnOk result
-        (after_update item.now.sender item.now.proposal tree.old.tree ≡ Some tree.new.tree) }
+    ensures applied { (rest : List Item) (t : Tree)
+        → AreApplied rest t replaced.old tree.old.tree
+        → OnOk result (AreApplied (item.now ∷ rest) t replaced.new tree.new.tree) }
     ensures no_such_leaf { result ≡ Err ApplyFault.NoSuchLeaf
-        → after_update item.now.sender item.now.proposal tree.old.tree ≡ None }
+        → (rest : List Item) (t : Tree) → AreApplied rest t replaced.old tree.old.tree
+        → after_updates (item.now ∷ rest) t ≡ None }
     ensures possible_errors { IfErr result (λ e.
         (e ≡ ApplyFault.NoSuchLeaf) ⊎ (e ≡ ApplyFault.OutOfMemory)) }
     ensures before { before journal.new tree.new.tree ≡ before journal.old tree.old.tree }
@@ -38,12 +65,14 @@ fn apply_update(
     if tree.leaf(sender).is_none() {
         return Err(ApplyFault::NoSuchLeaf);
     }
-    put_copy(alloc, tree, journal, sender, leaf)?;
-    journal.blank_path(alloc, tree, sender)?;
+    if replaced.insert(sender)? {
+        replace_leaf(alloc, tree, journal, sender, leaf)?;
+    }
     Ok(())
 }
 
-/// Applies the Updates of a list, in its order.
+/// Applies the Updates of a list. Of a leaf that several Updates replace, only the last one's leaf node is copied: the list is
+/// walked from its end.
 pub(crate) fn apply_updates(
     alloc: Global,
     tree: &mut PublicTree,
@@ -57,8 +86,9 @@ pub(crate) fn apply_updates(
         (e ≡ ApplyFault.NoSuchLeaf) ⊎ (e ≡ ApplyFault.OutOfMemory)) }
     ensures before { before journal.new tree.new.tree ≡ before journal.old tree.old.tree }
 {
-    for item in items {
-        apply_update(alloc, tree, journal, item)?;
+    let mut replaced = BTreeSet::new(alloc);
+    for index in (0..items.len()).rev() {
+        apply_update(alloc, tree, journal, &mut replaced, &items[index])?;
     }
     Ok(())
 }

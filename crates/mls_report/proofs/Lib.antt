@@ -1,4 +1,4 @@
-pub mod Listings
+pub mod TreeLines
 pub mod Hashes
 pub mod Lines
 pub mod Outcomes

@@ -17,6 +17,7 @@ pub mod StartSteps
 pub mod Status
 pub mod ValueTexts
 pub mod TreeText
+pub mod TreeTextInternal
 pub mod UnreadableReceipts
 pub mod Validate
 pub mod ValidateTree

@@ -9,7 +9,7 @@ use mls_wire::{DeviceFault, MAX_INPUT, Source};
 use std::alloc::Global;
 
 /// The most bytes that one call reads of a source.
-const PIECE: usize = 8192;
+const PIECE: usize = 65536;
 
 /// Reads one piece from the source.
 fn pull_piece<S: Source>(source: &mut S, piece: &mut [u8]) -> Result<usize, RunFault>

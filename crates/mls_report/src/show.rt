@@ -15,7 +15,6 @@ use crate::verdict::{RunFault, Verdict};
 use crate::write::write_bytes;
 use mls_msgs::{Message, Profile, decode_message, decode_message_in};
 use mls_nodes::NodeFault;
-use mls_tree::PublicTree;
 use mls_wire::{CodecFault, Sink, Source};
 use std::alloc::{AllocError, Global};
 
@@ -46,17 +45,17 @@ fn no_tree_report(alloc: Global, fault: NodeFault) -> Result<Report, RunFault>
     }
 }
 
-/// Returns the report of a tree's bytes, which are dropped after decoding.
+/// Returns the report of a tree's bytes, which are dropped after it.
 fn tree_report(alloc: Global, bytes: Vec<u8>) -> Result<Report, RunFault>
     ensures report { IfOk result
         (λ r. IsShowReport Members ShowKind.Tree bytes.items r.bytes.items r.verdict) }
     ensures memory { IfErr result (λ e. e ≡ RunFault.Memory) }
 {
-    let tree = PublicTree::decode(alloc, bytes.as_slice());
+    let text = tree_text(alloc, bytes.as_slice());
     drop(bytes);
-    match tree {
-        Ok(tree) => Ok(Report {
-            bytes: tree_text(alloc, &tree)?,
+    match text {
+        Ok(text) => Ok(Report {
+            bytes: text,
             verdict: Verdict::Yes,
         }),
         Err(fault) => no_tree_report(alloc, fault),

@@ -9,19 +9,20 @@ use std::alloc::Global;
 const NOTED_LINES: u64 = 1000;
 
 /// A sink that passes what it takes to another one. For each thousand lines it notes how many messages were reported so
-/// far. The notes are written over one another in one line. Whether a note could be written is ignored.
+/// far, if it has a sink for notes. The notes are written over one another in one line. Whether a note could be written is
+/// ignored.
 #[derive(Drop)]
 pub struct Progress<K: Sink, N: Sink> {
     out: K,
-    notes: N,
+    notes: Option<N>,
     lines: u64,
     noted: u64,
     alloc: Global,
 }
 
 impl<K: Sink, N: Sink> Progress<K, N> {
-    /// Returns a sink over another one, with its notes on a third.
-    pub fn new(alloc: Global, out: K, notes: N) -> Progress<K, N>
+    /// Returns a sink over another one, with its notes on a third, if there is one.
+    pub fn new(alloc: Global, out: K, notes: Option<N>) -> Progress<K, N>
         ensures written { ⟦<Progress<K, N> as Sink>⟧.written result ≡ K.written out }
         ensures failed { ⟦<Progress<K, N> as Sink>⟧.is_failed result ≡ K.is_failed out }
     {
@@ -38,9 +39,12 @@ impl<K: Sink, N: Sink> Progress<K, N> {
     fn note(&mut self)
         ensures { self.new.out ≡ self.old.out }
     {
+        let Some(notes) = &mut self.notes else {
+            return;
+        };
         let lines = self.lines;
         if let Ok(text) = format!(in self.alloc; "\rmlscheck: {lines} messages") {
-            let _ = write_all(&mut self.notes, text.as_bytes());
+            let _ = write_all(notes, text.as_bytes());
         }
     }
 
@@ -48,6 +52,9 @@ impl<K: Sink, N: Sink> Progress<K, N> {
     fn count(&mut self, bytes: &[u8])
         ensures { self.new.out ≡ self.old.out }
     {
+        if self.notes.is_none() {
+            return;
+        }
         let ended = bytes.iter().filter(|byte| **byte == b'\n').count();
         self.lines = self.lines.saturating_add(ended as u64);
         if self.lines / NOTED_LINES > self.noted {
@@ -63,9 +70,12 @@ impl<K: Sink, N: Sink> Progress<K, N> {
         ensures failed { ⟦<Progress<K, N> as Sink>⟧.is_failed self.new
             ≡ ⟦<Progress<K, N> as Sink>⟧.is_failed self.old }
     {
-        if self.noted > 0 {
-            self.noted = 0;
-            let _ = write_all(&mut self.notes, b"\n");
+        if self.noted == 0 {
+            return;
+        }
+        self.noted = 0;
+        if let Some(notes) = &mut self.notes {
+            let _ = write_all(notes, b"\n");
         }
     }
 }

@@ -8,7 +8,7 @@ use mls_cli::{Files, OrderFault, Progress, run_fault, run_program};
 use mls_wire::{Sink, StdSink, StdSource};
 use std::alloc::Global;
 use std::fs::OpenFile;
-use std::io::{IsTerminal, Read, Stdin, Write};
+use std::io::{BufReader, IsTerminal, Read, Stderr, Stdin, Stdout, Write};
 use std::process::ExitCode;
 use std::{env, fs, io};
 
@@ -69,8 +69,21 @@ struct StdFiles<'a, R> {
     stdin: Stdin,
 }
 
+impl<R: fs::Files> StdFiles<'_, R> {
+    /// Opens the file with this name.
+    fn input(&self, name: &str) -> Option<Input<R::File>> {
+        if name == "-" {
+            return Some(Input::Stdin(self.stdin));
+        }
+        match fs::open(self.rt, name) {
+            Ok(file) => Some(Input::File(file)),
+            Err(_) => None,
+        }
+    }
+}
+
 impl<R: fs::Files> Files for StdFiles<'_, R> {
-    type File = StdSource<Input<R::File>>;
+    type File = StdSource<BufReader<Input<R::File>>>;
 
     ghost gives = { λ _ _ _. Unit {0} };
 
@@ -80,14 +93,14 @@ impl<R: fs::Files> Files for StdFiles<'_, R> {
 
     ghost refuses = { λ _ _ _. Unit {0} };
 
-    fn open(&self, name: &str) -> Option<StdSource<Input<R::File>>> {
-        if name == "-" {
-            return Some(StdSource::new(Input::Stdin(self.stdin)));
-        }
-        match fs::open(self.rt, name) {
-            Ok(file) => Some(StdSource::new(Input::File(file))),
-            Err(_) => None,
-        }
+    /// Opens a file. It is read through a buffer, which takes what the device has: so a log of small messages takes few
+    /// reads, and no read waits while the buffer has a byte. Without memory for a buffer, it is read without one.
+    fn open(&self, name: &str) -> Option<StdSource<BufReader<Input<R::File>>>> {
+        let reader = match BufReader::new(self.alloc, self.input(name)?) {
+            Ok(reader) => reader,
+            Err(_) => BufReader::with_capacity(self.alloc, 0, self.input(name)?).ok()?,
+        };
+        Some(StdSource::new(reader))
     }
 
     /// Stores a file in place of one that has the name. The bytes are written to a file whose name ends in `.new`, and
@@ -133,34 +146,41 @@ fn is_noted(rt: &HostRuntime, words: &[String]) -> bool {
     }
 }
 
-/// Runs the program.
-fn run<K: Sink>(rt: &HostRuntime, words: &[String], out: &mut K) -> u8
-    requires { K.is_failed out.old ≡ false }
+/// Returns the sink of the report, on standard output. If `is_noted`, its progress is shown on standard error.
+///
+/// There is one type of sink for all reports: each type would have the whole program proved and built for it.
+fn report_sink(rt: &HostRuntime, is_noted: bool) -> Progress<StdSink<Stdout>, StdSink<Stderr>>
+    ensures { ⟦<Progress<StdSink<Stdout>, StdSink<Stderr>> as Sink>⟧.is_failed result ≡ false }
 {
+    let notes = if is_noted {
+        Some(StdSink::new(rt.stderr()))
+    } else {
+        None
+    };
+    Progress::new(rt.alloc(), StdSink::new(rt.stdout()), notes)
+}
+
+/// Runs the program.
+fn run(rt: &HostRuntime, words: &[String]) -> u8 {
     let files = StdFiles {
         rt,
         alloc: rt.alloc(),
         stdin: rt.stdin(),
     };
+    let mut out = report_sink(rt, is_noted(rt, words));
     let mut notes = StdSink::new(rt.stderr());
-    run_program(rt.alloc(), words, &files, out, &mut notes)
-}
-
-/// Runs the program, and shows its progress.
-fn run_noted(rt: &HostRuntime, words: &[String]) -> u8 {
-    let out = StdSink::new(rt.stdout());
-    let mut out = Progress::new(rt.alloc(), out, StdSink::new(rt.stderr()));
-    let status = run(rt, words, &mut out);
+    let status = run_program(rt.alloc(), words, &files, &mut out, &mut notes);
     out.finish();
     status
 }
 
 fn main(rt: HostRuntime) -> ExitCode {
-    let mut out = StdSink::new(rt.stdout());
     let status = match words(&rt) {
-        Ok(words) if is_noted(&rt, words.as_slice()) => run_noted(&rt, words.as_slice()),
-        Ok(words) => run(&rt, words.as_slice(), &mut out),
-        Err(fault) => run_fault(&fault, &mut out, &mut StdSink::new(rt.stderr())),
+        Ok(words) => run(&rt, words.as_slice()),
+        Err(fault) => {
+            let mut out = report_sink(&rt, false);
+            run_fault(&fault, &mut out, &mut StdSink::new(rt.stderr()))
+        }
     };
     ExitCode::from(status)
 }

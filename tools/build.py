@@ -25,6 +25,9 @@ BUILT = os.path.join(OUT, "built")
 # Crates that are built beside another one are built in a folder of their own, below this one.
 BESIDE = os.path.join(OUT, "beside")
 
+# The kit's command rt, which sums up the sources of each crate once.
+RT = os.path.join(TOP, "tools", "rt_once.py")
+
 # The logic that the sources are proved in: the second part of what `rt version` prints.
 LOGIC = "dac8208d650f15bf"
 
@@ -62,7 +65,7 @@ class Step:
         if is_beside:
             self.go_beside()
         self.said = tempfile.TemporaryFile("w+", errors="replace")
-        command = ["rt", "run" if name == PROGRAM else "lib", "--jobs", str(jobs)]
+        command = [sys.executable, RT, "run" if name == PROGRAM else "lib", "--jobs", str(jobs)]
         command += ["--", "--help"] if name == PROGRAM else []
         folder = os.path.join(self.top, "crates", name)
         self.process = subprocess.Popen(

@@ -84,6 +84,10 @@ def add(leaf):
     return number(1, 2) + key_package(leaf, key("init", leaf.encryption, leaf.signature))
 
 
+def update(leaf):
+    return number(2, 2) + leaf_bytes(leaf, b"\x02")
+
+
 def remove(index):
     return number(3, 2) + number(index, 4)
 

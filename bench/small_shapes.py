@@ -5,7 +5,7 @@ import os
 
 from group import KEY_PACKAGE, Group, leaf_bytes, new_leaf, number, vector
 from messages import (Sparse, add, commit, commit_with_path, extensions_of, false_path, far_members, framed, frozen,
-                      inline, inline_adds, message, proposal, remove, small_leaf, with_capabilities)
+                      inline, inline_adds, message, proposal, remove, small_leaf, update, with_capabilities)
 from shape import shape
 
 # ---- one message, or a few
@@ -26,6 +26,15 @@ def signatures_of_a_known_add_named_again(put):
     group = Group(2)
     leaf = new_leaf("large")._replace(credential=b"\x00\x01" + vector(bytes(put.size(32_000))))
     sent, item = proposal(group, 0, add(leaf))
+    return put.replay(group, [sent, commit(group, [item] * put.size(960))], "signatures")
+
+
+@shape
+def signatures_of_a_known_update_named_again(put):
+    """A large pending Update, and a commit that names it many times, for `signatures`: the leaf is replaced once."""
+    group = Group(2)
+    leaf = new_leaf("large")._replace(credential=b"\x00\x01" + vector(bytes(put.size(32_000))))
+    sent, item = proposal(group, 1, update(leaf))
     return put.replay(group, [sent, commit(group, [item] * put.size(960))], "signatures")
 
 

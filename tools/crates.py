@@ -13,19 +13,22 @@ MEASURED = os.path.join(OUT, "measured")
 # About how long each crate takes to prove and build on four cores, in seconds, and what is taken for another one. A
 # build from nothing writes what it measured into MEASURED.
 SECONDS = {
-    "mls_wire": 145,
-    "mls_nodes": 111,
-    "mls_tree": 180,
-    "mls_hash": 62,
-    "mls_msgs": 141,
-    "mls_check": 109,
-    "mls_index": 46,
-    "mls_apply": 171,
-    "mls_follow": 142,
-    "mls_report": 390,
-    "mls_vectors": 211,
-    "mls_cli": 400,
-    "mlscheck": 305,
+    "mls_wire": 105,
+    "mls_nodes": 90,
+    "mls_tree": 185,
+    "mls_msgs": 180,
+    "mls_state": 45,
+    "mls_hash": 75,
+    "mls_check": 105,
+    "mls_index": 55,
+    "mls_apply": 180,
+    "mls_signatures": 95,
+    "mls_follow": 190,
+    "mls_report": 260,
+    "mls_vectors": 120,
+    "mls_gate": 200,
+    "mls_cli": 170,
+    "mlscheck": 120,
 }
 OTHER_SECONDS = 120
 

@@ -6,6 +6,7 @@
 //!   [`read_all_of`] and [`read_input`], and encoded by [`bytes_of`] and [`Writer::write`].
 //! - [`Opaque`] is the body of a vector, [`BoxedOpaque`] a smaller form for long lists, [`Items`] a list that fits into one, [`Codes`] such a list of `uint16`,
 //!   [`Sequence`] a list of any length.
+//! - [`Shared`] holds a value with several owners, so that a copy of it allocates nothing.
 //! - A [`Source`] gives bytes and a [`Sink`] takes them, in pieces of any size; each over std or over memory.
 //! - A [`RecordReader`] reads the records of a log from its source. [`Records`] takes the source in each call.
 //!
@@ -30,6 +31,7 @@ mod optional;
 mod reader;
 mod record_reader;
 mod sequence;
+mod shared;
 mod short_bytes;
 mod short_codes;
 mod sink;
@@ -51,6 +53,7 @@ pub use opaque::{MAX_BODY, Opaque};
 pub use reader::Reader;
 pub use record_reader::RecordReader;
 pub use sequence::Sequence;
+pub use shared::Shared;
 pub use sink::{Sink, StdSink, write_all};
 pub use size::{add_sizes, size_of_list};
 pub use source::{Source, StdSource, fill};

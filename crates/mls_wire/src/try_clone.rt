@@ -1,4 +1,4 @@
-//! Copies of values, which allocate.
+//! Copies of values, most of which allocate.
 
 ghost use Rattle.std.specs.Prelude.{◌≡◌, IfOk, IfErr};
 

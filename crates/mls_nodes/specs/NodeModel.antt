@@ -12,7 +12,7 @@ pub data NodeValue : Type 0 where
 
 -- `node_value n` is the model of a node.
 abbrev pub node_value : Node → NodeValue
-node_value (Leaf b) = leaf_node b.value
+node_value (Leaf l) = leaf_node l
 node_value (Parent b) = parent_node b.value
 
 -- `entry_value n` is the model of an entry of a tree: blank, or a node (RFC 9420, Appendix C).

@@ -5,14 +5,14 @@ ghost use Rattle.mls_wire.specs.declared.fault.CodecFault.TheVariants as codec;
 
 use crate::leaf::LeafNode;
 use crate::parent::ParentNode;
-use mls_wire::{CodecFault, TryClone};
+use mls_wire::{CodecFault, Shared, TryClone};
 use std::alloc::Global;
 
 /// A non-blank node. The model is a `NodeValue`, its fields.
 #[derive(Debug, Drop)]
 pub enum Node {
     /// A leaf, at an even node index.
-    Leaf(Box<LeafNode>),
+    Leaf(Shared<LeafNode>),
     /// A parent, at an odd node index.
     Parent(Box<ParentNode>),
 }
@@ -20,13 +20,13 @@ pub enum Node {
 impl Node {
     ghost use Rattle.mls_nodes.specs.NodeModel.{node_value};
 
-    /// Returns an equal node. The only error is `OutOfMemory`.
+    /// Returns an equal node. A leaf is shared, which allocates nothing. The only error is `OutOfMemory`.
     pub fn try_clone(&self, alloc: Global) -> Result<Node, CodecFault>
         ensures same { IfOk result (λ node. node_value node ≡ node_value self.now) }
         ensures memory { IfErr result (λ e. e ≡ codec.OutOfMemory) }
     {
         match self {
-            Node::Leaf(leaf) => Ok(Node::Leaf(Box::new(alloc, leaf.try_clone(alloc)?)?)),
+            Node::Leaf(leaf) => Ok(Node::Leaf(leaf.try_clone(alloc)?)),
             Node::Parent(parent) => Ok(Node::Parent(Box::new(alloc, parent.try_clone(alloc)?)?)),
         }
     }

@@ -17,7 +17,7 @@ use crate::leaf::LeafNode;
 use crate::node::Node;
 use crate::parent::ParentNode;
 use crate::ratchet_tree::MAX_ENTRIES;
-use mls_wire::{Decode, MAX_INPUT, Reader, WireFault, WireFaultKind};
+use mls_wire::{Decode, MAX_INPUT, Reader, Shared, WireFault, WireFaultKind};
 use std::alloc::Global;
 use std::marker::Model;
 
@@ -42,7 +42,7 @@ fn read_node(alloc: Global, node_index: usize, reader: &mut Reader<'_>) -> Resul
 {
     let at = reader.position();
     match u8::read(alloc, reader)? {
-        1 if node_index % 2 == 0 => Ok(Node::Leaf(Box::new(
+        1 if node_index % 2 == 0 => Ok(Node::Leaf(Shared::new(
             alloc,
             LeafNode::read(alloc, reader)?,
         )?)),

@@ -151,7 +151,7 @@ shape-left_subtree (branch l n r) s = record { perfect = s.perfect.1; low = let 
 
 shape-before : (x : UndoEntry) (t : Tree) → HasShape t → HasShape (undone x t)
 shape-before (Leaf i x) t s =
-    either HasShape (nat_lt i (leaf_count t)) (put_leaf 0 t i (option_map (λ b. b.value) x)) t (shape-put_leaf t i (option_map (λ b. b.value) x) s) s
+    either HasShape (nat_lt i (leaf_count t)) (put_leaf 0 t i x) t (shape-put_leaf t i x s) s
 shape-before (Parent p x) t s = shape-put_parent t p _ s
 shape-before (AddedUnmerged p i) t s = shape-put_parent t p _ s
 shape-before Extended t s = shape-left_subtree t s
@@ -186,15 +186,14 @@ module _ (old new : List ℕ) (n : ℕ) where
   lists_changes-leaf i x inside pushed =
       lists_changes-added old new (2 * i ∷ []) n n (Leaf i x) pushed
       (λ t e.
-      let v = option_map (λ b. b.value) x in
-      let put : undone (Leaf i x) t.tree ≡ put_leaf 0 t.tree i v = below i (leaf_count t.tree) (put_leaf 0 t.tree i v) t.tree (omega arith) in (
-        ap leaf_count put ∙ leaf_count-put_leaf 0 t.tree i v ∙ e,
-        subst (λ w. AgreeExceptAt (2 * i ∷ []) w t.tree) (sym put) (same-put_leaf t.tree i v (omega arith)),
+      let put : undone (Leaf i x) t.tree ≡ put_leaf 0 t.tree i x = below i (leaf_count t.tree) (put_leaf 0 t.tree i x) t.tree (omega arith) in (
+        ap leaf_count put ∙ leaf_count-put_leaf 0 t.tree i x ∙ e,
+        subst (λ w. AgreeExceptAt (2 * i ∷ []) w t.tree) (sym put) (same-put_leaf t.tree i x (omega arith)),
       ))
 
   pub lists_changes-no_leaf : (i : ℕ) (x : _) → n ≤ i → new ≡ old → Lists old new n n (Leaf i x)
   lists_changes-no_leaf i x past stays =
-      lists_changes-none old new n (Leaf i x) stays (λ t e. let v = option_map (λ b. b.value) x in from i (leaf_count t.tree) (put_leaf 0 t.tree i v) t.tree (omega arith))
+      lists_changes-none old new n (Leaf i x) stays (λ t e. from i (leaf_count t.tree) (put_leaf 0 t.tree i x) t.tree (omega arith))
 
   pub lists_changes-parent : (p : ℕ) (x : _) → new ≡ old ++ p ∷ [] → Lists old new n n (Parent p x)
   lists_changes-parent p x pushed =

@@ -208,8 +208,8 @@ module _ (ps : List ℕ) (slots us : List (Option (List ℕ))) (e : us ≡ empti
   twice-same p away = emptied-other ps slots p away ∙ emptied-other ps (emptied slots ps) p away ∙ ap (λ cs. slice_get cs p) (sym e)
 
 module _ (t u : KeptTree) (old capacity new : List UndoEntry) (reserved : capacity ≡ old) where
-  pub leaf-slots : (i : ℕ) (x : Option LeafNode) (node : Option (Box LeafNode Global)) → i < leaf_count t.tree → u.tree ≡ put_leaf 0 t.tree i x
-      → option_map (λ b. b.value) node ≡ leaf_at 0 t.tree i → new ≡ capacity ++ Leaf i node ∷ [] → u.slots ≡ emptied t.slots (2 * i ∷ direct_path 0 t.tree i)
+  pub leaf-slots : (i : ℕ) (x : Option LeafNode) (node : Option LeafNode) → i < leaf_count t.tree → u.tree ≡ put_leaf 0 t.tree i x
+      → node ≡ leaf_at 0 t.tree i → new ≡ capacity ++ Leaf i node ∷ [] → u.slots ≡ emptied t.slots (2 * i ∷ direct_path 0 t.tree i)
       → SlotsAgreeExceptAt (2 * i ∷ direct_path 0 t.tree i) (all_slots_back old t.tree t.slots) (all_slots_back new u.tree u.slots)
   leaf-slots i x node inside put former pushed e =
       let ps = 2 * i ∷ direct_path 0 t.tree i in
@@ -301,7 +301,7 @@ truncated-slots path t u old capacity new reserved front rest b now whole back c
     (λ p away. again p away ∙ ap (λ cs. slice_get cs p) same)
 
 -- a leaf that is put back, or refused since there is no place for one
-pub leaf-put_back : {A E : Type 0} (r : Result A E) (t u : KeptTree) (i : ℕ) (x : Option (Box LeafNode Global)) → OnOk r (u.slots ≡ emptied t.slots (2 * i ∷ direct_path 0 t.tree i)) → OnErr r (u ≡ t)
+pub leaf-put_back : {A E : Type 0} (r : Result A E) (t u : KeptTree) (i : ℕ) (x : Option LeafNode) → OnOk r (u.slots ≡ emptied t.slots (2 * i ∷ direct_path 0 t.tree i)) → OnErr r (u ≡ t)
     → (IsErr r → leaf_count t.tree ≤ i) → (leaf_count t.tree ≤ i → IsErr r) → u.slots ≡ slots_back (Leaf i x) t.tree t.slots
 leaf-put_back (Ok a) t u i x put stays none some =
     elim (cases_lt i (leaf_count t.tree)) [

@@ -92,12 +92,12 @@ undone-last (y ∷ xs) x t = ap (undone y) (undone-last xs x t)
 
 -- ---- one change is taken back
 
-pub leaf-undone : (t u : Tree) (i : ℕ) (x : Option LeafNode) (node : Option (Box LeafNode Global)) → i < leaf_count t → u ≡ put_leaf 0 t i x
-    → option_map (λ b. b.value) node ≡ leaf_at 0 t i → undone (Leaf i node) u ≡ t
+pub leaf-undone : (t u : Tree) (i : ℕ) (x : Option LeafNode) (node : Option LeafNode) → i < leaf_count t → u ≡ put_leaf 0 t i x
+    → node ≡ leaf_at 0 t i → undone (Leaf i node) u ≡ t
 leaf-undone t u i x node inside put former =
     let c = leaf_count-put_leaf 0 t i x in
     let e : leaf_count u ≡ leaf_count t = ap leaf_count put ∙ c in
-    below i (leaf_count u) (put_leaf 0 u i (option_map (λ b. b.value) node)) u (omega arith)
+    below i (leaf_count u) (put_leaf 0 u i node) u (omega arith)
     ∙ (λ k. put_leaf 0 (put k) i (former k))
     ∙ put_leaf-back 0 t i x (omega arith) (omega arith)
 
@@ -144,8 +144,8 @@ blank-kept t u p (Some x) node inside a b put former = absurd (cc)
 
 module _ (t u : Tree) (old capacity new : List UndoEntry) (reserved : capacity ≡ old) where
   -- a leaf was replaced
-  pub leaf-kept_back : (i : ℕ) (x : Option LeafNode) (node : Option (Box LeafNode Global)) → i < leaf_count t → u ≡ put_leaf 0 t i x
-      → option_map (λ b. b.value) node ≡ leaf_at 0 t i → new ≡ capacity ++ Leaf i node ∷ [] → all_undone new u ≡ all_undone old t
+  pub leaf-kept_back : (i : ℕ) (x : Option LeafNode) (node : Option LeafNode) → i < leaf_count t → u ≡ put_leaf 0 t i x
+      → node ≡ leaf_at 0 t i → new ≡ capacity ++ Leaf i node ∷ [] → all_undone new u ≡ all_undone old t
   leaf-kept_back i x node inside put former pushed =
       ap (λ xs. all_undone xs u) (pushed ∙ ap (λ xs. xs ++ Leaf i node ∷ []) reserved)
       ∙ undone-last old (Leaf i node) u

@@ -14,7 +14,7 @@ use Rattle.mls_tree.specs.declared.journal.Journal.{Journal}
 
 -- `undone x t` is the tree before a change whose undo entry is `x`.
 abbrev pub undone : UndoEntry → Tree → Tree
-undone (Leaf i x) t = if nat_lt i (leaf_count t) then put_leaf 0 t i (option_map (λ b. b.value) x) else t
+undone (Leaf i x) t = if nat_lt i (leaf_count t) then put_leaf 0 t i x else t
 undone (Parent p x) t = put_parent 0 t p (option_map (λ b. b.value) x)
 undone (AddedUnmerged p i) t = change_parent (without_unmerged i) 0 t p
 undone Extended t = left_subtree t

@@ -16,7 +16,7 @@ use Rattle.mls_tree.specs.declared.error.TreeError.TheVariants.{NoSuchNode, TooM
 abbrev pub leaf_part : Option (Option Node) → Option LeafNode
 leaf_part None = None
 leaf_part (Some None) = None
-leaf_part (Some (Some (Leaf b))) = Some b.value
+leaf_part (Some (Some (Leaf l))) = Some l
 leaf_part (Some (Some (Parent b))) = None
 
 -- The parent node at an index of the array.

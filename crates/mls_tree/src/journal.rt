@@ -20,6 +20,7 @@ use crate::changed_nodes::push_changed;
 use crate::error::TreeError;
 use crate::public_tree::PublicTree;
 use mls_nodes::{LeafNode, ParentNode};
+use mls_wire::Shared;
 use std::alloc::{AllocError, Global};
 use std::mem;
 
@@ -29,7 +30,7 @@ pub(crate) enum UndoEntry {
     /// A leaf.
     Leaf {
         index: u32,
-        node: Option<Box<LeafNode>>,
+        node: Option<Shared<LeafNode>>,
     },
     /// A parent.
     Parent {
@@ -115,11 +116,11 @@ impl Journal {
         &mut self,
         tree: &mut PublicTree,
         index: u32,
-        leaf: Option<Box<LeafNode>>,
+        leaf: Option<Shared<LeafNode>>,
     ) -> Result<(), AllocError>
         requires { index < leaf_count tree.old.tree }
         ensures put { OnOk result
-            (tree.new.tree ≡ put_leaf 0 tree.old.tree index (option_map (λ b. b.value) leaf)) }
+            (tree.new.tree ≡ put_leaf 0 tree.old.tree index leaf) }
         ensures unchanged_on_error { OnErr result (tree.new ≡ tree.old) }
         ensures before { before self.new tree.new.tree ≡ before self.old tree.old.tree }
         ensures kind { tree.new.kind ≡ tree.old.kind }

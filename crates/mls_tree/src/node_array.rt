@@ -26,6 +26,7 @@ use crate::swap_prefix::swap_prefix;
 use crate::tree_size::{height_of, height_of_length, leaves_of};
 use crate::unmerged_leaves::{insert_index, is_overfilled_above, leave, push_new_lists, put_lists};
 use mls_nodes::{LeafNode, Node, ParentNode};
+use mls_wire::Shared;
 use std::alloc::{AllocError, Global};
 use std::collections::BTreeSet;
 use std::marker::Model;
@@ -345,10 +346,10 @@ impl NodeArray {
     pub(crate) fn set_leaf(
         &mut self,
         index: u32,
-        leaf: Option<Box<LeafNode>>,
-    ) -> Result<(), (TreeError, Option<Box<LeafNode>>)>
+        leaf: Option<Shared<LeafNode>>,
+    ) -> Result<(), (TreeError, Option<Shared<LeafNode>>)>
         ensures changed { OnOk result
-            (self.new.tree ≡ put_leaf 0 self.old.tree index (option_map (λ b. b.value) leaf)) }
+            (self.new.tree ≡ put_leaf 0 self.old.tree index leaf) }
         ensures unchanged_on_error { OnErr result (self.new ≡ self.old) }
         ensures no_such_node { IsErr result ↔ (leaf_count self.old.tree ≤ index) }
         ensures returned_arguments { IfErr result (λ e. e ≡ (TreeError.NoSuchNode, leaf)) }
@@ -384,12 +385,12 @@ impl NodeArray {
     pub(crate) fn replace_leaf(
         &mut self,
         index: u32,
-        leaf: Option<Box<LeafNode>>,
-    ) -> Option<Box<LeafNode>>
+        leaf: Option<Shared<LeafNode>>,
+    ) -> Option<Shared<LeafNode>>
         requires { index < leaf_count self.old.tree }
         ensures put { self.new.tree
-            ≡ put_leaf 0 self.old.tree index (option_map (λ b. b.value) leaf) }
-        ensures former { option_map (λ b. b.value) result ≡ leaf_at 0 self.old.tree index }
+            ≡ put_leaf 0 self.old.tree index leaf }
+        ensures former { result ≡ leaf_at 0 self.old.tree index }
     {
         let former = mem::replace(&mut self.nodes[2 * index as usize], leaf_entry(leaf));
         into_leaf(former)

@@ -27,6 +27,7 @@ use crate::hash_value::HashValue;
 use crate::node_array::NodeArray;
 use crate::tree_size::leaves_of;
 use mls_nodes::{LeafNode, Node, ParentNode};
+use mls_wire::Shared;
 use std::alloc::{AllocError, Global};
 use std::collections::BTreeSet;
 use std::marker::Model;
@@ -340,10 +341,10 @@ impl PublicTree {
     pub fn set_leaf(
         &mut self,
         index: u32,
-        leaf: Option<Box<LeafNode>>,
-    ) -> Result<(), (TreeError, Option<Box<LeafNode>>)>
+        leaf: Option<Shared<LeafNode>>,
+    ) -> Result<(), (TreeError, Option<Shared<LeafNode>>)>
         ensures changed { OnOk result
-            (self.new.tree ≡ put_leaf 0 self.old.tree index (option_map (λ b. b.value) leaf)) }
+            (self.new.tree ≡ put_leaf 0 self.old.tree index leaf) }
         ensures unchanged_on_error { OnErr result (self.new ≡ self.old) }
         ensures no_such_node { IsErr result ↔ (leaf_count self.old.tree ≤ index) }
         ensures returned_arguments { IfErr result (λ e. e ≡ (TreeError.NoSuchNode, leaf)) }
@@ -389,12 +390,12 @@ impl PublicTree {
     pub(crate) fn replace_leaf(
         &mut self,
         index: u32,
-        leaf: Option<Box<LeafNode>>,
-    ) -> Option<Box<LeafNode>>
+        leaf: Option<Shared<LeafNode>>,
+    ) -> Option<Shared<LeafNode>>
         requires { index < leaf_count self.old.tree }
         ensures put { self.new.tree
-            ≡ put_leaf 0 self.old.tree index (option_map (λ b. b.value) leaf) }
-        ensures former { option_map (λ b. b.value) result ≡ leaf_at 0 self.old.tree index }
+            ≡ put_leaf 0 self.old.tree index leaf }
+        ensures former { result ≡ leaf_at 0 self.old.tree index }
         ensures kind { self.new.kind ≡ self.old.kind }
         ensures slots { self.new.slots
             ≡ emptied self.old.slots (2 * index ∷ direct_path 0 self.old.tree index) }

@@ -1,6 +1,6 @@
 //! Reading from left to right.
 
-ghost use Rattle.std.specs.Prelude.{◌≡◌, ◌+◌, ◌≤◌, ◌<◌, ◌↔◌, ℕ, List, [], length, IsTrue, ◌≢◌, MatchOption, MatchResult, Some, None, take, drop};
+ghost use Rattle.std.specs.Prelude.{◌≡◌, ◌+◌, ◌≤◌, ◌<◌, ◌^◌, ◌↔◌, ℕ, List, [], length, IsTrue, ◌≢◌, MatchOption, MatchResult, Some, None, take, drop};
 ghost use Rattle.std.specs.Int.{Width, w8, w16, w32, w64, byte_len, from_be_bytes};
 ghost use Rattle.mls_wire.specs.Faults.{trailing_at};
 ghost use Rattle.mls_wire.specs.Input.{Input, at, skip};
@@ -61,6 +61,17 @@ impl<'a> Reader<'a> {
         }
     }
 
+    /// Returns a reader of bytes that begin at an offset in an outermost input, which continues there.
+    pub fn resumed(offset: usize, bytes: &'a [u8]) -> Reader<'a>
+        requires { offset + length bytes.now < 2 ^ 64 }
+        ensures { result ≡ at offset bytes.now }
+    {
+        Reader {
+            offset,
+            left: bytes,
+        }
+    }
+
     /// Returns the offset: how many bytes of the outermost input are before what is left.
     pub fn position(&self) -> usize
         ensures { result ≡ self.now.offset }
@@ -73,6 +84,13 @@ impl<'a> Reader<'a> {
         ensures { IsTrue result ↔ (self.now.left ≡ []) }
     {
         self.left.is_empty()
+    }
+
+    /// Returns the bytes that are left.
+    pub fn left(&self) -> &'a [u8]
+        ensures { result.now ≡ self.now.left }
+    {
+        self.left
     }
 
     /// Returns how many bytes are left.

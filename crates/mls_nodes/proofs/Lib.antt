@@ -1,5 +1,6 @@
 pub mod Entries
 pub mod RestOfTree
+pub mod OwnedBytes
 pub mod Limits
 mod SortedLists
 pub mod Trimming

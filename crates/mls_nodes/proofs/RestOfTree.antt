@@ -1,5 +1,5 @@
 -- The entries that are still to be read, as an entry is read or the last one was.
-use Rattle.std.proofs.Common.{◌≡◌, ◌≢◌, ℕ, suc, ◌+◌, ◌≤◌, ◌<◌, Bool, true, false, ◌&&◌, cond, eqb, nat_le, List, [], ◌∷◌, length, Option, Some, None, Err, refl, sym, ap, ◌∙◌, arith}
+use Rattle.std.proofs.Common.{◌≡◌, ◌≢◌, ℕ, suc, ◌+◌, ◌≤◌, ◌<◌, Bool, true, false, ◌&&◌, cond, eqb, nat_le, List, [], ◌∷◌, length, Option, Some, None, Err, refl, sym, ap, ◌∙◌, arith, length-append}
 use Rattle.std.specs.Prelude.{◌↔◌, is_some}
 use Rattle.std.proofs.lemmas.Bool.{and_right, le-leb, lt-leb, ne_eqb}
 use Rattle.std.proofs.lemmas.List.{nil_from_length}
@@ -16,7 +16,7 @@ use Rattle.mls_nodes.specs.Layout.{node}
 use Rattle.mls_nodes.specs.RatchetTreeEncoding.{fits_at, fit_from, ends_non_blank, ratchet_tree}
 use Rattle.mls_nodes.specs.FilledTree.{ends_more}
 use Rattle.mls_nodes.specs.ParsingInternal.{node_model_at, node_in, well_laid_out, tree_at, ends_after, ending, rest_at, GivesNode}
-use Rattle.mls_nodes.specs.RatchetTreeReading.{with_first, RatchetTreeReaderModel, ReadsEntry}
+use Rattle.mls_nodes.specs.RatchetTreeReading.{with_first, BeginsWithEntry, RatchetTreeReaderModel, ReadsEntry}
 use Rattle.mls_nodes.specs.RatchetTreeContracts.{DecodesTree}
 use Rattle.mls_nodes.specs.RatchetTreeContractsInternal.{DecodesEntries}
 use Rattle.mls_nodes.specs.declared.node.Node.{Node}
@@ -118,6 +118,14 @@ rest_more k b after body x j some read =
       ap (ending k b (eqb (length after.left) 0)) (sym (entries_go_on body (entry_value x) j some found.0)) ∙ ending_more k b (eqb (length after.left) 0) x (entries_at j) found.1,
       entry_short body (entry_value x) j found.0,
     )
+
+-- an entry that was read is encoded between the inputs
+pub entry_encoded : (k : ℕ) (body : Input) (x : Option NodeValue) (j : Input) → optional_at (node_in k) body ≡ Some (x, j)
+    → BeginsWithEntry x body.left j.left × (j.offset + length j.left ≡ body.offset + length body.left)
+entry_encoded k body x j read =
+    let found = entry_found k body x j read in
+    let t = ((optional_exact node node_model_at node_exact).takes body x j found.0).1 in
+    ((t.0, t.1, t.2), omega (arith, t.3, ap length t.2, length-append t.0 j.left))
 
 -- a call's answer on a fault
 pub entry_fault : (e : NodeFault) (k : ℕ) (b : Bool) (after body new : Input) (old later : RatchetTreeReaderModel) → (body.left ≡ [] → ⊥) → GivesNode (optional_at (node_in k)) body new (Err e)

@@ -1,8 +1,9 @@
 -- Reading nodes, GroupContexts and trees from left to right, as functions of the input. Internal: no public contract
 -- uses this, except that of `Decode::read`.
-use Rattle.std.specs.Prelude.{◌≡◌, ℕ, ◌+◌, ◌%◌, List, [], ◌∷◌, length, Bool, ◌&&◌, Option, Some, None, Result, Ok, Err, nat_eq, nat_le, if◌then◌else◌}
+use Rattle.std.specs.Prelude.{◌≡◌, ◌≤◌, ℕ, ◌+◌, ◌%◌, List, [], ◌∷◌, length, take, drop, Bool, ◌&&◌, Option, Some, None, Result, Ok, Err, nat_eq, nat_le, if◌then◌else◌}
 use Rattle.std.specs.Int.{w8, w16, w32, w64}
 use Rattle.mls_wire.specs.Input.{Input, at}
+use Rattle.mls_wire.specs.Limits.{input_limit}
 use Rattle.mls_wire.specs.Parsing.{◌>>=◌, number_at, vector_at, list_at, body_at, items_at}
 use Rattle.mls_wire.specs.ParsingInternal.{optional_at}
 use Rattle.mls_nodes.specs.Limits.{leaf_limit, entry_limit}
@@ -17,6 +18,8 @@ use Rattle.mls_nodes.specs.declared.capabilities.Capabilities.{Capabilities}
 use Rattle.mls_nodes.specs.declared.leaf.LeafNode.{LeafNode}
 use Rattle.mls_nodes.specs.declared.parent.ParentNode.{ParentNode}
 use Rattle.mls_nodes.specs.declared.context.GroupContext.{GroupContext}
+use Rattle.mls_nodes.specs.RatchetTreeReading.{RatchetTreeReaderModel}
+use Rattle.mls_nodes.specs.declared.ratchet_tree.progress.Progress.{Progress}
 use Rattle.mls_nodes.specs.declared.fault.NodeFault.{NodeFault}
 use Rattle.mls_nodes.specs.declared.fault.NodeFault.TheVariants as faults
 
@@ -160,6 +163,26 @@ ending node_index is_non_blank is_whole (Some nodes) =
 unfoldable pub rest_at : ℕ → Bool → Input → Input → Option (List (Option NodeValue))
 rest_at node_index is_non_blank after body =
     ending node_index is_non_blank (nat_eq (length after.left) 0) (items_at (optional_at node_model_at) (length body.left) body)
+
+-- `reader_model progress after body` is the model of a reader of `body`, the unread bytes of entries. `after` is the input
+-- after the vector.
+abbrev pub reader_model : Progress → Input → Input → RatchetTreeReaderModel
+reader_model progress after body = record {
+  node_index = progress.node_index;
+  unread = body.left;
+  rest = rest_at progress.node_index progress.is_last_non_blank after body;
+}
+
+-- `unread_model progress offset count bytes` is the model of a reader of the first `count` of the bytes, which begin at
+-- an offset of the input. The others are after the vector.
+abbrev pub unread_model : Progress → ℕ → ℕ → List ℕ → RatchetTreeReaderModel
+unread_model progress offset count bytes = reader_model progress (at (offset + count) (drop count bytes)) (at offset (take count bytes))
+
+-- `ReadsVector bytes result`: the call returned readers of the body of the vector at the front of the bytes, and of what
+-- is after it. A fault comes only if there is no vector within the limit of an input.
+abbrev pub ReadsVector : List ℕ → Result (Input × Input) NodeFault → Type 0
+ReadsVector bytes (Ok parts) = (length bytes ≤ input_limit) × (body_at (at 0 bytes) ≡ Some (parts.0, parts.1))
+ReadsVector bytes (Err e) = length bytes ≤ input_limit → body_at (at 0 bytes) ≡ None
 
 -- `GivesNode read old new result`: a call returned what `read` returns, with the rest of the input. On error nothing is
 -- said of the rest.

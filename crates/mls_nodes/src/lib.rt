@@ -33,7 +33,10 @@ pub use leaf_source::{LeafSource, Lifetime};
 pub use lists::{CertChain, Codes, Extensions, ExternalSenders};
 pub use node::Node;
 pub use parent::{ParentNode, write_parent};
-pub use ratchet_tree::{RatchetTreeReader, decode_ratchet_tree, encode_ratchet_tree, full_size_of};
+pub use ratchet_tree::{
+    OwnedTreeReader, RatchetTreeReader, append_blanks, decode_ratchet_tree, encode_ratchet_tree,
+    full_size_of,
+};
 pub use required_capabilities::{
     RequiredCapabilities, find_extension, requirements, requirements_of,
 };

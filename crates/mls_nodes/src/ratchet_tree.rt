@@ -3,10 +3,13 @@
 
 mod decode;
 mod encode;
+mod owned_reader;
+mod progress;
 mod reader;
 
-pub use decode::{decode_ratchet_tree, full_size_of};
+pub use decode::{append_blanks, decode_ratchet_tree, full_size_of};
 pub use encode::encode_ratchet_tree;
+pub use owned_reader::OwnedTreeReader;
 pub use reader::RatchetTreeReader;
 
 /// The most entries of a tree, those of 1,048,576 leaves.

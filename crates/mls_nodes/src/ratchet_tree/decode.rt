@@ -41,8 +41,12 @@ pub fn full_size_of(count: usize) -> usize
     size
 }
 
-/// Appends blank entries, up to a full tree.
-fn fill(mut entries: Vec<Option<Node>>) -> Result<Vec<Option<Node>>, NodeFault>
+/// Appends blank entries, up to the least full tree (RFC 9420, 12.4.3.3).
+///
+/// # Errors
+///
+/// `OutOfMemory`. The entries are dropped.
+pub fn append_blanks(mut entries: Vec<Option<Node>>) -> Result<Vec<Option<Node>>, NodeFault>
     requires { length entries.items ≤ entry_limit }
     ensures full { IfOk result
         (λ v. map entry_value v.items ≡ filled (map entry_value entries.items)) }
@@ -69,5 +73,5 @@ pub fn decode_ratchet_tree(alloc: Global, bytes: &[u8]) -> Result<Vec<Option<Nod
     ensures encoded { DecodesTree bytes.now (seen (λ v. map entry_value v.items) result) }
     ensures long { input_limit < length bytes.now → result ≡ Err (faults.Wire (too_long_at 0)) }
 {
-    fill(read_tree(alloc, bytes)?)
+    append_blanks(read_tree(alloc, bytes)?)
 }

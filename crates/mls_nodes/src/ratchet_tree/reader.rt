@@ -1,6 +1,6 @@
 //! Reading the entries of a ratchet_tree, one after the other.
 
-ghost use Rattle.std.specs.Prelude.{◌≡◌, ◌≤◌, ◌<◌, [], length, Some, None, Err, IfOk, OnErr};
+ghost use Rattle.std.specs.Prelude.{◌≡◌, ◌+◌, ◌≤◌, ◌<◌, [], length, Some, None, Err, IfOk, OnErr};
 ghost use Rattle.mls_wire.specs.Faults.{too_long_at};
 ghost use Rattle.mls_wire.specs.Limits.{input_limit};
 ghost use Rattle.mls_wire.specs.Parsing.{body_at};
@@ -8,7 +8,7 @@ ghost use Rattle.mls_wire.specs.ParsingInternal.{Gives, flag_at, optional_at};
 ghost use Rattle.mls_wire.specs.ReadContracts.{seen};
 ghost use Rattle.mls_nodes.specs.Limits.{entry_limit};
 ghost use Rattle.mls_nodes.specs.NodeModel.{node_value, entry_value};
-ghost use Rattle.mls_nodes.specs.ParsingInternal.{node_in, GivesNode};
+ghost use Rattle.mls_nodes.specs.ParsingInternal.{node_in, reader_model, rest_at, GivesNode, ReadsVector};
 ghost use Rattle.mls_nodes.specs.RatchetTreeReading.{StartsReading, ReadsEntry};
 ghost use Rattle.mls_nodes.specs.declared.fault.NodeFault.TheVariants as faults;
 
@@ -17,6 +17,7 @@ use crate::leaf::LeafNode;
 use crate::node::Node;
 use crate::parent::ParentNode;
 use crate::ratchet_tree::MAX_ENTRIES;
+use crate::ratchet_tree::progress::Progress;
 use mls_wire::{Decode, MAX_INPUT, Reader, Shared, WireFault, WireFaultKind};
 use std::alloc::Global;
 use std::marker::Model;
@@ -74,6 +75,70 @@ fn read_entry(
     Ok(Some(read_node(alloc, node_index, reader)?))
 }
 
+/// Checks that the entries may end after the body of the vector, and that no byte is after the vector.
+fn check_end(progress: Progress, body: &Reader<'_>, after: &Reader<'_>) -> Result<(), NodeFault>
+    requires { body.now.left ≡ [] }
+    ensures end { IfOk result
+        (λ _. rest_at progress.node_index progress.is_last_non_blank after.now body.now ≡ Some []) }
+    ensures fault { OnErr result
+        (rest_at progress.node_index progress.is_last_non_blank after.now body.now ≡ None) }
+{
+    if !progress.is_last_non_blank {
+        return Err(if progress.has_non_blank {
+            NodeFault::LastBlank
+        } else {
+            NodeFault::EmptyTree
+        });
+    }
+    after.finish()?;
+    Ok(())
+}
+
+/// Returns readers of the body of the vector at the front of an input, and of what is after it.
+pub(super) fn read_vector(bytes: &[u8]) -> Result<(Reader<'_>, Reader<'_>), NodeFault>
+    ensures vector { ReadsVector bytes.now result }
+    ensures long { input_limit < length bytes.now → result ≡ Err (faults.Wire (too_long_at 0)) }
+{
+    if bytes.len() > MAX_INPUT {
+        return Err(NodeFault::Wire(WireFault {
+            kind: WireFaultKind::TooLong,
+            at: 0,
+        }));
+    }
+    let mut after = Reader::new(bytes);
+    let body = read_body(&mut after)?;
+    Ok((body, after))
+}
+
+/// Reads the next entry from the unread bytes of entries. `after` is the input after the vector.
+pub(super) fn read_next(
+    alloc: Global,
+    progress: &mut Progress,
+    body: &mut Reader<'_>,
+    after: &Reader<'_>,
+) -> Result<Option<Option<Node>>, NodeFault>
+    ensures entry { ReadsEntry
+        (reader_model progress.old after.now body.old)
+        (reader_model progress.new after.now body.new) result }
+    ensures end { IfOk result (λ _. body.new.offset + length body.new.left
+        ≡ body.old.offset + length body.old.left) }
+{
+    if body.at_end() {
+        check_end(*progress, body, after)?;
+        return Ok(None);
+    }
+    if progress.node_index >= MAX_ENTRIES {
+        return Err(NodeFault::TooManyLeaves);
+    }
+    let entry = read_entry(alloc, progress.node_index, body)?;
+    *progress = Progress {
+        node_index: progress.node_index + 1,
+        is_last_non_blank: entry.is_some(),
+        has_non_blank: progress.has_non_blank || entry.is_some(),
+    };
+    Ok(Some(entry))
+}
+
 /// The entries of a ratchet_tree that are still to be read (RFC 9420, 12.4.3.3).
 ///
 /// A caller that needs one entry at a time reads a tree without the memory of all its nodes.
@@ -81,26 +146,16 @@ fn read_entry(
 pub struct RatchetTreeReader<'a> {
     body: Reader<'a>,
     after: Reader<'a>,
-    node_index: usize,
-    is_last_non_blank: bool,
-    has_non_blank: bool,
+    progress: Progress,
 }
 
 impl<'a> Model for RatchetTreeReader<'a> {
-    ghost use Rattle.std.specs.Prelude.{◌≤◌, length};
-    ghost use Rattle.mls_nodes.specs.Limits.{entry_limit};
-    ghost use Rattle.mls_nodes.specs.ParsingInternal.{rest_at};
     ghost use Rattle.mls_nodes.specs.RatchetTreeReading.{RatchetTreeReaderModel};
+    ghost use Rattle.mls_nodes.specs.ParsingInternal.{reader_model};
 
     ghost Value = { RatchetTreeReaderModel };
 
-    ghost view = { λ r. record {
-      node_index = r.node_index;
-      left = length r.body.left;
-      rest = rest_at r.node_index r.is_last_non_blank r.after r.body;
-    } };
-
-    ghost invariant = { λ r. r.node_index ≤ entry_limit };
+    ghost view = { λ r. reader_model r.progress r.after r.body };
 }
 
 impl<'a> RatchetTreeReader<'a> {
@@ -113,20 +168,15 @@ impl<'a> RatchetTreeReader<'a> {
         ensures starts { StartsReading bytes.now result }
         ensures long { input_limit < length bytes.now → result ≡ Err (faults.Wire (too_long_at 0)) }
     {
-        if bytes.len() > MAX_INPUT {
-            return Err(NodeFault::Wire(WireFault {
-                kind: WireFaultKind::TooLong,
-                at: 0,
-            }));
-        }
-        let mut after = Reader::new(bytes);
-        let body = read_body(&mut after)?;
+        let (body, after) = read_vector(bytes)?;
         Ok(RatchetTreeReader {
             body,
             after,
-            node_index: 0,
-            is_last_non_blank: false,
-            has_non_blank: false,
+            progress: Progress {
+                node_index: 0,
+                is_last_non_blank: false,
+                has_non_blank: false,
+            },
         })
     }
 
@@ -135,24 +185,7 @@ impl<'a> RatchetTreeReader<'a> {
         ensures value { result ≡ self.now.node_index }
         ensures bound { result ≤ entry_limit }
     {
-        self.node_index
-    }
-
-    /// Checks that the entries may end here, and that no byte is after the vector.
-    fn check_end(&self) -> Result<(), NodeFault>
-        requires { self.now.left ≡ 0 }
-        ensures end { IfOk result (λ _. self.now.rest ≡ Some []) }
-        ensures fault { OnErr result (self.now.rest ≡ None) }
-    {
-        if !self.is_last_non_blank {
-            return Err(if self.has_non_blank {
-                NodeFault::LastBlank
-            } else {
-                NodeFault::EmptyTree
-            });
-        }
-        self.after.finish()?;
-        Ok(())
+        self.progress.node_index
     }
 
     /// Reads the next entry. Returns `None` after the last one, if these entries are a tree up to its last non-blank
@@ -166,17 +199,6 @@ impl<'a> RatchetTreeReader<'a> {
     pub fn next_entry(&mut self, alloc: Global) -> Result<Option<Option<Node>>, NodeFault>
         ensures { ReadsEntry self.old self.new result }
     {
-        if self.body.at_end() {
-            self.check_end()?;
-            return Ok(None);
-        }
-        if self.node_index >= MAX_ENTRIES {
-            return Err(NodeFault::TooManyLeaves);
-        }
-        let entry = read_entry(alloc, self.node_index, &mut self.body)?;
-        self.node_index += 1;
-        self.is_last_non_blank = entry.is_some();
-        self.has_non_blank |= entry.is_some();
-        Ok(Some(entry))
+        read_next(alloc, &mut self.progress, &mut self.body, &self.after)
     }
 }

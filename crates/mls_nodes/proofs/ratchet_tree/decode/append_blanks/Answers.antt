@@ -3,7 +3,7 @@ use Rattle.mls_nodes.specs.NodeModel.{entry_value}
 use Rattle.mls_nodes.specs.RatchetTreeEncoding.{full_size}
 use Rattle.mls_nodes.specs.FilledTree.{full_size-enough}
 use Rattle.mls_nodes.proofs.Entries.{blank_more, blanks_begin}
-use Rattle.mls_nodes.proofs.ratchet_tree.decode.fill.Goals as goal
+use Rattle.mls_nodes.proofs.ratchet_tree.decode.append_blanks.Goals as goal
 
 pub overflow_sub-size : goal.overflow_sub-size
 overflow_sub-size c = omega (arith, full_size-enough c.len.result)

@@ -1,7 +1,7 @@
 use Rattle.std.proofs.Common.{◌≡◌, ◌≤◌, ◌-◌, ◌++◌, map, replicate, vec_len, None}
 use Rattle.mls_nodes.specs.NodeModel.{entry_value}
 use Rattle.mls_nodes.specs.RatchetTreeEncoding.{filled}
-use Rattle.mls_nodes.proofs.ratchet_tree.decode.fill.Given as goal
+use Rattle.mls_nodes.proofs.ratchet_tree.decode.append_blanks.Given as goal
 
 abbrev pub invariant-loop-entries : goal.invariant-loop-entries
 invariant-loop-entries l = record {

@@ -12,4 +12,4 @@ invariant-loop-entries l = record {
 }
 
 abbrev pub decreases-loop-entries : goal.decreases-loop-entries
-decreases-loop-entries l = l.reader.left
+decreases-loop-entries l = length l.reader.unread

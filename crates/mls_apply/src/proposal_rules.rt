@@ -143,8 +143,8 @@ fn are_valid_extensions(alloc: Global, extensions: &Extensions) -> Result<bool, 
     }
 }
 
-/// Returns whether the source of a leaf node is key_package.
-fn is_from_key_package(source: &LeafSource) -> bool
+/// Returns whether the source of a leaf node is key_package (RFC 9420, 7.2).
+pub fn is_from_key_package(source: &LeafSource) -> bool
     ensures { result ≡ is_from_key_package source.now }
 {
     matches!(source, LeafSource::KeyPackage(_))

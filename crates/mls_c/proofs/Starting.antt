@@ -17,7 +17,8 @@ use Rattle.mls_report.specs.declared.read_inputs.StartFailure.TheVariants.{Found
 use Rattle.mls_report.proofs.StartsOnce.{one_tree}
 use Rattle.mls_c.specs.Queries.{query_records}
 use Rattle.mls_c.specs.Starts.{passed}
-use Rattle.mls_c.specs.StartSteps.{IsStartQuery, ListsStart, ListsFrom, FailsStart, DeclinesPassed}
+use Rattle.mls_report.specs.FailedStarts.{FailsStart}
+use Rattle.mls_c.specs.StartSteps.{IsStartQuery, ListsStart, ListsFrom, DeclinesPassed}
 
 -- the records by the tree in the GroupInfo
 pub records-own : (G : VerifyFn) (info : GroupInfo) (h : RatchetTree) (records : List ℕ) → UsesTree None info.extensions h

@@ -9,14 +9,11 @@ use Rattle.mls_tree.specs.RatchetTree.{RatchetTree}
 use Rattle.mls_signatures.specs.SignaturesToVerify.{start_signatures}
 use Rattle.mls_signatures.specs.declared.signature_to_verify.SignatureToVerify.{SignatureToVerify}
 use Rattle.mls_follow.specs.CoveredLogs.{all_good}
-use Rattle.mls_follow.specs.Start.{UsesTree, IsStart, IsStartFault}
+use Rattle.mls_follow.specs.Start.{UsesTree, IsStart}
 use Rattle.mls_follow.specs.State.{State}
-use Rattle.mls_follow.specs.declared.start_fault.StartFault.{StartFault}
-use Rattle.mls_follow.specs.declared.start_fault.StartFault.TheVariants as starts
 use Rattle.mls_report.specs.Finding.{finding_verdict}
 use Rattle.mls_report.specs.StartInputs.{IsStartFinding}
 use Rattle.mls_report.specs.declared.finding.Finding.{Finding}
-use Rattle.mls_report.specs.declared.finding.Finding.TheVariants.{StartRefused}
 use Rattle.mls_report.specs.declared.verdict.Verdict.TheVariants.{No}
 use Rattle.mls_c.specs.declared.group_follower.GroupFollower.{GroupFollower}
 use Rattle.mls_c.specs.declared.input_verdict.InputVerdict.{InputVerdict}
@@ -24,14 +21,6 @@ use Rattle.mls_c.specs.Followers.{state_in}
 use Rattle.mls_c.specs.Numbers.{plain_verdict, other_profile}
 use Rattle.mls_c.specs.Queries.{query_records}
 use Rattle.mls_c.specs.Starts.{passed, RunsOut, CanStartFrom}
-
--- `FailsStart G info supplied finding`: no follower starts from a GroupInfo and a tree, and this is the finding.
-pub record FailsStart (G : VerifyFn) (info : GroupInfo) (supplied : Option RatchetTree) (finding : Finding)
-    : Type 0 where
-  pub fault : StartFault
-  pub not_out_of_memory : fault ≢ starts.OutOfMemory
-  pub fails : IsStartFault G info supplied fault
-  pub finding_is : finding ≡ StartRefused fault
 
 -- `DeclinesPassed profile G info_bytes tree_bytes finding`: no follower with this profile starts from these bytes, and
 -- this is the finding.

@@ -8,7 +8,8 @@ ghost use Rattle.mls_follow.specs.Start.{IsStart};
 ghost use Rattle.mls_report.specs.StartInputs.{IsInfo, IsSupplied, IsSuppliedUnread, IsReadAs, IsStarted};
 ghost use Rattle.mls_report.specs.StartSteps.{Says, IsUnread};
 ghost use Rattle.mls_c.specs.Starts.{passed};
-ghost use Rattle.mls_c.specs.StartSteps.{FailsStart, DeclinesPassed};
+ghost use Rattle.mls_report.specs.FailedStarts.{FailsStart};
+ghost use Rattle.mls_c.specs.StartSteps.{DeclinesPassed};
 
 use mls_check::SignatureCheck;
 use mls_follow::{Follower, StartFault};

@@ -18,7 +18,8 @@ use Rattle.mls_report.specs.declared.verdict.Verdict.{Verdict}
 use Rattle.mls_report.proofs.Replaying.{Appends-nil}
 use Rattle.mls_gate.specs.FirstStates.{StartSignatures, CanStart, Declines}
 use Rattle.mls_gate.specs.GateReport.{GatesOf, GateBefore, GatesPartOf}
-use Rattle.mls_gate.specs.GateSteps.{FailsStart, StopsInStartLines, Are}
+use Rattle.mls_report.specs.FailedStarts.{FailsStart}
+use Rattle.mls_gate.specs.GateSteps.{StopsInStartLines, Are}
 use Rattle.mls_gate.specs.Phases.{GroupFiles, Inputs, OfGroup, OfState}
 
 -- ---- from the bytes of a GroupInfo and a tree

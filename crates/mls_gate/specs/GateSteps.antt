@@ -1,6 +1,6 @@
 -- The contracts of the steps of the gate. `meaning` is the verification function of a checker. Internal: no public
 -- contract uses this.
-use Rattle.std.specs.Prelude.{◌≡◌, ◌≢◌, ℕ, List, [], drop, Bool, true, false, Option, Some, None, option_map}
+use Rattle.std.specs.Prelude.{◌≡◌, ℕ, List, [], drop, Bool, true, false, Option, Some, None, option_map}
 use Rattle.std.specs.Io.KnownBytes.{Appends}
 use Rattle.mls_wire.specs.Devices.{AppendsPrefix}
 use Rattle.mls_tree.specs.RatchetTree.{RatchetTree}
@@ -11,14 +11,9 @@ use Rattle.mls_signatures.specs.declared.signature_to_verify.SignatureToVerify.{
 use Rattle.mls_follow.specs.CoveredLogs.{all_good}
 use Rattle.mls_follow.specs.FollowerModel.{checker_of, state_of}
 use Rattle.mls_follow.specs.Resumption.{IsResumed}
-use Rattle.mls_follow.specs.Start.{IsStartFault}
 use Rattle.mls_follow.specs.State.{State}
-use Rattle.mls_follow.specs.declared.start_fault.StartFault.{StartFault}
-use Rattle.mls_follow.specs.declared.start_fault.StartFault.TheVariants as starts
 use Rattle.mls_report.specs.SignaturesSteps.{LinesWithoutMemory}
 use Rattle.mls_report.specs.StartInputs.{IsReadAs}
-use Rattle.mls_report.specs.declared.finding.Finding.{Finding}
-use Rattle.mls_report.specs.declared.finding.Finding.TheVariants.{StartRefused}
 use Rattle.mls_report.specs.declared.verdict.RunFault.{RunFault}
 use Rattle.mls_report.specs.declared.verdict.RunFault.TheVariants.{Read, Write, Memory}
 use Rattle.mls_report.specs.declared.verdict.Verdict.{Verdict}
@@ -120,14 +115,6 @@ StopsAtRecord phase body after written0 written1 Write = StopsInText phase body 
 StopsAtRecord phase body after written0 written1 Memory = Appends written0 written1 []
 
 -- ---- the start
-
--- No follower starts from a GroupInfo and a tree, and this is the finding.
-pub record FailsStart (G : VerifyFn) (info : GroupInfo) (supplied : Option RatchetTree) (finding : Finding)
-    : Type 0 where
-  pub fault : StartFault
-  pub not_out_of_memory : fault ≢ starts.OutOfMemory
-  pub fails : IsStartFault G info supplied fault
-  pub finding_is : finding ≡ StartRefused fault
 
 -- The lines of a start were not written whole, with this fault.
 abbrev pub StopsInStartLines : VerifyFn → List SignatureToVerify → Option (List ℕ) → Option (List ℕ) → RunFault → Type 0

@@ -13,7 +13,8 @@ ghost use Rattle.mls_report.specs.SignaturesReport.{StartHasSignatures};
 ghost use Rattle.mls_report.specs.StartInputs.{IsStarted};
 ghost use Rattle.mls_report.specs.StartSteps.{Says};
 ghost use Rattle.mls_gate.specs.FirstStates.{CanStart, Declines};
-ghost use Rattle.mls_gate.specs.GateSteps.{files_of, FailsStart};
+ghost use Rattle.mls_report.specs.FailedStarts.{FailsStart};
+ghost use Rattle.mls_gate.specs.GateSteps.{files_of};
 ghost use Rattle.mls_gate.specs.Phases.{OfGroup};
 
 use crate::gate_inputs::GroupBytes;

@@ -11,6 +11,7 @@ pub mod Show
 pub mod SignaturesReport
 pub mod SignaturesSteps
 pub mod ReportsExist
+pub mod FailedStarts
 pub mod StartInputs
 pub mod StateInputs
 pub mod StartSteps

@@ -28,11 +28,12 @@ use Rattle.mls_apply.specs.declared.list_item.ListItem.{ListItem}
 use Rattle.mls_apply.specs.ResolvedList.{resolved, with_first, entry_item, item_of, find_known}
 use Rattle.mls_apply.specs.AppliedList.{applied_tree, outcome, new_members, added_to}
 use Rattle.mls_apply.specs.Outline.{IsApart, IsOutline}
+use Rattle.mls_apply.specs.ProposalRules.{is_from_key_package}
 use Rattle.mls_apply.specs.OutlineInternal.{AreAt}
 use Rattle.mls_apply.proofs.Adding.{no_add, same_members}
 use Rattle.mls_apply.proofs.Updating.{next_item}
 use Rattle.mls_apply.proofs.AddedLeaves.{outcome_members}
-use Rattle.mls_signatures.specs.AddedLeaves.{reference_of_entry, reference_at, leaf_of_add, leaf_in, NamesAre, HasNames, indices, leaf_nodes, name_of, AreAdded, IsNamedBy, AreNamedBy, AreNamedAlike, IsAfter, IsMapOf, added_signatures, is_from_key_package, IsRepeat, AppendsSignatures}
+use Rattle.mls_signatures.specs.AddedLeaves.{reference_of_entry, reference_at, leaf_of_add, leaf_in, NamesAre, HasNames, indices, leaf_nodes, name_of, AreAdded, IsNamedBy, AreNamedBy, AreNamedAlike, IsAfter, IsMapOf, added_signatures, IsRepeat, AppendsSignatures}
 use Rattle.mls_signatures.specs.SignaturesToVerify.{labeled_signatures, leaf_signatures, non_blank_leaf_signatures, signatures_at}
 use Rattle.mls_signatures.specs.declared.added_leaves.AddedLeaf.{AddedLeaf}
 use Rattle.mls_signatures.specs.declared.signature_to_verify.SignatureToVerify.{SignatureToVerify}

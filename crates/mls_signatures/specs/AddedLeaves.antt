@@ -4,8 +4,6 @@ use Rattle.std.specs.Borrow.{Bor}
 use Rattle.std.specs.BTreeMap.{BTreeMap, get}
 use Rattle.std.specs.Ordering.{nat_cmp}
 use Rattle.mls_nodes.specs.declared.leaf.LeafNode.{LeafNode}
-use Rattle.mls_nodes.specs.declared.leaf_source.LeafSource.{LeafSource}
-use Rattle.mls_nodes.specs.declared.leaf_source.LeafSource.TheVariants as sources
 use Rattle.mls_tree.specs.Tree.{Tree, leaf_at}
 use Rattle.mls_msgs.specs.declared.proposal.Proposal.{Proposal}
 use Rattle.mls_msgs.specs.declared.proposal.Proposal.TheVariants as proposals
@@ -13,6 +11,7 @@ use Rattle.mls_msgs.specs.declared.proposal.ProposalOrRef.{ProposalOrRef}
 use Rattle.mls_msgs.specs.declared.proposal.ProposalOrRef.TheVariants as entries
 use Rattle.mls_apply.specs.declared.list_item.ListItem.{ListItem}
 use Rattle.mls_apply.specs.Outline.{IsApart}
+use Rattle.mls_apply.specs.ProposalRules.{is_from_key_package}
 use Rattle.mls_signatures.specs.SignaturesToVerify.{leaf_signatures, deduplicated}
 use Rattle.mls_signatures.specs.declared.added_leaves.AddedLeaf.{AddedLeaf}
 use Rattle.mls_signatures.specs.declared.signature_to_verify.SignatureToVerify.{SignatureToVerify}
@@ -104,12 +103,6 @@ added_signatures suite group_id [] = []
 added_signatures suite group_id (x ∷ xs) = leaf_signatures suite group_id x.index x.leaf.now ++ added_signatures suite group_id xs
 
 -- ---- repeats
-
--- `is_from_key_package s`: the source is key_package. The signature of such a leaf node depends on no leaf index (7.2).
-abbrev pub is_from_key_package : LeafSource → Bool
-is_from_key_package (sources.KeyPackage _) = true
-is_from_key_package sources.Update = false
-is_from_key_package (sources.Commit _) = false
 
 -- `HaveOneName x y`: both leaves have a reference, and it is the same.
 pub record HaveOneName (x y : AddedLeaf) : Type 0 where

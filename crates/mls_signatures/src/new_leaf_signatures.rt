@@ -6,14 +6,15 @@
 ghost use Rattle.std.specs.Prelude.{◌≡◌, ◌<◌, ◌++◌, OnOk, length, true};
 ghost use Rattle.std.specs.Option.{option_copied};
 ghost use Rattle.mls_tree.specs.Tree.{Tree, leaf_at};
-ghost use Rattle.mls_signatures.specs.AddedLeaves.{AreNamedAlike, AppendsSignatures, HaveOneName, IsMapOf, IsRepeat, added_signatures, is_from_key_package};
+ghost use Rattle.mls_signatures.specs.AddedLeaves.{AreNamedAlike, AppendsSignatures, HaveOneName, IsMapOf, IsRepeat, added_signatures};
 ghost use Rattle.mls_signatures.specs.SignaturesToVerify.{non_blank_leaf_signatures, signatures_at};
 
 use crate::added_leaves::AddedLeaf;
 use crate::signature_list::push_leaf_signature;
 use crate::signature_to_verify::SignatureToVerify;
+use mls_apply::is_from_key_package;
 use mls_check::OutOfMemory;
-use mls_nodes::{GroupContext, LeafNode, LeafSource};
+use mls_nodes::{GroupContext, LeafNode};
 use mls_tree::PublicTree;
 use std::alloc::Global;
 use std::collections::{BTreeMap, BTreeSet};
@@ -78,17 +79,6 @@ pub(crate) fn push_replaced_leaf_signatures(
     Ok(())
 }
 
-/// Returns whether a leaf node came into the tree by a KeyPackage: then its signature depends on no leaf index (RFC 9420, 7.2).
-fn is_from_key_package(leaf: &LeafNode) -> bool
-    ensures { result ≡ is_from_key_package leaf.now.source }
-{
-    match &leaf.source {
-        LeafSource::KeyPackage(_) => true,
-        LeafSource::Update => false,
-        LeafSource::Commit { parent_hash: _ } => false,
-    }
-}
-
 /// Notes the position of a leaf whose Add the list names by a reference. Returns the position that was noted before for that
 /// reference, if there is one.
 fn note_reference<'a>(
@@ -129,7 +119,7 @@ fn is_repeat(leaves: &[AddedLeaf<'_>], position: usize, earlier: Option<usize>) 
     }
     let first = &leaves[earlier];
     let again = &leaves[position];
-    have_one_reference(first, again) && is_from_key_package(again.leaf)
+    have_one_reference(first, again) && is_from_key_package(&again.leaf.source)
 }
 
 /// Appends the signatures of added leaves, in their order. That of an Add from a KeyPackage that the list names again is not

@@ -2,7 +2,8 @@
 use Rattle.std.proofs.Common.{◌≡◌, ℕ, zero, suc, ◌+◌, ◌*◌, ◌<◌, ◌≤◌, Bool, true, false, List, [], ◌∷◌, ◌++◌, length, take, drop, replicate, Option, Some, None, cond, refl, sym, ap, ◌∙◌, arith}
 use Rattle.std.specs.Prelude.{IfSome, is_some, option_map, slice_get, slice_set}
 use Rattle.std.proofs.Math.Nat.{mul-le-mul_left}
-use Rattle.std.proofs.lemmas.List.{drop-drop, drop-take, drop-append-le, take-append-le, take-take, take_at, drop_at, length-take-le, length-drop}
+use Rattle.std.proofs.lemmas.List.{drop-drop, drop-take, drop-append-le, take-append-le, take-take, take_at, drop_at, length-take-le, length-drop, nil_from_length}
+use Rattle.std.proofs.Math.Seq.{take-length}
 use Rattle.std.proofs.lemmas.Option.{none-some, same_Some}
 use Rattle.mls_tree.specs.HashCache.{empty_count, hash_in}
 use Rattle.mls_tree.specs.HashListsInternal.{hashes_in, known_hashes, false_count}
@@ -94,6 +95,18 @@ hashes_in-append width (suc count) bytes more long =
     let left : count * width ≤ length (drop width bytes) = omega (arith, length-drop width bytes) in
     λ i. take-append-le width bytes more enough i
     ∷ (ap (hashes_in width count) (drop-append-le width bytes more enough) ∙ hashes_in-append width count (drop width bytes) more left) i
+
+-- one more hash
+pub hashes_in-push : (width count : ℕ) (bytes hash : List ℕ) → length hash ≡ width → length bytes ≡ count * width → hashes_in width (suc count) (bytes ++ hash) ≡ hashes_in width count bytes ++ hash ∷ []
+hashes_in-push width zero bytes hash fits long =
+    let none : bytes ≡ [] = nil_from_length bytes (omega (arith, long)) in
+    ap (λ (bs : List ℕ). take width (bs ++ hash) ∷ []) none ∙ ap (λ (n : ℕ). take n hash ∷ []) (sym fits) ∙ ap (λ (h : List ℕ). h ∷ []) (take-length hash)
+hashes_in-push width (suc count) bytes hash fits long =
+    let enough : width ≤ length bytes = omega (arith, within width (suc count) 0 (omega arith), long) in
+    let step : suc count * width ≡ width + count * width = omega arith in
+    let left : length (drop width bytes) ≡ count * width = omega (arith, length-drop width bytes, long) in
+    λ i. take-append-le width bytes hash enough i
+    ∷ (ap (hashes_in width (suc count)) (drop-append-le width bytes hash enough) ∙ hashes_in-push width count (drop width bytes) hash fits left) i
 
 -- the first of more hashes
 take-hashes_in : (width count all : ℕ) (bytes : List ℕ) → count ≤ all → take count (hashes_in width all bytes) ≡ hashes_in width count bytes

@@ -1,6 +1,6 @@
 //! Many hashes of one length, stored as their bytes one after the other.
 
-ghost use Rattle.std.specs.Prelude.{◌≡◌, ◌+◌, ◌≤◌, ◌<◌, ◌^◌, ◌++◌, IfOk, OnOk, OnErr, Some, length, take, drop, replicate, slice_get, slice_range, slice_set};
+ghost use Rattle.std.specs.Prelude.{◌≡◌, ◌+◌, ◌≤◌, ◌<◌, ◌^◌, ◌++◌, ◌∷◌, [], IfOk, OnOk, OnErr, Some, length, take, drop, replicate, slice_get, slice_range, slice_set};
 ghost use Rattle.std.specs.Vec.{vec_len, vec_capacity};
 
 use crate::hash_value::HashValue;
@@ -106,6 +106,19 @@ impl HashList {
         } else {
             None
         }
+    }
+
+    /// Appends a hash. If the call fails, the list is unchanged.
+    pub fn push(&mut self, hash: &HashValue) -> Result<(), AllocError>
+        requires width { length hash.now ≡ self.old.width }
+        requires count { length self.old.hashes + 1 < 2 ^ 64 }
+        ensures pushed { OnOk result (self.new
+            ≡ record self.old { hashes = self.old.hashes ++ hash.now ∷ [] }) }
+        ensures unchanged_on_error { OnErr result (self.new ≡ self.old) }
+    {
+        self.bytes.extend_from_slice(hash.as_slice())?;
+        self.count += 1;
+        Ok(())
     }
 
     /// Replaces the hash at an index, which must be in bounds.

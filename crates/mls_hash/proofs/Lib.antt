@@ -9,4 +9,5 @@ pub mod Known
 pub mod MarkedHashes
 pub mod Filling
 pub mod KeptHashing
+pub mod EncodedLeaves
 mod CachedLists

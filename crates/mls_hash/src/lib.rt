@@ -9,6 +9,7 @@
 #![tactic(auto)]
 
 mod cached_hashes;
+mod decode;
 mod digest;
 mod fault;
 mod hash_input;
@@ -23,6 +24,7 @@ mod suite;
 mod tree_hashes;
 
 pub use cached_hashes::fill_hashes;
+pub use decode::decode_with_leaf_hashes;
 pub use digest::{hash, ref_hash};
 pub use fault::HashFault;
 pub use mls_tree::HashValue;

@@ -2,7 +2,9 @@
 
 use crate::proposal::ProposalOrRef;
 use mls_nodes::LeafNode;
-use mls_wire::{BoxedOpaque, CodecFault, Decode, Draft, Encode, Reader, Sequence, add_sizes};
+use mls_wire::{
+    BoxedOpaque, CodecFault, Decode, Draft, Encode, Reader, Sequence, Shared, add_sizes,
+};
 use std::alloc::Global;
 
 /// An HPKECiphertext: a path secret encrypted to one node of a resolution (RFC 9420, 7.6).
@@ -33,7 +35,7 @@ pub type PathNodes = Sequence<PathNode>;
 #[derive(Debug, Drop)]
 pub struct UpdatePath {
     /// The committer's new leaf node.
-    pub leaf_node: LeafNode,
+    pub leaf_node: Shared<LeafNode>,
     /// The new parent nodes on the filtered direct path, lowest first.
     pub nodes: PathNodes,
 }
@@ -140,7 +142,7 @@ impl Decode for UpdatePath {
     #[tactic(auto, unfolding(crate::specs::Parsing::update_path_at))]
     fn read(alloc: Global, reader: &mut Reader<'_>) -> Result<UpdatePath, CodecFault> {
         let mut ahead = reader.fork();
-        let leaf_node = LeafNode::read(alloc, &mut ahead)?;
+        let leaf_node = Shared::read(alloc, &mut ahead)?;
         let nodes = PathNodes::read(alloc, &mut ahead)?;
         *reader = ahead;
         Ok(UpdatePath { leaf_node, nodes })

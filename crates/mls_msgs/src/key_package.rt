@@ -1,7 +1,7 @@
 //! KeyPackage.
 
 use mls_nodes::{Extensions, LeafNode};
-use mls_wire::{CodecFault, Decode, Draft, Encode, Opaque, Reader, TryClone, add_sizes};
+use mls_wire::{CodecFault, Decode, Draft, Encode, Opaque, Reader, Shared, TryClone, add_sizes};
 use std::alloc::Global;
 
 /// A KeyPackage (RFC 9420, 10). Any version and cipher suite can be decoded.
@@ -14,7 +14,7 @@ pub struct KeyPackage {
     /// The public key that a Welcome is encrypted to.
     pub init_key: Opaque,
     /// The leaf node that is added to the tree.
-    pub leaf_node: LeafNode,
+    pub leaf_node: Shared<LeafNode>,
     /// The extensions of the KeyPackage.
     pub extensions: Extensions,
     /// The signature over the KeyPackageTBS.
@@ -36,7 +36,7 @@ impl Decode for KeyPackage {
         let version = u16::read(alloc, &mut ahead)?;
         let cipher_suite = u16::read(alloc, &mut ahead)?;
         let init_key = Opaque::read(alloc, &mut ahead)?;
-        let leaf_node = LeafNode::read(alloc, &mut ahead)?;
+        let leaf_node = Shared::read(alloc, &mut ahead)?;
         let extensions = Extensions::read(alloc, &mut ahead)?;
         let signature = Opaque::read(alloc, &mut ahead)?;
         *reader = ahead;

@@ -15,8 +15,8 @@ use crate::profile::{Profile, check_proposal, fault_found};
 use crate::reinit::ReInit;
 use mls_nodes::{Extensions, LeafNode};
 use mls_wire::{
-    BoxedOpaque, CodecFault, Decode, Draft, Encode, Opaque, Reader, TryClone, add_sizes, bytes_of,
-    read_all_of,
+    BoxedOpaque, CodecFault, Decode, Draft, Encode, Opaque, Reader, Shared, TryClone, add_sizes,
+    bytes_of, read_all_of,
 };
 use std::alloc::Global;
 
@@ -27,7 +27,7 @@ pub enum Proposal {
     /// Type 1: adds the client with this KeyPackage (RFC 9420, 12.1.1).
     Add(Boxed<KeyPackage>),
     /// Type 2: replaces the sender's leaf node by this one (RFC 9420, 12.1.2).
-    Update(Boxed<LeafNode>),
+    Update(Shared<LeafNode>),
     /// Type 3: removes the member at this leaf index (RFC 9420, 12.1.3).
     Remove(u32),
     /// Type 7: replaces the extensions of the GroupContext by these (RFC 9420, 12.1.7).
@@ -63,7 +63,7 @@ impl Decode for Proposal {
         let mut ahead = reader.fork();
         let proposal = match u16::read(alloc, &mut ahead)? {
             1 => Proposal::Add(Boxed::read(alloc, &mut ahead)?),
-            2 => Proposal::Update(Boxed::read(alloc, &mut ahead)?),
+            2 => Proposal::Update(Shared::read(alloc, &mut ahead)?),
             3 => Proposal::Remove(u32::read(alloc, &mut ahead)?),
             4 => Proposal::PreSharedKey(Boxed::read(alloc, &mut ahead)?),
             5 => Proposal::ReInit(Boxed::read(alloc, &mut ahead)?),

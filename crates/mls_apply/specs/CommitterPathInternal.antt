@@ -10,7 +10,7 @@ use Rattle.mls_apply.specs.declared.new_parents.NewNodes.{NewNodes}
 
 -- `AreNewNodes H t p new` says that new are the leaf node and the parents that the path p puts into the tree
 pub record AreNewNodes (H : List ℕ → List ℕ) (t : Tree) (p : CommitterPath) (new : NewNodes) : Type 0 where
-  pub leaf : new.leaf.value ≡ p.path.now.leaf_node
+  pub leaf : new.leaf ≡ p.path.now.leaf_node
   pub path_parents : option_map (λ r. r.changes) (parents_of_path H t p.leaf (node_keys p.path.now)) ≡ Some (map change_of new.parents.items)
   pub inside : p.leaf < leaf_count t
   pub parents : All (λ n. IsParentNodeIndex t n.node_index) new.parents.items

@@ -11,12 +11,13 @@ ghost use Rattle.mls_apply.specs.AddSteps.{is_overfull_add, Adds};
 ghost use Rattle.mls_apply.specs.Outline.{IsOutline};
 
 use crate::fault::ApplyFault;
-use crate::leaf_changes::put_copy;
+use crate::leaf_changes::put_shared;
 use crate::list_application::Leaves;
 use crate::list_item::ListItem;
 use mls_msgs::Proposal;
 use mls_nodes::LeafNode;
 use mls_tree::{Journal, PublicTree, TreeError};
+use mls_wire::Shared;
 use std::alloc::Global;
 
 /// Returns the leaf of a new member: the leftmost blank one, otherwise the first one by which the tree is extended. The
@@ -76,7 +77,7 @@ fn add_member(
     tree: &mut PublicTree,
     journal: &mut Journal,
     start: u32,
-    leaf: &LeafNode,
+    leaf: &Shared<LeafNode>,
 ) -> Result<u32, ApplyFault>
     requires set { AreNonBlankBelow tree.old.tree start }
     requires capacity { member_count tree.old.tree < leaf_limit }
@@ -89,7 +90,7 @@ fn add_member(
 {
     let index = leaf_for_member(tree, journal, start)?;
     add_unmerged(alloc, tree, journal, index)?;
-    put_copy(alloc, tree, journal, index, leaf)?;
+    put_shared(alloc, tree, journal, index, leaf)?;
     Ok(index)
 }
 
@@ -122,14 +123,14 @@ pub(crate) fn apply_adds(
     Ok(Leaves::new(added))
 }
 
-/// Applies the Adds of a list as [`apply_adds`] does, but adds each member with `leaf`, and returns the same leaves. So no leaf
-/// node of an Add is copied, and the call fails if and only if `apply_adds` does, except for memory.
+/// Applies the Adds of a list as [`apply_adds`] does, but adds each member with `leaf`, and returns the same leaves. The call
+/// fails if and only if `apply_adds` does, except for memory.
 pub(crate) fn fit_adds(
     alloc: Global,
     tree: &mut PublicTree,
     journal: &mut Journal,
     items: &[ListItem<'_>],
-    leaf: &LeafNode,
+    leaf: &Shared<LeafNode>,
 ) -> Result<Leaves, ApplyFault>
     requires { member_count tree.old.tree + length (new_members items.now) ≤ leaf_limit }
     ensures fit { OnOk result (IsSome (after_adds (new_members items.now) tree.old.tree)) }

@@ -1,4 +1,4 @@
-//! A leaf node without content, used in place of one that is not copied.
+//! A leaf node without content, used in place of those of Adds.
 
 use mls_nodes::{Capabilities, Codes, Credential, Extensions, LeafNode, LeafSource};
 use mls_wire::Opaque;

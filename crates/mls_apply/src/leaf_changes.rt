@@ -8,31 +8,34 @@ ghost use Rattle.mls_tree.specs.Journals.{before};
 use crate::fault::ApplyFault;
 use mls_nodes::LeafNode;
 use mls_tree::{Journal, PublicTree};
-use mls_wire::copy_of;
+use mls_wire::{Shared, copy_of};
 use std::alloc::{AllocError, Global};
 
-/// Returns an equal leaf node.
-pub(crate) fn leaf_of(alloc: Global, leaf: &LeafNode) -> Result<Box<LeafNode>, AllocError>
-    ensures { IfOk result (λ copy. copy.value ≡ leaf.now) }
+/// Returns the leaf node with one owner more. Does not allocate.
+pub(crate) fn leaf_of(
+    alloc: Global,
+    leaf: &Shared<LeafNode>,
+) -> Result<Shared<LeafNode>, AllocError>
+    ensures { IfOk result (λ shared. shared ≡ leaf.now) }
 {
-    Ok(Box::new(alloc, copy_of(alloc, leaf)?)?)
+    copy_of(alloc, leaf)
 }
 
-/// Replaces a leaf of the tree by a copy of this one.
-pub(crate) fn put_copy(
+/// Replaces a leaf of the tree by this one, which is shared.
+pub(crate) fn put_shared(
     alloc: Global,
     tree: &mut PublicTree,
     journal: &mut Journal,
     index: u32,
-    leaf: &LeafNode,
+    leaf: &Shared<LeafNode>,
 ) -> Result<(), ApplyFault>
     requires { index < leaf_count tree.old.tree }
     ensures put { OnOk result (tree.new.tree ≡ put_leaf 0 tree.old.tree index (Some leaf.now)) }
     ensures memory { IfErr result (λ e. e ≡ ApplyFault.OutOfMemory) }
     ensures before { before journal.new tree.new.tree ≡ before journal.old tree.old.tree }
 {
-    let copy = leaf_of(alloc, leaf)?;
-    journal.set_leaf(tree, index, Some(copy))?;
+    let leaf = leaf_of(alloc, leaf)?;
+    journal.set_leaf(tree, index, Some(leaf))?;
     Ok(())
 }
 

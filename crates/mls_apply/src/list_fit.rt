@@ -14,9 +14,11 @@ use crate::list_item::ListItem;
 use crate::removes::apply_removes;
 use crate::updates::apply_updates;
 use mls_tree::{Journal, PublicTree};
+use mls_wire::Shared;
 use std::alloc::Global;
 
-/// Applies the items of a list, for whose Adds the tree has capacity, with an empty leaf node for each Add. Returns the added leaves.
+/// Applies the items of a list, for whose Adds the tree has capacity, with an empty leaf node that all Adds share. Returns the
+/// added leaves.
 fn fit_items(
     alloc: Global,
     tree: &mut PublicTree,
@@ -38,15 +40,15 @@ fn fit_items(
 {
     apply_updates(alloc, tree, journal, items)?;
     apply_removes(alloc, tree, journal, items)?;
-    let leaf = empty_leaf(alloc);
+    let leaf = Shared::new(alloc, empty_leaf(alloc))?;
     let answer = fit_adds(alloc, tree, journal, items, &leaf);
     drop(leaf);
     answer
 }
 
-/// Checks whether a proposal list can be applied. No leaf node of an Add is copied: the list is applied to the tree in place,
-/// with an empty leaf node for each Add. Returns the added leaves. The journal logs what is changed. Whatever is returned, the
-/// tree is not the one after the list, and its changes have to be undone.
+/// Checks whether a proposal list can be applied: the list is applied to the tree in place, with an empty leaf node that all
+/// Adds share. Returns the added leaves. The journal logs what is changed. Whatever is returned, the tree is not the one after
+/// the list, and its changes have to be undone.
 pub(crate) fn check_list_fits(
     alloc: Global,
     tree: &mut PublicTree,

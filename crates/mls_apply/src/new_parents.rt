@@ -16,7 +16,7 @@ use crate::leaf_changes::blank_direct_path;
 use mls_hash::{HashFault, Suite, fill_hashes, parent_hash_of, tree_hash};
 use mls_nodes::{LeafNode, ParentNode, Unmerged};
 use mls_tree::{HashValue, Journal, Part, PublicTree};
-use mls_wire::Opaque;
+use mls_wire::{Opaque, Shared};
 use std::alloc::{AllocError, Global};
 
 /// A leaf, and the node indices of parents above it, the lowest first.
@@ -43,7 +43,7 @@ pub(crate) struct NewParents {
 /// The new nodes of a path: the leaf's, and the new parents above it.
 #[derive(Drop)]
 pub(crate) struct NewNodes {
-    pub(crate) leaf: Box<LeafNode>,
+    pub(crate) leaf: Shared<LeafNode>,
     pub(crate) parents: Vec<NewParent>,
 }
 
@@ -182,7 +182,7 @@ pub(crate) fn put_path(tree: &mut PublicTree, leaf: u32, new: NewNodes)
     requires parents { All (λ p. IsParentNodeIndex tree.old.tree p.node_index) new.parents.items }
     ensures { tree.new.tree ≡
         put_leaf 0 (changed 0 (blank_path tree.old.tree leaf) (map change_of new.parents.items))
-        leaf (Some new.leaf.value) }
+        leaf (Some new.leaf) }
 {
     let NewNodes {
         leaf: node,
@@ -224,7 +224,7 @@ pub(crate) fn put_path_in_place(
     requires parents { All (λ p. IsParentNodeIndex tree.old.tree p.node_index) new.parents.items }
     ensures put { OnOk result (tree.new.tree ≡
         put_leaf 0 (changed 0 (blank_path tree.old.tree leaf) (map change_of new.parents.items))
-        leaf (Some new.leaf.value)) }
+        leaf (Some new.leaf)) }
     ensures before { before journal.new tree.new.tree ≡ before journal.old tree.old.tree }
 {
     let NewNodes {

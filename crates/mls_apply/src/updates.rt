@@ -9,29 +9,30 @@ ghost use Rattle.mls_apply.specs.LastUpdates.{AreApplied};
 ghost use Rattle.mls_apply.specs.declared.list_item.ListItem.{ListItem as Item};
 
 use crate::fault::ApplyFault;
-use crate::leaf_changes::put_copy;
+use crate::leaf_changes::put_shared;
 use crate::list_item::ListItem;
 use crate::senders::member_index;
 use mls_msgs::Proposal;
 use mls_nodes::LeafNode;
 use mls_tree::{Journal, PublicTree};
+use mls_wire::Shared;
 use std::alloc::Global;
 use std::collections::BTreeSet;
 
-/// Replaces a non-blank leaf by a copy of a leaf node, and makes the parents above it blank.
+/// Replaces a non-blank leaf by a leaf node, which is shared, and makes the parents above it blank.
 fn replace_leaf(
     alloc: Global,
     tree: &mut PublicTree,
     journal: &mut Journal,
     index: u32,
-    leaf: &LeafNode,
+    leaf: &Shared<LeafNode>,
 ) -> Result<(), ApplyFault>
     requires { IsSome (leaf_at 0 tree.old.tree index) }
     ensures updated { OnOk result (tree.new.tree ≡ update tree.old.tree index leaf.now) }
     ensures memory { IfErr result (λ e. e ≡ ApplyFault.OutOfMemory) }
     ensures before { before journal.new tree.new.tree ≡ before journal.old tree.old.tree }
 {
-    put_copy(alloc, tree, journal, index, leaf)?;
+    put_shared(alloc, tree, journal, index, leaf)?;
     journal.blank_path(alloc, tree, index)?;
     Ok(())
 }
@@ -71,8 +72,8 @@ fn apply_update(
     Ok(())
 }
 
-/// Applies the Updates of a list. Of a leaf that several Updates replace, only the last one's leaf node is copied: the list is
-/// walked from its end.
+/// Applies the Updates of a list. Of a leaf that several Updates replace, only the last one's leaf node is put in place: the
+/// list is walked from its end.
 pub(crate) fn apply_updates(
     alloc: Global,
     tree: &mut PublicTree,

@@ -29,35 +29,35 @@ pub returns-then-not-is_from_commit-clause-refused : goal.returns-then-not-is_fr
 returns-then-not-is_from_commit-clause-refused c _ H =
     let long = path-long c.args.tree.now.tree c.args.path.now.leaf c.len.result c.as_slice-nodes.result.now c.args.path.now.path.now.nodes c.in_ok-node_indices.node_indices.items
     c.as_slice-nodes.ensures c.in_ok-node_indices.ensures.node_indices (omega (arith, c.in_ok-node_indices.node_indices.ok)) c.if-nodes-len.false in
-    path-no_commit (applied_tree c.args.tree.now.tree c.args.path.now.added.now) c.args.path.now.leaf c.args.path.now.path.now H (is_less _ _ c.in_ok-node_indices.ensures.inside) long (sym c.is_from_commit.ensures ∙ c.if-not-is_from_commit.true)
+    path-no_commit (applied_tree c.args.tree.now.tree c.args.path.now.added.now) c.args.path.now.leaf c.args.path.now.path.now H (is_less _ _ c.in_ok-node_indices.ensures.inside) long (sym (rw c.deref.ensures at c.is_from_commit.ensures) ∙ c.if-not-is_from_commit.true)
 
 pub returns-then-not-branch-clause-refused : goal.returns-then-not-branch-clause-refused
 returns-then-not-branch-clause-refused c _ H =
     let long = path-long c.args.tree.now.tree c.args.path.now.leaf c.len.result c.as_slice-nodes.result.now c.args.path.now.path.now.nodes c.in_ok-node_indices.node_indices.items
     c.as_slice-nodes.ensures c.in_ok-node_indices.ensures.node_indices (omega (arith, c.in_ok-node_indices.node_indices.ok)) c.if-nodes-len.false in
-    let commit = sym c.is_from_commit.ensures ∙ c.if-not-is_from_commit.false in
+    let commit = sym (rw c.deref.ensures at c.is_from_commit.ensures) ∙ c.if-not-is_from_commit.false in
     path-old_key (applied_tree c.args.tree.now.tree c.args.path.now.added.now) c.args.path.now.leaf c.args.path.now.path.now H (is_less _ _ c.in_ok-node_indices.ensures.inside) long commit (sym c.in_ok-has_new_keys.ensures ∙ c.if-not-branch.true)
 
 pub have_counts-requires-clause-parents : goal.have_counts-requires-clause-parents
 have_counts-requires-clause-parents c =
-    filtered-parents c.args.tree.now.tree c.args.path.now.leaf c.deref.result.now (c.deref.ensures.value ∙ c.in_ok-node_indices.ensures.node_indices)
+    filtered-parents c.args.tree.now.tree c.args.path.now.leaf c.deref-2.result.now (c.deref-2.ensures.value ∙ c.in_ok-node_indices.ensures.node_indices)
 
 pub returns-then-not-branch-2-clause-refused : goal.returns-then-not-branch-2-clause-refused
 returns-then-not-branch-2-clause-refused c _ H =
     let long = path-long c.args.tree.now.tree c.args.path.now.leaf c.len.result c.as_slice-nodes.result.now c.args.path.now.path.now.nodes c.in_ok-node_indices.node_indices.items
     c.as_slice-nodes.ensures c.in_ok-node_indices.ensures.node_indices (omega (arith, c.in_ok-node_indices.node_indices.ok)) c.if-nodes-len.false in
-    let commit = sym c.is_from_commit.ensures ∙ c.if-not-is_from_commit.false in
+    let commit = sym (rw c.deref.ensures at c.is_from_commit.ensures) ∙ c.if-not-is_from_commit.false in
     let new = sym c.in_ok-has_new_keys.ensures ∙ c.if-not-branch.false in
-    let counted = has_ciphertexts-counted c.args.path.now.path.now (applied_tree c.args.tree.now.tree c.args.path.now.added.now) c.args.path.now.leaf c.as_slice-added.result.now c.deref.result.now c.as_slice-nodes.result.now c.in_ok-have_counts.field-0
-    c.as_slice-added.ensures (c.deref.ensures.value ∙ c.in_ok-node_indices.ensures.node_indices) c.as_slice-nodes.ensures c.in_ok-have_counts.ensures in
+    let counted = has_ciphertexts-counted c.args.path.now.path.now (applied_tree c.args.tree.now.tree c.args.path.now.added.now) c.args.path.now.leaf c.as_slice-added.result.now c.deref-2.result.now c.as_slice-nodes.result.now c.in_ok-have_counts.field-0
+    c.as_slice-added.ensures (c.deref-2.ensures.value ∙ c.in_ok-node_indices.ensures.node_indices) c.as_slice-nodes.ensures c.in_ok-have_counts.ensures in
     path-other_count (applied_tree c.args.tree.now.tree c.args.path.now.added.now) c.args.path.now.leaf c.args.path.now.path.now H (is_less _ _ c.in_ok-node_indices.ensures.inside) long commit new (counted ∙ c.if-not-branch-2.true)
 
 pub returns-clause-rules_hold : goal.returns-clause-rules_hold
 returns-clause-rules_hold c H =
     let long = path-long c.args.tree.now.tree c.args.path.now.leaf c.len.result c.as_slice-nodes.result.now c.args.path.now.path.now.nodes c.in_ok-node_indices.node_indices.items
     c.as_slice-nodes.ensures c.in_ok-node_indices.ensures.node_indices (omega (arith, c.in_ok-node_indices.node_indices.ok)) c.if-nodes-len.false in
-    let commit = sym c.is_from_commit.ensures ∙ c.if-not-is_from_commit.false in
+    let commit = sym (rw c.deref.ensures at c.is_from_commit.ensures) ∙ c.if-not-is_from_commit.false in
     let new = sym c.in_ok-has_new_keys.ensures ∙ c.if-not-branch.false in
-    let counted = has_ciphertexts-counted c.args.path.now.path.now (applied_tree c.args.tree.now.tree c.args.path.now.added.now) c.args.path.now.leaf c.as_slice-added.result.now c.deref.result.now c.as_slice-nodes.result.now c.in_ok-have_counts.field-0
-    c.as_slice-added.ensures (c.deref.ensures.value ∙ c.in_ok-node_indices.ensures.node_indices) c.as_slice-nodes.ensures c.in_ok-have_counts.ensures in
+    let counted = has_ciphertexts-counted c.args.path.now.path.now (applied_tree c.args.tree.now.tree c.args.path.now.added.now) c.args.path.now.leaf c.as_slice-added.result.now c.deref-2.result.now c.as_slice-nodes.result.now c.in_ok-have_counts.field-0
+    c.as_slice-added.ensures (c.deref-2.ensures.value ∙ c.in_ok-node_indices.ensures.node_indices) c.as_slice-nodes.ensures c.in_ok-have_counts.ensures in
     path-checked (applied_tree c.args.tree.now.tree c.args.path.now.added.now) c.args.path.now.leaf c.args.path.now.path.now H (is_less _ _ c.in_ok-node_indices.ensures.inside) long commit new (counted ∙ c.if-not-branch-2.false)

@@ -37,7 +37,7 @@ returns-in_ok-replace_leaf-clause-applied c = λ rest t known.
     i (ap (λ (x : ListItem). member_index x.sender) (sym c.item.view_is) ∙ sym c.in-Some.ensures)
     (shown_set u i c.leaf.result c.is_none.result c.leaf.ensures c.is_none.ensures c.if-is_none.false)
     c.insert.new.self c.in_ok-insert.ensures.updates.0 (unmet _ _ c.in_ok-insert.ensures.added c.if-branch.true)
-    c.replace_leaf.new.tree.tree (c.in_ok-replace_leaf.ensures.updated ∙ ap (λ (z : LeafNode). update u i z) c.deref.ensures)
+    c.replace_leaf.new.tree.tree c.in_ok-replace_leaf.ensures.updated
 
 pub returns-else-branch-clause-applied : goal.returns-else-branch-clause-applied
 returns-else-branch-clause-applied c = λ rest t known.

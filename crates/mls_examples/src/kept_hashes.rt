@@ -1,10 +1,10 @@
 //! Hashes that a tree caches of its subtrees (RFC 9420, 7.8): which of them a change empties, and how many are filled.
 
 use crate::support::{
-    TWO_LEAVES, TWO_LEAVES_HASH, expect_text, joined_leaf, leaf_node, list_text, suite, text,
-    tree_text, tree_with,
+    TWO_LEAVES, TWO_LEAVES_HASH, TWO_OF_FOUR, bytes, expect_text, joined_leaf, leaf_node,
+    list_text, suite, text, tree_text, tree_with,
 };
-use mls_hash::{Suite, fill_hashes, tree_hash};
+use mls_hash::{Suite, decode_with_leaf_hashes, fill_hashes, tree_hash};
 use mls_nodes::{decode_ratchet_tree, encode_ratchet_tree};
 use mls_tree::{HashKind, PublicTree};
 use std::alloc::Global;
@@ -155,5 +155,47 @@ fn hashes_of_a_kind_are_kept(rt: HostRuntime) -> Result<(), Fail> {
     let stayed = filled(alloc, (4, 6))?;
     let expected = format!(in alloc; "3 0 {LONG_ROOT} {LONG_ROOT}")?;
     expect_text(&rt, stayed, expected.as_str());
+    Ok(())
+}
+
+/// The leaves of a tree that is read are hashed, blank ones too. The hashes of the other nodes are filled after.
+#[test]
+fn leaves_are_hashed_as_they_are_read(rt: HostRuntime) -> Result<(), Fail> {
+    const TREES: &[(&str, &str, u32)] = &[(TWO_LEAVES, "[1]", 1), (TWO_OF_FOUR, "[1, 3, 5, 6]", 4)];
+    let alloc = rt.alloc();
+    for (encoding, empty, filled) in TREES {
+        let mut tree = decode_with_leaf_hashes(alloc, suite()?, bytes(alloc, encoding)?)?;
+        expect_text(&rt, empty_node_indices(alloc, &tree)?, empty);
+        let again = whole_text_anew(alloc, &tree)?;
+        expect_text(&rt, whole_text(alloc, &tree)?, again.as_str());
+        assert_eq!(rt; fill_hashes(alloc, suite()?, &mut tree)?, *filled);
+        expect_text(&rt, whole_text(alloc, &tree)?, again.as_str());
+    }
+    Ok(())
+}
+
+/// The encoding of a tree of 400,000 blank entries and the leaf of member 1 after them.
+fn sparse_tree(alloc: Global) -> Result<Vec<u8>, Fail> {
+    let blanks = vec![in alloc; 0u8; 400000]?;
+    let leaves = bytes(alloc, TWO_LEAVES)?;
+    let mut encoding = bytes(alloc, "80061aa9")?;
+    encoding.extend_from_slice(blanks.as_slice())?;
+    encoding.extend_from_slice(leaves.as_slice().get(44..).ok_or("a leaf")?)?;
+    Ok(encoding)
+}
+
+/// The bytes of a large tree are freed before its last leaf is read, which is hashed all the same.
+#[test]
+fn the_last_leaf_of_a_large_tree_is_hashed(rt: HostRuntime) -> Result<(), Fail> {
+    let alloc = rt.alloc();
+    let tree = PublicTree::decode(alloc, sparse_tree(alloc)?.as_slice())?;
+    let computed = tree_hash(alloc, suite()?, &tree, 400000)?;
+    drop(tree);
+    let hashed = decode_with_leaf_hashes(alloc, suite()?, sparse_tree(alloc)?)?;
+    assert_eq!(rt; hashed.leaf_count(), 262144);
+    let cached = hashed.kept_hash(400000).ok_or("a hash")?;
+    drop(hashed);
+    let expected = text(alloc, computed.as_slice())?;
+    expect_text(&rt, text(alloc, cached.as_slice())?, expected.as_str());
     Ok(())
 }

@@ -28,6 +28,8 @@ mod stored_states;
 #[cfg(test)]
 mod support;
 #[cfg(test)]
+mod tree_entries;
+#[cfg(test)]
 mod tree_indexes;
 #[cfg(test)]
 mod wire;

@@ -8,9 +8,9 @@ use mls_check::{
     MemberFault, Receipts, SignatureCheck, SortedRequirements, TreeFault, Trusting,
     has_distinct_keys, is_leaf_signed, signed, validate_members, validate_tree,
 };
-use mls_hash::{Suite, fill_hashes, parent_hash_of};
+use mls_hash::{Suite, decode_with_leaf_hashes, fill_hashes, parent_hash_of};
 use mls_index::{KeyKind, LeafRule, LeafRules, TreeIndex, first_changed_failing};
-use mls_nodes::{GroupContext, LeafNode, ParentNode, RequiredCapabilities};
+use mls_nodes::{GroupContext, LeafNode, ParentNode, RequiredCapabilities, encode_ratchet_tree};
 use mls_tree::{HashValue, PublicTree};
 use std::alloc::Global;
 use std::fmt::Debug;
@@ -43,7 +43,26 @@ fn filled(alloc: Global, suite: Suite, tree: &PublicTree) -> Result<PublicTree, 
     }
 }
 
-/// What the validator finds of a tree in a context, also by cached hashes.
+/// A tree that is read from the encoding of another one, with the hashes of its leaves. `None` if that tree has no
+/// encoding, or more leaves than its encoding has.
+fn hashed_as_read(
+    alloc: Global,
+    suite: Suite,
+    tree: &PublicTree,
+) -> Result<Option<PublicTree>, RowFault> {
+    let Ok(encoding) = encode_ratchet_tree(alloc, tree.nodes()) else {
+        return Ok(None);
+    };
+    let read = have(decode_with_leaf_hashes(alloc, suite, encoding))?;
+    if read.leaf_count() == tree.leaf_count() {
+        Ok(Some(read))
+    } else {
+        drop(read);
+        Ok(None)
+    }
+}
+
+/// What the validator finds of a tree in a context, also by cached hashes and by hashes of leaves as they are read.
 fn validated(
     alloc: Global,
     context: &GroupContext,
@@ -56,11 +75,16 @@ fn validated(
     let by_hashes = validate_tree(alloc, suite, context, &copy);
     drop(copy);
     let found = validate_tree(alloc, suite, context, tree);
-    if found == by_hashes {
-        Ok(found)
-    } else {
-        Err(RowFault::TwoResults)
+    if found != by_hashes {
+        return Err(RowFault::TwoResults);
     }
+    if let Some(read) = hashed_as_read(alloc, suite, tree)? {
+        let read = filled(alloc, suite, &read)?;
+        if validate_tree(alloc, suite, context, &read) != found {
+            return Err(RowFault::TwoResults);
+        }
+    }
+    Ok(found)
 }
 
 /// `valid_tree | CONTEXT | TREE`: `valid`, or the first fault of the tree.

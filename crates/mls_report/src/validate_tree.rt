@@ -3,7 +3,7 @@
 ghost use Rattle.std.specs.Prelude.{◌≡◌, ◌↔◌, ◌⊎◌, List, ℕ, false, true, [], Err, IfOk, OnErr, IfErr};
 ghost use Rattle.std.specs.Io.KnownBytes.{Appends};
 ghost use Rattle.mls_tree.specs.PublicTreeModel.{plain};
-ghost use Rattle.mls_tree.specs.TreeDecoding.{IsTreeOf};
+ghost use Rattle.mls_tree.specs.TreeDecoding.{IsTreeOf, ReadsTree};
 ghost use Rattle.mls_check.specs.GroupTree.{IsSupportedContext};
 ghost use Rattle.mls_report.specs.ValidateTree.{IsContext, IsTreeFinding, ValidatesTree, ValidatesTreePart};
 
@@ -11,7 +11,7 @@ use crate::finding::{Finding, report_finding, tree_hash_of};
 use crate::read_to_end::read_all;
 use crate::verdict::{RunFault, Verdict};
 use mls_check::{GroupTreeFault, SignatureCheck, validate_group_tree};
-use mls_hash::Suite;
+use mls_hash::{Suite, decode_with_leaf_hashes, fill_hashes};
 use mls_nodes::{GroupContext, NodeFault, decode_context};
 use mls_tree::PublicTree;
 use mls_wire::{CodecFault, Sink, Source};
@@ -44,7 +44,18 @@ fn check_parsed_tree<C: SignatureCheck>(
     }
 }
 
-/// Returns the finding for a supported GroupContext and the bytes of a tree, which are dropped after decoding.
+/// Decodes a tree, and stores the tree hashes of all its subtrees in its cache. The bytes are freed as they are read.
+fn decode_hashed(alloc: Global, suite: Suite, bytes: Vec<u8>) -> Result<PublicTree, NodeFault>
+    ensures { ReadsTree bytes.items result }
+{
+    let mut tree = decode_with_leaf_hashes(alloc, suite, bytes)?;
+    match fill_hashes(alloc, suite, &mut tree) {
+        Ok(_) => Ok(tree),
+        Err(_) => Err(NodeFault::OutOfMemory),
+    }
+}
+
+/// Returns the finding for a supported GroupContext and the bytes of a tree.
 fn check_tree_bytes<C: SignatureCheck>(
     alloc: Global,
     suite: Suite,
@@ -58,9 +69,7 @@ fn check_tree_bytes<C: SignatureCheck>(
         → IfOk result (IsTreeFinding (C.meaning checker.now) context_bytes tree_bytes.items) }
     ensures memory { IfErr result (λ e. e ≡ RunFault.Memory) }
 {
-    let tree = PublicTree::decode(alloc, tree_bytes.as_slice());
-    drop(tree_bytes);
-    match tree {
+    match decode_hashed(alloc, suite, tree_bytes) {
         Ok(tree) => check_parsed_tree(alloc, suite, context, &tree, checker),
         Err(NodeFault::OutOfMemory) => Err(RunFault::Memory),
         Err(fault) => Ok(Finding::TreeUnreadable(fault)),

@@ -1,4 +1,4 @@
-use Rattle.std.proofs.Common.{◌≡◌, ◌≤◌}
+use Rattle.std.proofs.Common.{◌≡◌, ◌≤◌, length}
 use Rattle.mls_report.proofs.TreeLines.{LinesSoFar}
 use Rattle.mls_report.proofs.tree_text.put_entries.Given as goal
 
@@ -12,4 +12,4 @@ invariant-entries l = record {
 }
 
 abbrev pub decreases-entries : goal.decreases-entries
-decreases-entries l = l.reader.left
+decreases-entries l = length l.reader.unread

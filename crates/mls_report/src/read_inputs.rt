@@ -11,6 +11,7 @@ use crate::read_to_end::read_all;
 use crate::verdict::RunFault;
 use mls_check::SignatureCheck;
 use mls_follow::{Follower, StartFault};
+use mls_hash::{Suite, decode_with_leaf_hashes};
 use mls_msgs::{GroupInfo, Message, Profile, decode_message_in};
 use mls_nodes::NodeFault;
 use mls_tree::PublicTree;
@@ -115,6 +116,27 @@ fn read_tree(alloc: Global, bytes: &Option<Vec<u8>>) -> Result<Option<PublicTree
     }
 }
 
+/// Decodes the tree, if there is a file of it. If the suite with this number is supported, the leaves have their tree
+/// hashes in a cache.
+fn read_owned_tree(
+    alloc: Global,
+    suite: u16,
+    bytes: Option<Vec<u8>>,
+) -> Result<Option<PublicTree>, NodeFault>
+    ensures tree { IfOk result (λ t.
+        IsSupplied (option_map (λ v. v.items) bytes) (option_map plain t)) }
+    ensures unread { IfErr result (λ fault. fault ≢ NodeFault.OutOfMemory
+        → IsSuppliedUnread (option_map (λ v. v.items) bytes)) }
+{
+    match bytes {
+        Some(bytes) => match Suite::from_u16(suite) {
+            Ok(suite) => Ok(Some(decode_with_leaf_hashes(alloc, suite, bytes)?)),
+            Err(_) => Ok(Some(PublicTree::decode(alloc, bytes.as_slice())?)),
+        },
+        None => Ok(None),
+    }
+}
+
 /// The decoded inputs.
 #[derive(Drop)]
 pub struct Inputs {
@@ -155,7 +177,9 @@ pub fn decode_inputs(
     }
 }
 
-/// As [`decode_inputs`]. Drops the bytes.
+/// Decodes the GroupInfo in `profile`, and the tree if there is a file of it, as [`decode_inputs`] does. The bytes of the
+/// tree are freed as they are read. If the cipher suite of the GroupInfo is supported, the tree has a hash cache with the
+/// tree hashes of its leaves.
 ///
 /// # Errors
 ///
@@ -172,7 +196,18 @@ pub fn read_inputs(
     ensures unread { IfErr result
         (Says (IsUnread profile info_bytes.items (option_map (λ v. v.items) tree_bytes))) }
 {
-    decode_inputs(alloc, profile, info_bytes.as_slice(), &tree_bytes)
+    let info = read_info(alloc, profile, info_bytes.as_slice())?;
+    drop(info_bytes);
+    match read_owned_tree(alloc, info.context.cipher_suite, tree_bytes) {
+        Ok(tree) => Ok(Inputs { info, tree }),
+        Err(fault) => {
+            drop(info);
+            match fault {
+                NodeFault::OutOfMemory => Err(StartFailure::Fault(RunFault::Memory)),
+                _ => Err(StartFailure::Found(Finding::TreeUnreadable(fault))),
+            }
+        }
+    }
 }
 
 /// Returns why no follower has started.

@@ -1,0 +1,7 @@
+use Rattle.std.proofs.Common.{rules}
+use Rattle.mls_report.proofs.Outcomes.{IfErr-is}
+use Rattle.mls_report.proofs.read_inputs.read_inputs.Goals as goal
+
+pub returns-in_err-info-clause-unread : goal.returns-in_err-info-clause-unread
+returns-in_err-info-clause-unread c =
+    IfErr-is c.from_residual.result _ c.in_err-info.field-0.0 (search rules) (c.in_err-info.ensures.unread _)

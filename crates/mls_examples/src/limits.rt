@@ -8,7 +8,7 @@ use mls_hash::tree_hash;
 use mls_msgs::{Commit, GroupInfo, Message, Profile, Sender, decode_message};
 use mls_nodes::decode_leaf;
 use mls_tree::{PublicTree, TreeError};
-use mls_wire::read_all_of;
+use mls_wire::{Shared, read_all_of};
 use std::alloc::Global;
 use std::test::Fail;
 
@@ -28,7 +28,7 @@ fn tree_without(alloc: Global, blank: u32) -> Result<PublicTree, Fail> {
     let mut tree = PublicTree::blank(alloc, MOST)?;
     for index in 0..MOST.saturating_sub(blank) {
         let node = decode_leaf(alloc, leaf.as_slice())?;
-        tree.set_leaf(index, Some(Box::new(alloc, node)?))?;
+        tree.set_leaf(index, Some(Shared::new(alloc, node)?))?;
     }
     Ok(tree)
 }
@@ -130,7 +130,7 @@ fn full_tree(alloc: Global) -> Result<PublicTree, Fail> {
         let leaf = format!(in alloc; "04{index:08x}04{index:08x}00010000000000020001020000")?;
         let leaf = bytes(alloc, leaf.as_str())?;
         let node = decode_leaf(alloc, leaf.as_slice())?;
-        tree.set_leaf(index, Some(Box::new(alloc, node)?))?;
+        tree.set_leaf(index, Some(Shared::new(alloc, node)?))?;
     }
     Ok(tree)
 }
@@ -213,7 +213,7 @@ fn the_last_leaf_is_taken(rt: HostRuntime) -> Result<(), Fail> {
     assert!(rt; tree.seat() == Ok(last));
     let leaf = bytes(rt.alloc(), "00000001000000000000020000")?;
     let node = decode_leaf(rt.alloc(), leaf.as_slice())?;
-    tree.set_leaf(last, Some(Box::new(rt.alloc(), node)?))?;
+    tree.set_leaf(last, Some(Shared::new(rt.alloc(), node)?))?;
     assert!(rt; tree.seat() == Err(TreeError::TooManyLeaves));
     Ok(())
 }

@@ -9,6 +9,7 @@
 use mls_hash::Suite;
 use mls_nodes::{LeafNode, decode_leaf, encode_ratchet_tree};
 use mls_tree::PublicTree;
+use mls_wire::Shared;
 use std::alloc::Global;
 use std::process::Abort;
 use std::test::Fail;
@@ -101,9 +102,9 @@ pub(crate) fn key_package(alloc: Global, member: u32) -> Result<String, Fail> {
 }
 
 /// The leaf node of a text.
-pub(crate) fn leaf_node(alloc: Global, leaf: &str) -> Result<Box<LeafNode>, Fail> {
+pub(crate) fn leaf_node(alloc: Global, leaf: &str) -> Result<Shared<LeafNode>, Fail> {
     let bytes = bytes(alloc, leaf)?;
-    Ok(Box::new(alloc, decode_leaf(alloc, bytes.as_slice())?)?)
+    Ok(Shared::new(alloc, decode_leaf(alloc, bytes.as_slice())?)?)
 }
 
 /// The tree of an encoding.

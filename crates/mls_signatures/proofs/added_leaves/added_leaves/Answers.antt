@@ -31,7 +31,7 @@ loop-item-preserved c =
           rw (w.leaves-is, w.in_ok-push.ensures.items)
           (collecting-member entries items added c.requires i c.loop-item.position leaves known x c.loop-item-test.true c.item-item.is w.in-Add.key_package
           (ap (λ (y : ListItem). y.proposal) (sym c.item.view_is) ∙ w.in-Add.is) _
-          (ap (λ n. get_or added n 0) count) (ap (λ (k : KeyPackage). k.leaf_node) w.deref.ensures) w.reference_at-reference.ensures)
+          (ap (λ n. get_or added n 0) count) (w.deref-in-Add.ensures ∙ ap (λ (k : KeyPackage). k.leaf_node) w.deref.ensures) w.reference_at-reference.ensures)
       | in_default w ↦
           rw w.leaves-is
           (collecting-other entries items added c.requires i c.loop-item.position leaves known x c.loop-item-test.true c.item-item.is

@@ -52,7 +52,7 @@ fits_or_not bytes = go (nat_le (length bytes) input_limit) refl
 -- an entry with this value
 entry_of : Option NodeValue → Option Node
 entry_of None = None
-entry_of (Some (leaf_node x)) = Some (Leaf (record { ptr = null_ptr; alloc = record { memory = record { seal = tt } }; value = x }))
+entry_of (Some (leaf_node x)) = Some (Leaf x)
 entry_of (Some (parent_node x)) = Some (Parent (record { ptr = null_ptr; alloc = record { memory = record { seal = tt } }; value = x }))
 
 entry_value-of : (o : Option NodeValue) → entry_value (entry_of o) ≡ o

@@ -196,7 +196,10 @@ pub fn read_inputs(
     ensures unread { IfErr result
         (Says (IsUnread profile info_bytes.items (option_map (λ v. v.items) tree_bytes))) }
 {
-    let info = read_info(alloc, profile, info_bytes.as_slice())?;
+    let info = match read_info(alloc, profile, info_bytes.as_slice()) {
+        Ok(info) => info,
+        Err(failure) => return Err(failure),
+    };
     drop(info_bytes);
     match read_owned_tree(alloc, info.context.cipher_suite, tree_bytes) {
         Ok(tree) => Ok(Inputs { info, tree }),

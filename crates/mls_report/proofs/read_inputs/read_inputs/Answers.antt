@@ -1,7 +1,6 @@
-use Rattle.std.proofs.Common.{rules}
-use Rattle.mls_report.proofs.Outcomes.{IfErr-is}
 use Rattle.mls_report.proofs.read_inputs.read_inputs.Goals as goal
 
-pub returns-in_err-info-clause-unread : goal.returns-in_err-info-clause-unread
-returns-in_err-info-clause-unread c =
-    IfErr-is c.from_residual.result _ c.in_err-info.field-0.0 (search rules) (c.in_err-info.ensures.unread _)
+pub returns-in-Err-clause-unread : goal.returns-in-Err-clause-unread
+returns-in-Err-clause-unread c =
+    let unread = rw c.as_slice.ensures.value at c.in-Err.ensures.unread in
+    unread _

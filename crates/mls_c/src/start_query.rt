@@ -6,10 +6,11 @@ ghost use Rattle.mls_check.specs.Signatures.{VerifyFn};
 ghost use Rattle.mls_msgs.specs.declared.profile.Profile.TheVariants.{Members};
 ghost use Rattle.mls_signatures.specs.SignaturesToVerify as signatures;
 ghost use Rattle.mls_follow.specs.CoveredLogs.{all_good};
+ghost use Rattle.mls_report.specs.FailedStarts.{FailsStart};
 ghost use Rattle.mls_report.specs.StartSteps.{Says};
 ghost use Rattle.mls_c.specs.Queries as queries;
 ghost use Rattle.mls_c.specs.Starts.{passed, CanStartFrom};
-ghost use Rattle.mls_c.specs.StartSteps.{IsStartQuery, ListsStart, FailsStart, DeclinesPassed, ListsFrom};
+ghost use Rattle.mls_c.specs.StartSteps.{IsStartQuery, ListsStart, DeclinesPassed, ListsFrom};
 
 use crate::query::query_records;
 use crate::start::{read_inputs, start_from};

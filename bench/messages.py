@@ -80,6 +80,15 @@ def false_path(parent_hash, nodes):
     return leaf_bytes(new_leaf("path"), b"\x03" + vector(parent_hash)) + vector(nodes)
 
 
+def false_path_above(group, added):
+    """A path of member 0 of a group of two members after a commit adds some, with a false parent hash. It has a node below
+    the root for each power of two of leaves, and a ciphertext for member 1 alone."""
+    depth = (len(group.present()) + added - 1).bit_length()
+    counts = [1] + [0] * (depth - 1)
+    nodes = [vector(key("path", at)) + vector(b"\x00\x00" * count) for at, count in enumerate(counts)]
+    return false_path(bytes(32), b"".join(nodes))
+
+
 def add(leaf):
     return number(1, 2) + key_package(leaf, key("init", leaf.encryption, leaf.signature))
 

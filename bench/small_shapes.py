@@ -4,8 +4,9 @@ import json
 import os
 
 from group import KEY_PACKAGE, Group, leaf_bytes, new_leaf, number, vector
-from messages import (Sparse, add, commit, commit_with_path, extensions_of, false_path, far_members, framed, frozen,
-                      inline, inline_adds, message, proposal, remove, small_leaf, update, with_capabilities)
+from messages import (Sparse, add, commit, commit_with_path, extensions_of, false_path, false_path_above, far_members,
+                      framed, frozen, inline, inline_adds, message, proposal, remove, small_leaf, update,
+                      with_capabilities)
 from shape import shape
 
 # ---- one message, or a few
@@ -18,6 +19,17 @@ def known_add_named_again(put):
     leaf = new_leaf("large")._replace(credential=b"\x00\x01" + vector(bytes(put.size(32_000))))
     sent, item = proposal(group, 0, add(leaf))
     return put.replay(group, [sent, commit(group, [item] * put.size(960))])
+
+
+@shape
+def known_add_named_again_with_a_path(put):
+    """A pending Add of one size, and a commit with a path that names it many times. Each copy of the leaf is hashed under
+    its own leaf index, so the time is the product of both. The memory may not be."""
+    group = Group(2)
+    leaf = new_leaf("large")._replace(credential=b"\x00\x01" + vector(bytes(32_000)))
+    sent, item = proposal(group, 0, add(leaf))
+    count = put.size(960)
+    return put.replay(group, [sent, commit(group, [item] * count, false_path_above(group, count))])
 
 
 @shape
@@ -158,6 +170,49 @@ def many_context_extensions(put):
     group = frozen(Group(2))
     body = extensions_of([(0xF000, b"")] * put.size(100_000))
     return put.replay(group, [proposal(group, 0, body)[0], commit_with_path(group, [inline(body)])])
+
+
+@shape
+def leaf_of_equal_extensions(put):
+    """An add whose leaf has many empty extensions of a type that need not be listed, in a commit with a path."""
+    group = Group(2)
+    leaf = new_leaf("many")._replace(extensions=b"\x00\x01\x00" * put.size(200_000))
+    return put.replay(group, [commit(group, [inline(add(leaf))], false_path_above(group, 1))])
+
+
+@shape
+def certificates(put):
+    """An add whose credential has many empty certificates, in a commit with a path."""
+    group = Group(2)
+    leaf = new_leaf("many")._replace(credential=b"\x00\x02" + vector(bytes(put.size(500_000))))
+    return put.replay(group, [commit(group, [inline(add(leaf))], false_path_above(group, 1))])
+
+
+@shape
+def psks_without_nonces(put):
+    group = Group(2)
+    items = [inline(b"\x00\x04\x01\x00\x00")] * put.size(100_000)
+    return put.replay(group, [commit(group, items)], profile="full")
+
+
+@shape
+def external_inits(put):
+    group = Group(2)
+    return put.replay(group, [commit(group, [inline(b"\x00\x06\x00")] * put.size(150_000))], profile="full")
+
+
+@shape
+def reinits(put):
+    group = Group(2)
+    items = [inline(b"\x00\x05\x00" + number(1, 2) * 2 + b"\x00")] * put.size(80_000)
+    return put.replay(group, [commit(group, items)], profile="full")
+
+
+@shape
+def context_extensions_again(put):
+    """A list with many empty proposals of extensions of the context."""
+    group = Group(2)
+    return put.replay(group, [commit(group, [inline(extensions_of([]))] * put.size(150_000))])
 
 
 @shape

@@ -9,6 +9,9 @@ from messages import (Sparse, add, commit, commit_with_path, extensions_of, fals
                       with_capabilities)
 from shape import shape
 
+# A leaf node whose keys, identity, lists and signature are empty.
+NO_CONTENT = vector(b"") * 2 + b"\x00\x01" + vector(b"") * 6 + b"\x02" + vector(b"") * 2
+
 # ---- one message, or a few
 
 
@@ -193,6 +196,29 @@ def psks_without_nonces(put):
     group = Group(2)
     items = [inline(b"\x00\x04\x01\x00\x00")] * put.size(100_000)
     return put.replay(group, [commit(group, items)], profile="full")
+
+
+@shape
+def psks_of_one_byte(put):
+    """A list of PSKs whose id and nonce have one byte each."""
+    group = Group(2)
+    items = [inline(b"\x00\x04\x01\x01a\x01b")] * put.size(100_000)
+    return put.replay(group, [commit(group, items)], profile="full")
+
+
+@shape
+def updates_without_content(put):
+    """A list of Updates whose leaf nodes have no content."""
+    group = Group(2)
+    return put.replay(group, [commit(group, [inline(number(2, 2) + NO_CONTENT)] * put.size(60_000))])
+
+
+@shape
+def adds_without_content(put):
+    """A list of Adds whose key packages and leaf nodes have no content."""
+    group = Group(2)
+    package = number(1, 2) * 2 + vector(b"") + NO_CONTENT + vector(b"") * 2
+    return put.replay(group, [commit(group, [inline(number(1, 2) + package)] * put.size(40_000))])
 
 
 @shape

@@ -12,14 +12,6 @@ fn no_bytes(alloc: Global) -> Opaque {
     }
 }
 
-/// Returns the empty list of codes.
-fn no_codes(alloc: Global) -> Codes {
-    match Codes::new(Vec::new(alloc)) {
-        Ok(codes) => codes,
-        Err(_) => unreachable!(),
-    }
-}
-
 /// Returns the empty list of extensions.
 fn no_extensions(alloc: Global) -> Extensions {
     match Extensions::new(Vec::new(alloc)) {
@@ -35,11 +27,11 @@ pub(crate) fn empty_leaf(alloc: Global) -> LeafNode {
         signature_key: no_bytes(alloc),
         credential: Credential::Basic(no_bytes(alloc)),
         capabilities: Capabilities {
-            versions: no_codes(alloc),
-            cipher_suites: no_codes(alloc),
-            extensions: no_codes(alloc),
-            proposals: no_codes(alloc),
-            credentials: no_codes(alloc),
+            versions: Codes::empty(),
+            cipher_suites: Codes::empty(),
+            extensions: Codes::empty(),
+            proposals: Codes::empty(),
+            credentials: Codes::empty(),
         },
         source: LeafSource::Update,
         extensions: no_extensions(alloc),

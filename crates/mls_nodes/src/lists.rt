@@ -6,7 +6,7 @@ use crate::senders::ExternalSender;
 use mls_wire::{BoxedOpaque, Items};
 
 /// Protocol versions, cipher suites, or types of extensions, proposals and credentials. Any `u16` is stored, known or
-/// not. A list of at most 14 codes is stored in place.
+/// not. A list of at most 6 codes is stored in place.
 pub type Codes = mls_wire::Codes;
 
 /// A chain of certificates, the member's own first (RFC 9420, 5.3).

@@ -1,6 +1,6 @@
 //! What a group requires of its members' clients (RFC 9420, 11.1).
 
-ghost use Rattle.std.specs.Prelude.{◌≡◌, [], None, Some, MatchOption};
+ghost use Rattle.std.specs.Prelude.{◌≡◌, None, Some, MatchOption};
 ghost use Rattle.mls_nodes.specs.Requirements.{extension_of, FindsRequirements};
 
 use crate::context::GroupContext;
@@ -105,16 +105,6 @@ pub fn find_extension(extensions: &[Extension], kind: u16) -> Option<&Opaque>
     None
 }
 
-/// Returns the empty list of codes.
-fn no_codes(alloc: Global) -> Codes
-    ensures { result ≡ [] }
-{
-    match Codes::new(Vec::new(alloc)) {
-        Ok(codes) => codes,
-        Err(_) => unreachable!(),
-    }
-}
-
 /// Returns what a group with these extensions requires: the data of the first one of type 3, or empty lists if there is
 /// none, which does not allocate (RFC 9420, 11.1).
 ///
@@ -130,9 +120,9 @@ pub fn requirements_of(
     match find_extension(extensions.as_slice(), REQUIRED_CAPABILITIES) {
         Some(body) => read_all_of(alloc, body.as_slice()),
         None => Ok(RequiredCapabilities {
-            extensions: no_codes(alloc),
-            proposals: no_codes(alloc),
-            credentials: no_codes(alloc),
+            extensions: Codes::empty(),
+            proposals: Codes::empty(),
+            credentials: Codes::empty(),
         }),
     }
 }

@@ -6,4 +6,4 @@ use Rattle.mls_wire.specs.declared.codes.Stored.TheVariants.{InPlace, OnHeap}
 -- `codes_in s` is the list of the codes.
 abbrev pub codes_in : Stored → List ℕ
 codes_in (InPlace codes) = codes
-codes_in (OnHeap codes) = codes.items
+codes_in (OnHeap codes) = codes.value.items

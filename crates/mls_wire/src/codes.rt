@@ -1,9 +1,10 @@
 //! Lists of `uint16` that fit into one vector.
 
-ghost use Rattle.std.specs.Prelude.{◌≡◌, IfErr, IfOk, IsSome, MatchResult, length};
+ghost use Rattle.std.specs.Prelude.{◌≡◌, [], Err, IfErr, IfOk, IsSome, MatchResult, length};
 ghost use Rattle.std.specs.Int.{w16};
 ghost use Rattle.mls_wire.specs.Codes.{codes_in};
 ghost use Rattle.mls_wire.specs.Encoding.{list, number};
+ghost use Rattle.mls_wire.specs.Faults.{too_long_at};
 ghost use Rattle.mls_wire.specs.Parsing.{GivesOrFull, items_at, list_at, number_at};
 ghost use Rattle.mls_wire.specs.ParsingInternal.{Finds};
 ghost use Rattle.mls_wire.specs.ReadContracts.{seen};
@@ -16,7 +17,7 @@ use crate::items::fits;
 use crate::reader::Reader;
 use crate::short_codes::{MAX_SHORT, ShortCodes, short_codes_of};
 use crate::size::size_of_list;
-use std::alloc::Global;
+use std::alloc::{AllocError, Global};
 use std::marker::Model;
 
 /// Where the codes of a list are.
@@ -25,7 +26,7 @@ enum Stored {
     /// In place.
     InPlace(ShortCodes),
     /// On the heap.
-    OnHeap(Vec<u16>),
+    OnHeap(Box<Vec<u16>>),
 }
 
 // Written out, so that a drop is one call in the proofs of its owners.
@@ -39,14 +40,14 @@ impl Drop for Stored {
 }
 
 impl Stored {
-    /// Returns the list of these codes. Does not allocate.
-    fn of(codes: Vec<u16>) -> Stored
-        ensures { codes_in result ≡ codes.items }
+    /// Returns a list of these codes. Allocates only if there are more than [`MAX_SHORT`].
+    fn copy(alloc: Global, codes: &[u16]) -> Result<Stored, AllocError>
+        ensures { IfOk result (λ stored. codes_in stored ≡ codes.now) }
     {
         if codes.len() <= MAX_SHORT {
-            Stored::InPlace(ShortCodes::of(codes.as_slice()))
+            Ok(Stored::InPlace(ShortCodes::of(codes)))
         } else {
-            Stored::OnHeap(codes)
+            Ok(Stored::OnHeap(Box::new(alloc, Vec::from_slice(alloc, codes)?)?))
         }
     }
 
@@ -62,7 +63,7 @@ impl Stored {
 }
 
 /// A list of `uint16` that fits into one vector, so it has an encoding: its length in bytes, and its items (RFC 9420,
-/// 2.1.2). A list of at most 14 codes is stored in place.
+/// 2.1.2). A list of at most 6 codes is stored in place.
 #[derive(Debug)]
 pub struct Codes {
     stored: Stored,
@@ -89,19 +90,34 @@ impl Model for Codes {
 }
 
 impl Codes {
-    /// Returns the list of these codes. Does not allocate. A list over the limit is returned as the error.
-    pub fn new(codes: Vec<u16>) -> Result<Codes, Vec<u16>>
-        ensures { MatchResult result
-            (λ made. made ≡ codes.items)
-            (λ back. (back ≡ codes) × (IsSome (list (number w16) codes.items) → ⊥)) }
+    /// Returns the empty list. Does not allocate.
+    pub fn empty() -> Codes
+        ensures { result ≡ [] }
     {
-        if fits(codes.as_slice()) {
-            Ok(Codes {
-                stored: Stored::of(codes),
-            })
-        } else {
-            Err(codes)
+        Codes {
+            stored: Stored::InPlace(ShortCodes::new()),
         }
+    }
+
+    /// Returns a list of these codes.
+    ///
+    /// # Errors
+    ///
+    /// `TooLong` at 0 for more codes than fit into a vector, or `OutOfMemory`.
+    pub fn copy(alloc: Global, codes: &[u16]) -> Result<Codes, CodecFault>
+        ensures long { (IsSome (list (number w16) codes.now) → ⊥)
+            → result ≡ Err (CodecFault.Wire (too_long_at 0)) }
+        ensures short { IsSome (list (number w16) codes.now)
+            → MatchResult result (λ made. made ≡ codes.now) (λ e. e ≡ CodecFault.OutOfMemory) }
+    {
+        if !fits(codes) {
+            return Err(CodecFault::Wire(WireFault {
+                kind: WireFaultKind::TooLong,
+                at: 0,
+            }));
+        }
+        let stored = Stored::copy(alloc, codes)?;
+        Ok(Codes { stored })
     }
 
     /// Returns a copy, if the allocation succeeds. The only error is `OutOfMemory`.
@@ -111,7 +127,7 @@ impl Codes {
     {
         let stored = match &self.stored {
             Stored::InPlace(codes) => Stored::InPlace(codes.copied()),
-            Stored::OnHeap(codes) => Stored::OnHeap(Vec::from_slice(alloc, codes.as_slice())?),
+            Stored::OnHeap(codes) => Stored::copy(alloc, codes.as_slice())?,
         };
         Ok(Codes { stored })
     }
@@ -134,7 +150,7 @@ fn codes_of(alloc: Global, body: Reader<'_>) -> Result<Stored, CodecFault>
     if body.len() <= 2 * MAX_SHORT {
         Ok(Stored::InPlace(short_codes_of(alloc, body)?))
     } else {
-        Ok(Stored::OnHeap(items_of(alloc, body)?))
+        Ok(Stored::OnHeap(Box::new(alloc, items_of(alloc, body)?)?))
     }
 }
 

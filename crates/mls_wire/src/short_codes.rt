@@ -12,7 +12,7 @@ use std::alloc::Global;
 use std::marker::Model;
 
 /// The most codes of a short list.
-pub(crate) const MAX_SHORT: usize = 14;
+pub(crate) const MAX_SHORT: usize = 6;
 
 /// A list of at most [`MAX_SHORT`] codes, stored in place.
 #[derive(Debug)]
@@ -35,12 +35,12 @@ impl Model for ShortCodes {
 
     ghost view = { λ c. take c.len c.codes };
 
-    ghost invariant = { λ c. c.len ≤ 14 };
+    ghost invariant = { λ c. c.len ≤ 6 };
 }
 
 impl ShortCodes {
     /// Returns the empty list.
-    fn new() -> ShortCodes
+    pub(crate) fn new() -> ShortCodes
         ensures { result ≡ [] }
     {
         ShortCodes {
@@ -51,7 +51,7 @@ impl ShortCodes {
 
     /// Returns the list of these codes.
     pub(crate) fn of(codes: &[u16]) -> ShortCodes
-        requires { length codes.now ≤ 14 }
+        requires { length codes.now ≤ 6 }
         ensures { result ≡ codes.now }
     {
         let mut short = ShortCodes::new();
@@ -80,7 +80,7 @@ impl ShortCodes {
 
     /// Appends a code.
     fn push(&mut self, code: u16)
-        requires { length self.old < 14 }
+        requires { length self.old < 6 }
         ensures { self.new ≡ self.old ++ code ∷ [] }
     {
         self.codes[usize::from(self.len)] = code;
@@ -90,7 +90,7 @@ impl ShortCodes {
 
 /// Returns the codes whose encodings are all of the body, one after the other.
 pub(crate) fn short_codes_of(alloc: Global, mut body: Reader<'_>) -> Result<ShortCodes, CodecFault>
-    requires { length body.left ≤ 28 }
+    requires { length body.left ≤ 12 }
     ensures { Finds (items_at (number_at w16) (length body.entry.left) body.entry) result }
 {
     let mut codes = ShortCodes::new();

@@ -16,7 +16,7 @@ use crate::leaf::LeafNode;
 use crate::leaf_source::LeafSource;
 use crate::lists::Codes;
 use crate::parent::ParentNode;
-use mls_wire::{Encode, Items, Opaque};
+use mls_wire::{BoxedOpaque, Encode, Items, Opaque};
 
 /// Returns the number of bytes of the length of a vector.
 fn length_of_prefix(body: u64) -> u64
@@ -33,13 +33,30 @@ fn length_of_prefix(body: u64) -> u64
     }
 }
 
+/// Returns the length of the encoding of a vector with this body.
+fn length_of_body(bytes: &[u8]) -> u64
+    requires { length bytes.now ≤ vector_limit }
+    ensures length { option_map length (vector bytes.now) ≡ Some result }
+    ensures small { result ≤ vector_limit + 4 }
+{
+    let body = bytes.len() as u64;
+    length_of_prefix(body) + body
+}
+
 /// Returns the length of the encoding of a vector.
 fn length_of_vector(bytes: &Opaque) -> u64
     ensures length { option_map length (vector bytes.now) ≡ Some result }
     ensures small { result ≤ vector_limit + 4 }
 {
-    let body = bytes.as_slice().len() as u64;
-    length_of_prefix(body) + body
+    length_of_body(bytes.as_slice())
+}
+
+/// Returns the length of the encoding of a vector that is stored on the heap.
+fn length_of_boxed(bytes: &BoxedOpaque) -> u64
+    ensures length { option_map length (vector bytes.now) ≡ Some result }
+    ensures small { result ≤ vector_limit + 4 }
+{
+    length_of_body(bytes.as_slice())
 }
 
 /// Returns the length of the items of a list.
@@ -127,7 +144,7 @@ fn length_of_source(value: &LeafSource) -> u64
             17
         }
         LeafSource::Update => 1,
-        LeafSource::Commit { parent_hash } => 1 + length_of_vector(parent_hash),
+        LeafSource::Commit { parent_hash } => 1 + length_of_boxed(parent_hash),
     }
 }
 

@@ -1,7 +1,7 @@
 //! How a leaf came into the tree (RFC 9420, 7.2).
 
 use mls_wire::{
-    CodecFault, Decode, Draft, Encode, Opaque, Reader, TryClone, WireFault, WireFaultKind,
+    BoxedOpaque, CodecFault, Decode, Draft, Encode, Reader, TryClone, WireFault, WireFaultKind,
     add_sizes,
 };
 use std::alloc::Global;
@@ -25,7 +25,7 @@ pub enum LeafSource {
     /// By a Commit of its member.
     Commit {
         /// The parent hash of the next node on the direct path, empty if there is none.
-        parent_hash: Opaque,
+        parent_hash: BoxedOpaque,
     },
 }
 
@@ -82,7 +82,7 @@ impl Decode for LeafSource {
             1 => LeafSource::KeyPackage(Lifetime::read(alloc, &mut ahead)?),
             2 => LeafSource::Update,
             3 => LeafSource::Commit {
-                parent_hash: Opaque::read(alloc, &mut ahead)?,
+                parent_hash: BoxedOpaque::read(alloc, &mut ahead)?,
             },
             kind => {
                 return Err(CodecFault::Wire(WireFault {

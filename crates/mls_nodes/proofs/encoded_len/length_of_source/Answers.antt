@@ -9,4 +9,4 @@ pub returns-in-Update-clause-length : goal.returns-in-Update-clause-length
 returns-in-Update-clause-length c = rw c.in-Update.is update_has
 
 pub returns-in-Commit-clause-length : goal.returns-in-Commit-clause-length
-returns-in-Commit-clause-length c = rw c.in-Commit.is (commit_has c.in-Commit.parent_hash c.length_of_vector.result c.length_of_vector.ensures.length)
+returns-in-Commit-clause-length c = rw c.in-Commit.is (commit_has c.in-Commit.parent_hash c.length_of_boxed.result c.length_of_boxed.ensures.length)

@@ -5,7 +5,7 @@ ghost use Rattle.mls_wire.specs.Parsing.{GivesOrFull};
 ghost use Rattle.mls_msgs.specs.Parsing.{resumption_at};
 
 use crate::bad_tag::bad_tag;
-use mls_wire::{CodecFault, Decode, Draft, Encode, Opaque, Reader, TryClone, add_sizes};
+use mls_wire::{BoxedOpaque, CodecFault, Decode, Draft, Encode, Reader, TryClone, add_sizes};
 use std::alloc::Global;
 
 /// What a resumption PSK is used for (RFC 9420, 8.4: ResumptionPSKUsage).
@@ -23,13 +23,13 @@ pub enum PskUsage {
 #[derive(Debug, Drop)]
 pub enum PskKind {
     /// A key from outside MLS, with its `psk_id`: type 1.
-    External(Opaque),
+    External(BoxedOpaque),
     /// The resumption PSK of an epoch of a group: type 2.
     Resumption {
         /// What the key is used for.
         usage: PskUsage,
         /// The id of that group, `psk_group_id`.
-        group_id: Opaque,
+        group_id: BoxedOpaque,
         /// That epoch, `psk_epoch`.
         epoch: u64,
     },
@@ -41,7 +41,7 @@ pub struct PreSharedKeyId {
     /// The origin of the key.
     pub kind: PskKind,
     /// The `psk_nonce`, a random value that is fresh for each use of the key.
-    pub nonce: Opaque,
+    pub nonce: BoxedOpaque,
 }
 
 impl Decode for PskUsage {
@@ -96,7 +96,7 @@ fn read_resumption(alloc: Global, reader: &mut Reader<'_>) -> Result<PskKind, Co
 {
     let mut ahead = reader.fork();
     let usage = PskUsage::read(alloc, &mut ahead)?;
-    let group_id = Opaque::read(alloc, &mut ahead)?;
+    let group_id = BoxedOpaque::read(alloc, &mut ahead)?;
     let epoch = u64::read(alloc, &mut ahead)?;
     *reader = ahead;
     Ok(PskKind::Resumption {
@@ -119,7 +119,7 @@ impl Decode for PskKind {
     fn read(alloc: Global, reader: &mut Reader<'_>) -> Result<PskKind, CodecFault> {
         let mut ahead = reader.fork();
         let kind = match u8::read(alloc, &mut ahead)? {
-            1 => PskKind::External(Opaque::read(alloc, &mut ahead)?),
+            1 => PskKind::External(BoxedOpaque::read(alloc, &mut ahead)?),
             2 => read_resumption(alloc, &mut ahead)?,
             kind => return Err(bad_tag(u16::from(kind), reader.position())),
         };
@@ -182,7 +182,7 @@ impl Decode for PreSharedKeyId {
     fn read(alloc: Global, reader: &mut Reader<'_>) -> Result<PreSharedKeyId, CodecFault> {
         let mut ahead = reader.fork();
         let kind = PskKind::read(alloc, &mut ahead)?;
-        let nonce = Opaque::read(alloc, &mut ahead)?;
+        let nonce = BoxedOpaque::read(alloc, &mut ahead)?;
         *reader = ahead;
         Ok(PreSharedKeyId { kind, nonce })
     }
@@ -232,7 +232,7 @@ impl TryClone for PreSharedKeyId {
 }
 
 /// Returns whether two vectors have the same bytes.
-fn is_same_vector(one: &Opaque, other: &Opaque) -> bool
+fn is_same_vector(one: &BoxedOpaque, other: &BoxedOpaque) -> bool
     ensures { IsTrue result ↔ (one.now ≡ other.now) }
 {
     one.as_slice() == other.as_slice()

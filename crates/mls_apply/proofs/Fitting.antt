@@ -1,5 +1,5 @@
 -- Members that are added one after the other, with one leaf node in place of each of theirs.
-use Rattle.std.proofs.Common.{◌≡◌, ◌≢◌, ◌∙◌, ℕ, ◌+◌, ◌<◌, ◌≤◌, true, false, List, [], ◌∷◌, ◌++◌, length, drop, Option, Some, None, IsSome, refl, sym, ap, subst, arith}
+use Rattle.std.proofs.Common.{◌≡◌, ◌≢◌, ◌∙◌, ℕ, ◌+◌, ◌<◌, ◌≤◌, true, List, [], ◌∷◌, ◌++◌, length, drop, Option, Some, None, IsSome, refl, sym, ap, subst, arith}
 use Rattle.std.specs.Prelude.{if◌then◌else◌, is_some, option_map}
 use Rattle.std.proofs.lemmas.List.{append_assoc, append-nil, drop_all}
 use Rattle.std.proofs.lemmas.Option.{same_Some, none-some}
@@ -8,8 +8,8 @@ use Rattle.mls_nodes.specs.declared.leaf.LeafNode.{LeafNode}
 use Rattle.mls_msgs.specs.declared.key_package.KeyPackage.{KeyPackage}
 use Rattle.mls_msgs.specs.declared.proposal.Proposal.TheVariants.{Add}
 use Rattle.mls_tree.specs.Tree.{Tree, member_count, leaf_at}
-use Rattle.mls_tree.specs.BlankLeaves.{first_blank_leaf, AreNonBlankBelow}
-use Rattle.mls_tree.specs.TreeOperations.{add, added_leaf, extended_if_full, is_overfilled_above}
+use Rattle.mls_tree.specs.BlankLeaves.{AreNonBlankBelow}
+use Rattle.mls_tree.specs.TreeOperations.{add, added_leaf}
 use Rattle.mls_tree.proofs.Added.{add-set_below}
 use Rattle.mls_apply.specs.AppliedList.{AppliedTree, applied_tree, after_leaf, after_adds, added_to, new_members}
 use Rattle.mls_apply.specs.AddSteps.{is_overfull_add, Adds}

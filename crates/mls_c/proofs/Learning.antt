@@ -1,5 +1,5 @@
 -- Receipts that are learnt one after the other.
-use Rattle.std.proofs.Common.{◌≡◌, ◌∙◌, ℕ, zero, suc, ◌+◌, ◌*◌, List, take, drop, refl, sym, ap, arith}
+use Rattle.std.proofs.Common.{◌≡◌, ◌∙◌, ℕ, zero, suc, ◌+◌, ◌*◌, List, take, drop, refl, ap, arith}
 use Rattle.std.proofs.lemmas.List.{drop-drop}
 use Rattle.mls_check.specs.ReceiptSets.{with_receipt}
 use Rattle.mls_check.specs.Signatures.{VerifyFn}

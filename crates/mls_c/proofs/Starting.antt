@@ -1,5 +1,5 @@
 -- Which records a start has, and why none starts.
-use Rattle.std.proofs.Common.{◌≡◌, ◌≢◌, ◌∙◌, ℕ, List, Option, Some, None, refl, sym, ap, subst}
+use Rattle.std.proofs.Common.{◌≡◌, ◌∙◌, ℕ, List, Option, Some, None, refl, sym, ap, subst}
 use Rattle.mls_tree.specs.RatchetTree.{RatchetTree}
 use Rattle.mls_check.specs.Signatures.{VerifyFn}
 use Rattle.mls_msgs.specs.declared.group_info.GroupInfo.{GroupInfo}
@@ -7,7 +7,7 @@ use Rattle.mls_msgs.specs.declared.profile.Profile.{Profile}
 use Rattle.mls_msgs.specs.declared.profile.Profile.TheVariants.{Members}
 use Rattle.mls_signatures.specs.SignaturesToVerify.{start_signatures}
 use Rattle.mls_follow.specs.CoveredLogs.{all_good}
-use Rattle.mls_follow.specs.Start.{UsesTree, UsesNoTree, IsStart}
+use Rattle.mls_follow.specs.Start.{UsesTree, IsStart}
 use Rattle.mls_follow.specs.State.{State}
 use Rattle.mls_report.specs.StartInputs.{IsReadAs}
 use Rattle.mls_report.specs.StartSteps.{Says, IsUnread}

@@ -1,10 +1,8 @@
 -- What the calls on a group's inputs come to.
-use Rattle.std.proofs.Common.{◌≡◌, ◌≢◌, ◌∙◌, ℕ, List, Option, refl, sym, ap, subst, ◌⊎◌, inl, inr}
+use Rattle.std.proofs.Common.{◌≡◌, ℕ, List, Option, refl, sym, subst, ◌⊎◌, inl, inr}
 use Rattle.std.specs.Prelude.{Some}
 use Rattle.mls_check.specs.Signatures.{VerifyFn}
 use Rattle.mls_msgs.specs.declared.profile.Profile.{Profile}
-use Rattle.mls_signatures.specs.declared.signature_to_verify.SignatureToVerify.{SignatureToVerify}
-use Rattle.mls_follow.specs.CoveredLogs.{all_good}
 use Rattle.mls_follow.specs.Resumption.{IsResumed}
 use Rattle.mls_report.specs.StartInputs.{IsStarted}
 use Rattle.mls_report.specs.declared.finding.Finding.{Finding}

@@ -1,6 +1,6 @@
 -- What the calls of a follower return. `f` and `g` are the follower before and after; `old` and `new` are what a buffer
 -- holds before and after. Used by contracts.
-use Rattle.std.specs.Prelude.{ℕ, ◌≡◌, ◌≤◌, ◌<◌, List, [], length, Option, Some, None, Result, Ok, Err}
+use Rattle.std.specs.Prelude.{ℕ, ◌≡◌, ◌≤◌, ◌<◌, List, length, Option, Some, None, Result, Ok, Err}
 use Rattle.mls_wire.specs.Limits.{input_limit}
 use Rattle.mls_signatures.specs.declared.signature_to_verify.SignatureToVerify.{SignatureToVerify}
 use Rattle.mls_follow.specs.Acceptance.{EncodesNoMessage}

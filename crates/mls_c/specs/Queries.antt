@@ -1,6 +1,6 @@
 -- The records of the signatures that have to be verified (own format). `G` accepts the signatures that are known to be
 -- good. Used by contracts.
-use Rattle.std.specs.Prelude.{ℕ, ◌++◌, List, [], ◌∷◌, Bool, Option, Some, None, if◌then◌else◌}
+use Rattle.std.specs.Prelude.{ℕ, ◌++◌, List, [], ◌∷◌, Option, Some, None, if◌then◌else◌}
 use Rattle.sha2.specs.Sha256.{sha256}
 use Rattle.mls_wire.specs.Encoding.{vector}
 use Rattle.mls_check.specs.Receipts.{receipt_input}

@@ -1,5 +1,5 @@
 -- The answers to requests.
-use Rattle.std.proofs.Common.{◌≡◌, ◌∙◌, ℕ, List, [], Bool, true, false, Option, Some, None, Result, refl, sym, ap, subst, inl, inr}
+use Rattle.std.proofs.Common.{◌≡◌, ◌∙◌, ℕ, List, [], Bool, true, false, Option, Some, None, Result, refl, sym, subst, inl, inr}
 use Rattle.std.proofs.lemmas.Bool.{false≢true}
 use Rattle.mls_check.specs.Signatures.{VerifyFn}
 use Rattle.mls_signatures.specs.declared.signature_to_verify.SignatureToVerify.{SignatureToVerify}

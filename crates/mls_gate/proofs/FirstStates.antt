@@ -1,5 +1,5 @@
 -- What the inputs of a gate lead to: one first state or one finding, and one of the two there is.
-use Rattle.std.proofs.Common.{◌≡◌, ◌≢◌, ◌∙◌, ℕ, List, Bool, true, false, Option, Some, None, refl, sym, ap, subst, inl, inr}
+use Rattle.std.proofs.Common.{◌≡◌, ◌≢◌, ◌∙◌, ℕ, List, true, false, Option, Some, None, refl, sym, ap, subst, inl, inr}
 use Rattle.std.specs.Prelude.{◌⊎◌}
 use Rattle.std.proofs.lemmas.Bool.{false≢true}
 use Rattle.mls_tree.specs.RatchetTree.{RatchetTree}
@@ -20,7 +20,6 @@ use Rattle.mls_follow.proofs.Resumable.{start_resumable, resumed_resumable}
 use Rattle.mls_follow.proofs.Resumed.{one_resumption, no_resume_fault, one_resume_fault}
 use Rattle.mls_follow.proofs.ResumedOrNot.{some_resumption}
 use Rattle.mls_follow.proofs.StoredRuns.{resumed_steady}
-use Rattle.mls_report.specs.Finding.{finding_verdict}
 use Rattle.mls_report.specs.StartInputs.{IsSupplied, IsSuppliedUnread, IsStarted, IsStartFinding, started_of}
 use Rattle.mls_report.specs.StateInputs.{IsStateFinding}
 use Rattle.mls_report.specs.UniqueReports.{AreAlike}
@@ -30,7 +29,7 @@ use Rattle.mls_report.proofs.FindingsExist.{begun}
 use Rattle.mls_report.proofs.FindingsOnce.{one_info, one_start_finding, one_started}
 use Rattle.mls_report.proofs.InputsOnce.{yes_no, alike_starts}
 use Rattle.mls_report.proofs.StatesOnce.{one_state_finding}
-use Rattle.mls_gate.specs.FirstStates.{IsFirstState, CanStart, StartSignatures, IsFindingOf, Declines, Refuses}
+use Rattle.mls_gate.specs.FirstStates.{IsFirstState, CanStart, StartSignatures, Declines, Refuses}
 use Rattle.mls_gate.specs.GateSteps.{AreReadableInputs}
 use Rattle.mls_gate.specs.Phases.{GroupFiles, Inputs, OfGroup, OfState}
 

@@ -8,7 +8,6 @@ use Rattle.mls_follow.specs.RisingRuns.Event.{Received, Learned}
 use Rattle.mls_follow.specs.Runs.{Call, IsTransition, IsAnswer}
 use Rattle.mls_follow.specs.State.{State}
 use Rattle.mls_follow.specs.StoredRuns.{IsResumable}
-use Rattle.mls_follow.specs.Validity.{IsValidState}
 use Rattle.mls_follow.specs.declared.refusal.Refusal.{Refusal}
 use Rattle.mls_follow.specs.declared.taken.Taken.{Taken}
 use Rattle.mls_follow.proofs.CoveredLogs.{covered_answers}

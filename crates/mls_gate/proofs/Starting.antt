@@ -1,5 +1,5 @@
 -- The report of the gate that begins with a start or a resumption.
-use Rattle.std.proofs.Common.{◌≡◌, ◌≢◌, ℕ, List, ◌++◌, Option, refl, sym, subst, inl, inr}
+use Rattle.std.proofs.Common.{◌≡◌, ◌≢◌, ℕ, List, Option, refl, sym, subst, inl, inr}
 use Rattle.mls_tree.specs.RatchetTree.{RatchetTree}
 use Rattle.mls_check.specs.Signatures.{VerifyFn}
 use Rattle.mls_msgs.specs.declared.group_info.GroupInfo.{GroupInfo}

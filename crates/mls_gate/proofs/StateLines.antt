@@ -1,5 +1,5 @@
 -- The lines of the signatures of a list, written one signature after the other.
-use Rattle.std.proofs.Common.{◌≡◌, ◌∙◌, ℕ, ◌+◌, ◌<◌, ◌≤◌, List, [], ◌∷◌, ◌++◌, length, take, drop, get_or, Option, refl, sym, ap, subst, arith}
+use Rattle.std.proofs.Common.{◌≡◌, ◌∙◌, ℕ, ◌+◌, ◌<◌, ◌≤◌, List, [], ◌∷◌, ◌++◌, length, take, drop, get_or, Option, refl, sym, ap, subst}
 use Rattle.std.proofs.lemmas.List.{take_more, take-append-drop, take_all}
 use Rattle.std.specs.Io.KnownBytes.{Appends}
 use Rattle.mls_check.specs.Signatures.{VerifyFn}

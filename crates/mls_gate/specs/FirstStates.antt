@@ -1,6 +1,6 @@
 -- What follows from the inputs of a gate, a GroupInfo and a tree or the file of a state: which follower starts or resumes,
 -- or why none does. `G` is the verification function of a checker. Used by contracts.
-use Rattle.std.specs.Prelude.{◌≡◌, ℕ, List, Bool, false, Option}
+use Rattle.std.specs.Prelude.{◌≡◌, ℕ, List, false, Option}
 use Rattle.mls_tree.specs.RatchetTree.{RatchetTree}
 use Rattle.mls_check.specs.Signatures.{VerifyFn}
 use Rattle.mls_msgs.specs.declared.group_info.GroupInfo.{GroupInfo}

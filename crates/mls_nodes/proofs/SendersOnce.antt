@@ -1,5 +1,5 @@
 -- Who may send from outside is one list, and is what is read.
-use Rattle.std.proofs.Common.{◌≡◌, ℕ, List, [], Option, Some, None, Ok, Err, refl, sym, ap}
+use Rattle.std.proofs.Common.{◌≡◌, ℕ, List, Option, Some, None, Ok, Err, refl, sym, ap}
 use Rattle.std.proofs.lemmas.Option.{same_Some}
 use Rattle.mls_wire.specs.ExactReads.{DecodesAll-exact}
 use Rattle.mls_wire.specs.Faults.{too_long_at}

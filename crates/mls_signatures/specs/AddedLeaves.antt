@@ -1,5 +1,5 @@
 -- The leaves that the Adds of a commit's list add, as the implementation holds them. Internal: no public contract uses this.
-use Rattle.std.specs.Prelude.{◌≡◌, ℕ, zero, suc, ⊤, Bool, true, false, List, [], ◌∷◌, ◌++◌, map, Option, Some, None, IfSome, option_map, slice_get, ◌<◌}
+use Rattle.std.specs.Prelude.{◌≡◌, ℕ, zero, suc, ⊤, true, List, [], ◌∷◌, ◌++◌, map, Option, Some, None, IfSome, option_map, slice_get, ◌<◌}
 use Rattle.std.specs.Borrow.{Bor}
 use Rattle.std.specs.BTreeMap.{BTreeMap, get}
 use Rattle.std.specs.Ordering.{nat_cmp}

@@ -1,6 +1,6 @@
 -- The places at which a tree differs from the tree before a change.
 use Rattle.std.proofs.Common.{◌≡◌, ◌≢◌, get_or, ℕ, zero, suc, ◌+◌, ◌*◌, ◌-◌, ◌/◌, ◌<◌, ◌≤◌, List, [], ◌∷◌, ◌++◌, drop, length, Option, Some, None, true, false, refl, sym, ap, ◌∙◌, subst, inl, inr, arith, unwrap_or, nat_lt, Box, Global}
-use Rattle.std.specs.Prelude.{slice_get, ◌⊎◌, ◌==◌, if◌then◌else◌, option_map}
+use Rattle.std.specs.Prelude.{slice_get, ◌⊎◌, ◌==◌, if◌then◌else◌}
 use Rattle.std.specs.List.{list_any, range_with_len}
 use Rattle.std.proofs.lemmas.Bool.{cases_lt}
 use Rattle.std.proofs.lemmas.Bool.Decides.{nat_tests}

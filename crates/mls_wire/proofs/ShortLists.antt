@@ -4,7 +4,7 @@ use Rattle.std.specs.Int.{w16, to_be_bytes}
 use Rattle.mls_wire.specs.Input.{Input}
 use Rattle.mls_wire.specs.Encoding.{number}
 use Rattle.mls_wire.specs.Parsing.{number_at}
-use Rattle.mls_wire.specs.ExactParsers.{IsExact, IsLong}
+use Rattle.mls_wire.specs.ExactParsers.{IsExact}
 use Rattle.mls_wire.specs.IntegersExact.{number_below, number_exact, number_long, wide16}
 use Rattle.mls_wire.specs.ListLoops.{Shortens, shortens}
 

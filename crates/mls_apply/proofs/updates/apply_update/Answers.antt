@@ -1,7 +1,5 @@
 use Rattle.std.proofs.Common.{◌∙◌, ap, sym}
 use Rattle.std.specs.Prelude.{is_some, not}
-use Rattle.mls_nodes.specs.declared.leaf.LeafNode.{LeafNode}
-use Rattle.mls_tree.specs.TreeOperations.{update}
 use Rattle.mls_tree.proofs.Walking.{is_some-copied}
 use Rattle.mls_apply.specs.Senders.{member_index}
 use Rattle.mls_apply.specs.declared.list_item.ListItem.{ListItem}

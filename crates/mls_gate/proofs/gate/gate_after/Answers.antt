@@ -1,4 +1,4 @@
-use Rattle.std.proofs.Common.{rules, inl, inr, refl}
+use Rattle.std.proofs.Common.{rules, inr, refl}
 use Rattle.std.proofs.lemmas.Result.{IfOk-weaker, IfErr-weaker}
 use Rattle.mls_report.proofs.Outcomes.{IfErr-is}
 use Rattle.mls_gate.specs.GateSteps.{files_of, Are}

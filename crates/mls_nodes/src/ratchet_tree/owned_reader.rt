@@ -45,8 +45,8 @@ fn unread_parts(
 
 /// The entries of a ratchet_tree that are still to be read (RFC 9420, 12.4.3.3), with its bytes.
 ///
-/// The bytes are freed as they are read: a quarter of them at a time, but at least 65,536. So a caller that stores the
-/// entries doesn't need memory for all entries and all bytes at once.
+/// The bytes that were read are freed once they are half of all, and at least 65,536. So a caller that stores the entries
+/// doesn't need memory for all entries and all bytes at once.
 #[derive(Drop)]
 pub struct OwnedTreeReader {
     bytes: Vec<u8>,
@@ -89,7 +89,7 @@ impl OwnedTreeReader {
         let (body, _) = read_vector(bytes.as_slice())?;
         let next = body.position();
         let body_len = body.left().len();
-        let freed = (bytes.len() / 4).max(LEAST_FREED);
+        let freed = (bytes.len() / 2).max(LEAST_FREED);
         Ok(OwnedTreeReader {
             bytes,
             offset: 0,

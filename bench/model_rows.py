@@ -145,7 +145,8 @@ def agrees(line, names):
 def main():
     files = sys.argv[1:] or sorted(glob.glob(os.path.join(DATA, "*.rows")))
     shared, same, other = {}, 0, 0
-    for path in [os.path.join(DATA, "group.rows")] + [file for file in files if not file.endswith("group.rows")]:
+    first = os.path.join(DATA, "group.rows")
+    for path in [first] + [file for file in files if file != first]:
         names = dict(shared)
         for number, line in entries(path):
             if re.match(r"[A-Z][A-Z0-9_]* *=", line):

@@ -14,8 +14,10 @@ the group is the same for each K.
 """
 import sys
 
-# These two put their shapes into SHAPES.
+# These put their shapes into SHAPES.
 import large_shapes
+import list_shapes
+import repeated_shapes
 import small_shapes
 from shape import SHAPES, Input
 

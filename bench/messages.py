@@ -1,5 +1,9 @@
-"""Messages of groups that group.py makes, for cost.py: signatures and tags are empty, and any rule may be broken."""
+"""Messages, and files of states, of groups that group.py makes, for cost.py: signatures and tags are empty, and any
+rule may be broken."""
 from group import KEY_PACKAGE, Group, digest, key, key_package, leaf_bytes, new_leaf, number, optional, vector
+
+# An extension without data, of a type that no leaf lists.
+EXTENSION = number(0xF000, 2) + vector(b"")
 
 
 class Sparse(Group):
@@ -26,6 +30,35 @@ def with_capabilities(group, capabilities):
         group.leaves[index] = new_leaf("made", index, capabilities=capabilities)
         group.levels[0][index] = leaf_bytes(group.leaves[index], KEY_PACKAGE)
     group.hash_again(range(len(group.leaves)))
+    return group
+
+
+def put_leaves(group, leaves):
+    """Puts leaves, by their indices in increasing order, into the group. They become the last unmerged leaves of the
+    non-blank parents above them."""
+    for index, leaf in leaves.items():
+        group.leaves[index] = leaf
+        group.levels[0][index] = leaf_bytes(leaf, KEY_PACKAGE)
+        for level in range(1, group.depth + 1):
+            node = group.levels[level][index >> level]
+            if node:
+                node[2].append(index)
+    group.hash_again(leaves)
+
+
+def renew_paths(group, indices):
+    """Each of these members renews its path, in an epoch of its own."""
+    for index in indices:
+        group.renew(index, group.renewed(index))
+        group.epoch += 1
+
+
+def updated_group(members, name):
+    """A group whose leaf nodes have the source `update`, so that their signatures are over the group's id."""
+    group = Sparse(members, range(members), name)
+    for index in range(members):
+        group.levels[0][index] = leaf_bytes(group.leaves[index], b"\x02")
+    group.hash_again(range(members))
     return group
 
 
@@ -101,14 +134,23 @@ def remove(index):
     return number(3, 2) + number(index, 4)
 
 
-def psk(at):
+def psk(at, name=b"psk"):
     """A proposal of an external PSK, of its own nonce."""
-    return number(4, 2) + b"\x01" + vector(b"psk") + vector(number(at, 32))
+    return number(4, 2) + b"\x01" + vector(name) + vector(number(at, 32))
+
+
+def reinit(extensions=b""):
+    return number(5, 2) + vector(b"") + number(1, 2) * 2 + vector(extensions)
 
 
 def extensions_of(items):
     """A proposal of extensions of the context, by their types and data."""
     return number(7, 2) + vector(b"".join(number(kind, 2) + vector(data) for kind, data in items))
+
+
+def many_extensions(count):
+    """A proposal of that many extensions of the context, without data."""
+    return number(7, 2) + vector(EXTENSION * count)
 
 
 def inline(body):
@@ -123,3 +165,24 @@ def small_leaf(at):
 
 def inline_adds(count):
     return [inline(add(small_leaf(at))) for at in range(count)]
+
+
+def bare_leaf(credential=b"\x00\x01\x00", source=b"\x02", extensions=b"", name=b""):
+    """A leaf node without content, except what is given. The name is that of both keys."""
+    return vector(name) * 2 + credential + vector(b"") * 5 + source + vector(extensions) + vector(b"")
+
+
+def bare_update(leaf):
+    return number(2, 2) + leaf
+
+
+def bare_add(leaf, extensions=b""):
+    """An Add without content, except the leaf node and the extensions of its key package."""
+    return number(1, 2) * 3 + vector(b"") + leaf + vector(extensions) + vector(b"")
+
+
+def state_file(group, entries):
+    """The file of a state in the full profile. An entry is a pending proposal: its reference, sender and body."""
+    context = group.context(group.tree_hash())
+    state = b"\x02\x00" + context + vector(bytes(32)) + group.tree() + vector(b"".join(entries))
+    return number(1, 2) + vector(digest(state)) + state

@@ -46,6 +46,10 @@ class Input:
         told = [len(log) + (len(group.tree()) if touches_all else 0)]
         return told if share is None else [*told, len(messages), share]
 
+    def validate_tree(self, context, tree):
+        words = ["validate-tree", "--context", "CONTEXT", "--tree", "TREE", "--trust"]
+        return self.files(words, {"CONTEXT": context, "TREE": tree})
+
     def files(self, words, files):
         """A command on files, which its arguments name, in addition to its help."""
         for name, body in files.items():

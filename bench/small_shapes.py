@@ -3,14 +3,12 @@ import hashlib
 import json
 import os
 
-from group import KEY_PACKAGE, Group, leaf_bytes, new_leaf, number, vector
-from messages import (Sparse, add, commit, commit_with_path, extensions_of, false_path, false_path_above, far_members,
-                      framed, frozen, inline, inline_adds, message, proposal, remove, small_leaf, update,
+from group import Group, new_leaf, number, vector
+from messages import (Sparse, add, bare_add, bare_leaf, bare_update, commit, commit_with_path, extensions_of,
+                      false_path, false_path_above, far_members, framed, frozen, inline, inline_adds, many_extensions,
+                      message, proposal, put_leaves, reinit, remove, small_leaf, update, updated_group,
                       with_capabilities)
 from shape import shape
-
-# A leaf node whose keys, identity, lists and signature are empty.
-NO_CONTENT = vector(b"") * 2 + b"\x00\x01" + vector(b"") * 6 + b"\x02" + vector(b"") * 2
 
 # ---- one message, or a few
 
@@ -171,7 +169,7 @@ def many_required(put):
 @shape
 def many_context_extensions(put):
     group = frozen(Group(2))
-    body = extensions_of([(0xF000, b"")] * put.size(100_000))
+    body = many_extensions(put.size(100_000))
     return put.replay(group, [proposal(group, 0, body)[0], commit_with_path(group, [inline(body)])])
 
 
@@ -210,15 +208,14 @@ def psks_of_one_byte(put):
 def updates_without_content(put):
     """A list of Updates whose leaf nodes have no content."""
     group = Group(2)
-    return put.replay(group, [commit(group, [inline(number(2, 2) + NO_CONTENT)] * put.size(60_000))])
+    return put.replay(group, [commit(group, [inline(bare_update(bare_leaf()))] * put.size(60_000))])
 
 
 @shape
 def adds_without_content(put):
     """A list of Adds whose key packages and leaf nodes have no content."""
     group = Group(2)
-    package = number(1, 2) * 2 + vector(b"") + NO_CONTENT + vector(b"") * 2
-    return put.replay(group, [commit(group, [inline(number(1, 2) + package)] * put.size(40_000))])
+    return put.replay(group, [commit(group, [inline(bare_add(bare_leaf()))] * put.size(40_000))])
 
 
 @shape
@@ -230,8 +227,7 @@ def external_inits(put):
 @shape
 def reinits(put):
     group = Group(2)
-    items = [inline(b"\x00\x05\x00" + number(1, 2) * 2 + b"\x00")] * put.size(80_000)
-    return put.replay(group, [commit(group, items)], profile="full")
+    return put.replay(group, [commit(group, [inline(reinit())] * put.size(80_000))], profile="full")
 
 
 @shape
@@ -258,11 +254,7 @@ def application_messages(put):
 @shape
 def signatures_of_a_long_group_id(put):
     """Each leaf's signature is over the group's id, so the output is their product, and the memory may not be."""
-    count = put.size(1_000)
-    group = Sparse(count, range(count), bytes(96_000))
-    for index in range(count):
-        group.levels[0][index] = leaf_bytes(group.leaves[index], b"\x02")
-    group.hash_again(range(count))
+    group = updated_group(put.size(1_000), bytes(96_000))
     return put.files(["signatures", "--info", "INFO", "--tree", "TREE"], {"INFO": group.info(), "TREE": group.tree()})
 
 
@@ -284,15 +276,8 @@ def validate_unmerged(put):
     leaves = put.full(16_384)
     group = Sparse(leaves, far_members(leaves))
     group.renew(0, group.renewed(0))
-    added = [index for index in range(leaves) if not group.leaves[index]]
-    for index in added:
-        group.levels[0][index] = leaf_bytes(new_leaf("made", index), KEY_PACKAGE)
-    for level in range(1, group.depth + 1):
-        parent = group.levels[level][0]
-        parent[2].extend(index for index in added if index < 1 << level)
-    group.hash_again(added)
-    files = {"CONTEXT": group.context(group.tree_hash()), "TREE": group.tree()}
-    return put.files(["validate-tree", "--context", "CONTEXT", "--tree", "TREE", "--trust"], files)
+    put_leaves(group, {index: new_leaf("made", index) for index in range(leaves) if not group.leaves[index]})
+    return put.validate_tree(group.context(group.tree_hash()), group.tree())
 
 
 @shape

@@ -1,0 +1,295 @@
+"""Shapes for cost.py: many small messages or items that each touch something large."""
+from group import EXTERNAL_INIT, Group, key, leaf_bytes, new_leaf, number, vector
+from large_shapes import refused_by
+from messages import (EXTENSION, Sparse, add, bare_leaf, bare_update, commit, commit_with_path, extensions_of,
+                      external_commit, false_path, far_members, frozen, inline, inline_adds, many_extensions, proposal,
+                      psk, put_leaves, reinit, remove, renew_paths, small_leaf, state_file, updated_group,
+                      with_capabilities)
+from shape import shape
+
+# Capabilities that list both types of credentials, and those that list the type of EXTENSION.
+BOTH = bytes.fromhex("020001 020001 00 00 0400010002")
+LISTING = bytes.fromhex("020001 020001 02f000 00 020001")
+
+# A path without nodes, and one that is too long in any tree. Rule 19 refuses the first one if there are two members.
+NO_NODES = false_path(b"", b"")
+MANY_NODES = false_path(b"", b"\x00\x00" * 40)
+
+
+class Extended(Group):
+    """A group of two members whose context has these extensions."""
+
+    def __init__(self, extensions):
+        super().__init__(2)
+        self.extensions = extensions
+
+    def context(self, tree_hash):
+        return super().context(tree_hash)[:-1] + vector(self.extensions)
+
+
+def external_senders(count):
+    """The extension of many external senders without keys and identities."""
+    return number(5, 2) + vector(vector((vector(b"") + b"\x00\x01" + vector(b"")) * count))
+
+
+def large_leaf(size):
+    return new_leaf("large")._replace(credential=b"\x00\x01" + vector(bytes(size)))
+
+
+# ---- a large context
+
+
+def external_proposals(put, extensions, least):
+    """Proposals of an external sender whom the context does not list, in a group with these extensions."""
+    group = Extended(extensions)
+    head = vector(group.NAME) + number(group.epoch, 8) + b"\x02" + number(2**32 - 1, 4) + vector(b"")
+    sent = number(1, 2) * 2 + head + b"\x02" + remove(1) + vector(b"")
+    return put.replay(group, [sent] * put.size(least), profile="full")
+
+
+@shape
+def external_proposals_and_many_senders(put):
+    """Proposals of an external sender whom the context does not list, though it lists many. The list may not be decoded
+    for each proposal."""
+    return external_proposals(put, external_senders(put.size(40_000)), 100)
+
+
+@shape
+def external_proposals_and_many_extensions(put):
+    """Proposals of an external sender to a group whose context has many extensions, but no external senders. The
+    extensions may not be searched for each proposal."""
+    return external_proposals(put, EXTENSION * put.size(100_000), 200)
+
+
+@shape
+def state_of_external_proposals(put):
+    """A state of many external senders, and of many pending proposals of one of them. The senders may not be decoded
+    for each proposal."""
+    group = Extended(external_senders(put.size(15_000)))
+    entries = [vector(key("reference", at)) + b"\x02" + number(0, 4) + remove(1) for at in range(put.size(300))]
+    return put.files(["validate", "--state", "STATE", "--trust"], {"STATE": state_file(group, entries)})
+
+
+@shape
+def commits_below_a_long_context(put):
+    """A few commits that are refused by 19, in a group whose context has many extensions, which may not be copied."""
+    group = Extended(EXTENSION * put.size(100_000))
+    return put.replay(group, [commit(group, [], NO_NODES)] * 4)
+
+
+# ---- a long key
+
+
+@shape
+def long_key_above_adds(put):
+    """Adds below one parent, whose encryption key is long. The key may not be hashed for each of them."""
+    leaves = put.full(8_192)
+    group = Sparse(leaves, [0, leaves - 1])
+    group.renew(0, group.renewed(0), {0: bytes(put.size(16_000))})
+    return put.replay(group, [commit(group, inline_adds(put.size(1_500)))])
+
+
+@shape
+def adds_with_a_path_of_a_long_key(put):
+    """Adds, and a path with a long key for the root. The key may not be hashed for each Add."""
+    leaves = put.full(2_048)
+    group = Sparse(leaves, far_members(leaves))
+    renew_paths(group, [0])
+    frozen(group)
+    blanks = [index for index, leaf in enumerate(group.leaves) if not leaf][:put.size(1_000)]
+    put_leaves(group, {index: small_leaf(at) for at, index in enumerate(blanks)})
+    path = group.renew(0, group.renewed(0), {group.depth - 1: bytes(put.size(16_000))})
+    return put.replay(group, [commit(group, inline_adds(len(blanks)), group.path_bytes(0, path, set(blanks)))])
+
+
+@shape
+def known_add_of_long_keys_named_again_refused_19(put):
+    """A pending Add with long keys, and a commit with a path that names it many times. The keys may not be hashed for
+    each copy."""
+    group = Group(2)
+    length = put.size(16_000)
+    leaf = new_leaf("large")._replace(encryption=b"e" * length, signature=b"s" * length)
+    sent, item = proposal(group, 0, add(leaf))
+    return put.replay(group, [sent, commit(group, [item] * put.size(480), NO_NODES)])
+
+
+@shape
+def known_add_of_a_long_key_named_by_many_refused_25(put):
+    """A pending Add with a long encryption key and a member's signature key, and small commits that each name it once.
+    The key may not be hashed for each commit."""
+    group = Group(2)
+    leaf = new_leaf("large")._replace(encryption=b"e" * put.size(32_000), signature=group.leaves[1].signature)
+    sent, item = proposal(group, 0, add(leaf))
+    return put.replay(group, [sent] + [commit(group, [item])] * put.size(300))
+
+
+# ---- a large pending proposal, or a large leaf
+
+
+@shape
+def known_extensions_named_by_many_refused_19(put):
+    """A pending proposal of many extensions of the context, and small commits that each name it once. The extensions
+    may not be copied for each commit."""
+    group = Group(2)
+    sent, item = proposal(group, 0, many_extensions(put.size(12_000)))
+    return put.replay(group, [sent] + [commit(group, [item], NO_NODES)] * put.size(400))
+
+
+@shape
+def known_psks_named_by_many_refused_35(put):
+    """Eight pending PSKs of one long id, and small commits that each name all of them, and a ReInit. The ids may not be
+    compared for each commit."""
+    group = Group(2)
+    name = bytes(put.size(40_000))
+    pairs = [proposal(group, 0, psk(at, name)) for at in range(8)]
+    refused = commit(group, [item for _, item in pairs] + [inline(reinit())])
+    return put.replay(group, [sent for sent, _ in pairs] + [refused] * put.size(600), profile="full")
+
+
+@shape
+def large_leaf_hashed_again_refused_25(put):
+    """A committer whose leaf is large, and its commits with a path, whose new leaf has an extension that it does not
+    list. After each refusal the large leaf may not be hashed again."""
+    group = Group(2)
+    group.set_leaf(0, large_leaf(put.size(64_000)))
+    path = frozen(group).renew(0, new_leaf("again")._replace(extensions=EXTENSION))
+    return put.replay(group, [commit(group, [], group.path_bytes(0, path, set()))] * put.size(400))
+
+
+# ---- unmerged leaves
+
+
+def before_unmerged(put, last):
+    """A valid tree whose root has three quarters of the leaves as unmerged, those on the right, and Adds that fill
+    blank leaves on the left."""
+    leaves = put.full(65_536)
+    quarter = leaves // 4
+    group = Sparse(leaves, [0, quarter, 2 * quarter])
+    renew_paths(group, [0])
+    put_leaves(group, {at: new_leaf("made", at) for at in range(quarter + 1, leaves) if at != 2 * quarter})
+    items = inline_adds(put.size(16_000)) + [inline(add(leaf)) for leaf in last(group)]
+    return put.replay(group, [commit(group, items)])
+
+
+@shape
+def adds_before_unmerged(put):
+    """Adds whose leaves come before many unmerged leaves. These may not be moved for each Add."""
+    return before_unmerged(put, lambda group: [])
+
+
+@shape
+def adds_before_unmerged_refused(put):
+    """Adds whose leaves come before many unmerged leaves. These may not be moved again for each Add that is undone."""
+    return before_unmerged(put, lambda group: [new_leaf("last")._replace(encryption=group.leaves[0].encryption)])
+
+
+# ---- a large tree that is truncated or extended
+
+
+@shape
+def halved_to_a_half(put):
+    """Three members of a wide tree, and commits that are refused by 19, which remove the only one in the right half.
+    The left half remains, and may not be copied."""
+    last = 262_143
+    group = Sparse(last + 1, [0, last // 2, last])
+    return put.replay(group, [commit(group, [inline(remove(last))], MANY_NODES)] * put.size(12), share=0.05)
+
+
+@shape
+def halving_taken_back_in_a_growing_tree(put):
+    """Two members of a wide tree, and commits that are refused by 19, of which each second one removes the right
+    member. The blank nodes of the right half may not be listed for each commit."""
+    last = put.full(262_144) - 1
+    group = Sparse(last + 1, [0, last])
+    pair = [commit(group, [inline(remove(last))], MANY_NODES), commit(group, [], MANY_NODES)]
+    return put.replay(group, pair * put.size(6))
+
+
+@shape
+def halving_by_a_stranger(put):
+    """External commits of a client that takes the place of the last member of a nearly blank tree, refused by 19. A
+    stranger can send them, and the tree's blank nodes may not be listed for each."""
+    last = put.full(131_072) - 1
+    group = Sparse(last + 1, [0, last])
+    leaf = new_leaf("stranger")._replace(credential=group.leaves[last].credential)
+    path = leaf_bytes(leaf, b"\x03" + vector(b"")) + vector(b"\x00\x00" * 40)
+    sent = external_commit(group, [inline(EXTERNAL_INIT), inline(remove(last))], path)
+    return put.replay(group, [sent] * put.size(20), profile="full")
+
+
+@shape
+def shrinking_refused_19(put):
+    """A full left half and one member in the right one, and commits that remove this one and are refused by 19. The
+    left half may not be moved or copied for each commit."""
+    last = put.full(32_768)
+    group = Group(last + 1)
+    return put.replay(group, [commit(group, [inline(remove(last))], NO_NODES)] * put.size(25))
+
+
+@shape
+def full_group_of_many_refused_19(put):
+    """The messages of `full-group-refused-19` in a far larger group. The tree, which is extended for each, may not be
+    copied."""
+    return refused_by(put, Group(put.full(65_536), put.full(4_096)), 19, touches_all=True)
+
+
+# ---- members of whom only the last one breaks a rule
+
+
+@shape
+def credential_lacked_by_the_last(put):
+    """Commits that add one with a type of credential that only the last member of a nearly blank tree does not list.
+    The leaves may not be searched for each commit."""
+    last = put.full(262_144) - 1
+    group = Sparse(last + 1, [0, last])
+    group.set_leaf(0, new_leaf("made", 0, capabilities=BOTH))
+    leaf = new_leaf("joined", capabilities=BOTH)._replace(credential=b"\x00\x02" + vector(b""))
+    return put.replay(group, [commit(group, [inline(add(leaf))])] * put.size(250))
+
+
+@shape
+def required_unmet_by_the_last(put):
+    """Commits that require an extension that all members list except the last one. The lists of the leaves may not be
+    searched for each commit."""
+    count = put.full(16_384)
+    group = with_capabilities(Group(count), LISTING)
+    group.set_leaf(count - 1, new_leaf("made", count - 1))
+    group.renewed = lambda index: new_leaf("renewed", index, group.epoch, capabilities=LISTING)
+    renew_paths(group, range(0, count, 16))
+    body = extensions_of([(3, vector(number(0xF000, 2)) + vector(b"") * 2)])
+    return put.replay(group, [commit_with_path(frozen(group), [inline(body)])] * put.size(60))
+
+
+# ---- signatures: the output repeats what is large, so it is a product, and the memory may not be
+
+
+@shape
+def signatures_of_updates_and_a_long_group_id(put):
+    """Updates in one commit, each of which signs the group's long id. Their contents may not be held at once."""
+    group = Sparse(2, range(2), bytes(96_000))
+    updates = [bare_update(bare_leaf(name=number(at, 3))) for at in range(put.size(250))]
+    return put.replay(group, [commit(group, [inline(body) for body in updates])], "signatures")
+
+
+@shape
+def signatures_of_a_state_of_a_long_group_id(put):
+    """A state of members whose leaves each sign the group's long id. Their contents may not be held at once."""
+    group = updated_group(put.size(250), bytes(96_000))
+    return put.files(["signatures", "--state", "STATE"], {"STATE": state_file(group, [])})
+
+
+@shape
+def signatures_of_commits_that_name_a_large_add(put):
+    """A large pending Add, and small commits that each name it once. The leaf's signature is printed for each."""
+    group = Group(2)
+    sent, item = proposal(group, 0, add(large_leaf(48_000)))
+    return put.replay(group, [sent] + [commit(group, [item], NO_NODES)] * put.size(400), "signatures")
+
+
+@shape
+def signatures_under_a_long_key(put):
+    """Small proposals of a member with a long signature key, which is printed with each."""
+    group = Group(2)
+    group.set_leaf(0, new_leaf("made", 0)._replace(signature=bytes(48_000)))
+    sent = [proposal(group, 0, remove(1), b"%d" % at)[0] for at in range(put.size(400))]
+    return put.replay(group, sent, "signatures")

@@ -143,22 +143,23 @@ fn carries(source: &LeafSource, hash: &HashValue) -> bool
     }
 }
 
-/// Returns the node indices of the nodes of a path, if it satisfies the rules for paths except the last one, on the
-/// parent hash. No rule here takes a hash.
-fn checked_node_indices(
+/// Returns the node indices of the nodes of a path, if it has one node for each node of the committer's filtered direct
+/// path, and its leaf node is from a commit. These rules for paths come first, and need no index of the tree's keys.
+///
+/// # Errors
+///
+/// `NoSuchLeaf` if the tree has no such leaf, before any allocation; else `PathLength` or `PathSource`, the first that
+/// applies; or `OutOfMemory`.
+pub(crate) fn fitting_node_indices(
     alloc: Global,
     tree: &PublicTree,
-    index: &TreeIndex,
     path: &CommitterPath<'_>,
 ) -> Result<Vec<u32>, ApplyFault>
-    requires { ContainsKeysOf tree.now.tree index.now }
     ensures node_indices { IfOk result (λ node_indices. let t = tree.now.tree in
         node_indices.items ≡ filtered_direct_path (leaf_count t) 0 t path.now.leaf) }
     ensures paired { IfOk result (λ node_indices. length path.now.path.now.nodes ≡ length node_indices.items) }
     ensures inside { OnOk result (path.now.leaf < leaf_count tree.now.tree) }
-    ensures rules_hold { OnOk result ((H : List ℕ → List ℕ)
-        → committer_path_refusal H tree.now.tree path.now
-        ≡ hash_refusal H path.now.path.now tree.now.tree path.now.leaf) }
+    ensures commit { OnOk result (is_from_commit path.now.path.now.leaf_node.source ≡ true) }
     ensures refused { IfErr result (λ e. e ≢ ApplyFault.OutOfMemory → (H : List ℕ → List ℕ)
         → committer_path_refusal H tree.now.tree path.now ≡ Some e) }
     ensures outside { (result ≡ Err ApplyFault.NoSuchLeaf)
@@ -172,18 +173,47 @@ fn checked_node_indices(
     if !is_from_commit(&path.path.leaf_node.source) {
         return Err(ApplyFault::PathSource);
     }
+    Ok(node_indices)
+}
+
+/// Checks the keys and the ciphertexts of a path that satisfies the rules of [`fitting_node_indices`], which returned
+/// `node_indices`. The index must contain the tree's keys. No tree hash is computed.
+///
+/// # Errors
+///
+/// The first of `PathKeyUsed` and `CiphertextCount` that applies, or `OutOfMemory`.
+pub(crate) fn check_keys_and_counts(
+    alloc: Global,
+    tree: &PublicTree,
+    index: &TreeIndex,
+    node_indices: &[u32],
+    path: &CommitterPath<'_>,
+) -> Result<(), ApplyFault>
+    requires index_contains_keys { ContainsKeysOf tree.now.tree index.now }
+    requires node_indices { let t = tree.now.tree in
+        node_indices.now ≡ filtered_direct_path (leaf_count t) 0 t path.now.leaf }
+    requires paired { length path.now.path.now.nodes ≡ length node_indices.now }
+    requires inside { path.now.leaf < leaf_count tree.now.tree }
+    requires commit { is_from_commit path.now.path.now.leaf_node.source ≡ true }
+    ensures rules_hold { OnOk result ((H : List ℕ → List ℕ)
+        → committer_path_refusal H tree.now.tree path.now
+        ≡ hash_refusal H path.now.path.now tree.now.tree path.now.leaf) }
+    ensures refused { IfErr result (λ e. e ≢ ApplyFault.OutOfMemory → (H : List ℕ → List ℕ)
+        → committer_path_refusal H tree.now.tree path.now ≡ Some e) }
+{
+    let nodes = path.path.nodes.as_slice();
     if !has_new_keys(alloc, path.path, tree, index)? {
         return Err(ApplyFault::PathKeyUsed);
     }
     let added = path.added.as_slice();
     let above = PathNodeIndices {
         leaf: path.leaf,
-        node_indices: &node_indices,
+        node_indices,
     };
     if !have_counts(alloc, tree, &above, added, nodes)? {
         return Err(ApplyFault::CiphertextCount);
     }
-    Ok(node_indices)
+    Ok(())
 }
 
 /// Returns the new nodes of a path that satisfies the other rules for paths, if its leaf has the parent hash that the
@@ -223,33 +253,61 @@ fn new_nodes(
     })
 }
 
-/// Returns the new nodes of a path, if it satisfies the rules for paths, by an index of the tree. The hashes that the
-/// tree caches of its subtrees are filled before the last rule is checked, and only then: parent hashes take them.
+/// Returns the new nodes of a path that satisfies the rules of [`fitting_node_indices`] and [`check_keys_and_counts`], if
+/// it satisfies the last rule for paths. The path's nodes are those at `node_indices`. The hashes that the tree caches of
+/// its subtrees are filled before this rule is checked, and only then: parent hashes take them.
 ///
 /// # Errors
 ///
-/// `NoSuchLeaf` if the tree has no such leaf, before any allocation; else the first of `PathLength`, `PathSource`,
-/// `PathKeyUsed`, `CiphertextCount` and `PathParentHash` that applies; `OutOfMemory`. The tree is unchanged, except
-/// for hashes that are filled.
+/// `PathParentHash` or `OutOfMemory`. The tree is unchanged, except for hashes that are filled.
 pub(crate) fn filled_nodes(
     alloc: Global,
     suite: Suite,
     tree: &mut PublicTree,
-    index: &TreeIndex,
+    node_indices: &[u32],
     path: &CommitterPath<'_>,
 ) -> Result<NewNodes, ApplyFault>
-    requires { ContainsKeysOf tree.old.tree index.now }
+    requires node_indices { let t = tree.old.tree in
+        node_indices.now ≡ filtered_direct_path (leaf_count t) 0 t path.now.leaf }
+    requires paired { length path.now.path.now.nodes ≡ length node_indices.now }
+    requires inside { path.now.leaf < leaf_count tree.old.tree }
+    requires other_rules_hold { let H = hash_of suite in committer_path_refusal H tree.old.tree path.now
+        ≡ hash_refusal H path.now.path.now tree.old.tree path.now.leaf }
     ensures tree { tree.new.tree ≡ tree.old.tree }
     ensures made { IfOk result (AreNewNodes (hash_of suite) tree.old.tree path.now) }
     ensures rules_hold { OnOk result (committer_path_refusal (hash_of suite) tree.old.tree path.now ≡ None) }
     ensures refused { IfErr result (λ e. e ≢ ApplyFault.OutOfMemory
         → committer_path_refusal (hash_of suite) tree.old.tree path.now ≡ Some e) }
-    ensures outside { (result ≡ Err ApplyFault.NoSuchLeaf)
-        ↔ (leaf_count tree.old.tree ≤ path.now.leaf) }
 {
-    let node_indices = checked_node_indices(alloc, tree, index, path)?;
     fill(alloc, suite, tree)?;
-    new_nodes(alloc, suite, tree, node_indices.as_slice(), path)
+    new_nodes(alloc, suite, tree, node_indices, path)
+}
+
+/// Returns the new nodes of a path, if it satisfies the rules for paths. The tree's keys are indexed only if it satisfies
+/// those of [`fitting_node_indices`].
+///
+/// # Errors
+///
+/// `NoSuchLeaf` if the tree has no such leaf, before any allocation; else the first of `PathLength`, `PathSource`,
+/// `PathKeyUsed`, `CiphertextCount` and `PathParentHash` that applies; or `OutOfMemory`. The tree is unchanged, except
+/// for hashes that are filled.
+fn checked_nodes(
+    alloc: Global,
+    suite: Suite,
+    tree: &mut PublicTree,
+    path: &CommitterPath<'_>,
+) -> Result<NewNodes, ApplyFault>
+    ensures tree { tree.new.tree ≡ tree.old.tree }
+    ensures made { IfOk result (AreNewNodes (hash_of suite) tree.old.tree path.now) }
+    ensures rules_hold { OnOk result (committer_path_refusal (hash_of suite) tree.old.tree path.now ≡ None) }
+    ensures refused { IfErr result (λ e. e ≢ ApplyFault.OutOfMemory
+        → committer_path_refusal (hash_of suite) tree.old.tree path.now ≡ Some e) }
+{
+    let node_indices = fitting_node_indices(alloc, tree, path)?;
+    let index = TreeIndex::of(alloc, tree)?;
+    check_keys_and_counts(alloc, tree, &index, node_indices.as_slice(), path)?;
+    drop(index);
+    filled_nodes(alloc, suite, tree, node_indices.as_slice(), path)
 }
 
 /// Returns the tree with an update path of the committer merged (RFC 9420, 7.5). Its leaf is that of the path, the
@@ -288,16 +346,12 @@ pub fn merge_path(
         return Err((ApplyFault::NoSuchLeaf, applied));
     }
     let Applied { mut tree, added } = applied;
-    let Ok(index) = TreeIndex::of(alloc, &tree) else {
-        return Err((ApplyFault::OutOfMemory, Applied { tree, added }));
-    };
     let of_committer = CommitterPath {
         leaf: committer,
         added: &added,
         path,
     };
-    let new = filled_nodes(alloc, suite, &mut tree, &index, &of_committer);
-    drop(index);
+    let new = checked_nodes(alloc, suite, &mut tree, &of_committer);
     match new {
         Ok(new) => {
             put_path(&mut tree, committer, new);

@@ -26,7 +26,7 @@ use crate::list_application::{Leaves, apply_list_in_place};
 use crate::list_fit::check_list_fits;
 use crate::list_item::ListItem;
 use crate::new_parents::{fill, put_path_in_place};
-use crate::path_merge::filled_nodes;
+use crate::path_merge::{check_keys_and_counts, filled_nodes, fitting_node_indices};
 use crate::requirements::same_requirements;
 use mls_check::{MemberFault, OutOfMemory, SignatureCheck, first_unmet_requirement};
 use mls_hash::{HashFault, Suite, tree_hash};
@@ -187,14 +187,14 @@ impl StagedTree {
         leaf_for_member(&mut self.tree, &mut self.journal, 0)
     }
 
-    /// Merges an update path (RFC 9420, 7.5). The path's keys are looked up in the index, to which the
-    /// changes are added first.
+    /// Merges an update path (RFC 9420, 7.5). The changes are added to the index, and the path's keys are looked up in it.
     ///
     /// # Errors
     ///
     /// Those of [`merge_path`](crate::merge_path), in its order. The tree is unchanged, except after `OutOfMemory`,
-    /// when a part of the path may have been merged. No hash is computed for a path that is refused by a rule before
-    /// `PathParentHash`.
+    /// when a part of the path may have been merged. `NoSuchLeaf`, `PathLength` and `PathSource` are checked before the
+    /// changes are added to the index: no key is hashed for a path that is refused as one of them. No tree hash is
+    /// computed for a path that is refused by a rule before `PathParentHash`.
     pub fn merge_path(
         &mut self,
         alloc: Global,
@@ -210,12 +210,14 @@ impl StagedTree {
             (λ e. e ≢ ApplyFault.OutOfMemory → self.new.tree ≡ self.old.tree) }
         ensures base { self.new.base ≡ self.old.base }
     {
+        let node_indices = fitting_node_indices(alloc, &self.tree, path)?;
         self.staged_nodes = None;
         self.clean = false;
         let tree = &mut self.tree;
         let journal = &mut self.journal;
         drop(stage_changed_nodes(alloc, tree, journal, &mut self.index)?);
-        let new = filled_nodes(alloc, suite, tree, &self.index, path)?;
+        check_keys_and_counts(alloc, tree, &self.index, node_indices.as_slice(), path)?;
+        let new = filled_nodes(alloc, suite, tree, node_indices.as_slice(), path)?;
         put_path_in_place(alloc, tree, journal, path.leaf, new)?;
         Ok(())
     }

@@ -279,7 +279,11 @@ fn replay_info<F: Files, K: Sink>(
     match replay_group_in(
         alloc, profile, &mut info, &mut tree, &mut log, verifier, out,
     ) {
-        Ok(replayed) => store_after(&replayed, &replay.save, files),
+        Ok(replayed) => {
+            let stored = store_after(&replayed, &replay.save, files);
+            drop(replayed);
+            stored
+        }
         Err(fault) => Err(fault),
     }
 }
@@ -308,7 +312,11 @@ fn replay_stored<F: Files, K: Sink>(
         return Err(RunFault::Read);
     };
     match replay_state(alloc, &mut input, &mut log, verifier, out) {
-        Ok(replayed) => store_after(&replayed, &replay.save, files),
+        Ok(replayed) => {
+            let stored = store_after(&replayed, &replay.save, files);
+            drop(replayed);
+            stored
+        }
         Err(fault) => Err(fault),
     }
 }

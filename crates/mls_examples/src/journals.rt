@@ -178,15 +178,15 @@ fn changed_node_indices_are_returned(rt: HostRuntime) -> Result<(), Fail> {
         (&[Change::Entry(2)], "[3]"),
         (
             &[Change::Leaf(1), Change::Growth],
-            "[7, 8, 9, 10, 11, 12, 13, 14, 2]",
+            "[2, 7, 8, 9, 10, 11, 12, 13, 14]",
         ),
         (
             &[Change::Growth, Change::Halving],
-            "[7, 8, 9, 10, 11, 12, 13, 14, 7, 8, 9, 10, 11, 12, 13, 14]",
+            "[7, 8, 9, 10, 11, 12, 13, 14]",
         ),
         (
             &[Change::Leaf(3), Change::Leaf(2), Change::Halving],
-            "[3, 4, 5, 6, 4, 6]",
+            "[3, 4, 5, 6]",
         ),
     ];
     for (input, expected) in CHANGES {

@@ -1,8 +1,6 @@
--- What is required of members after a commit, by the extensions that its list brings.
-use Rattle.std.proofs.Common.{◌≡◌, ◌∙◌, List, Option, Some, None, Result, Ok, Err, refl, ap, subst}
+-- What is required of members after a commit, by the extensions that its list proposes.
+use Rattle.std.proofs.Common.{◌≡◌, ◌∙◌, List, Option, Some, None, Ok, Err, refl}
 use Rattle.std.specs.Prelude.{unwrap_or}
-use Rattle.mls_wire.specs.ParsingInternal.{Finds}
-use Rattle.mls_wire.specs.declared.fault.CodecFault.{CodecFault}
 use Rattle.mls_wire.specs.declared.fault.CodecFault.TheVariants as faults
 use Rattle.mls_wire.specs.declared.fault.WireFault.{WireFault}
 use Rattle.mls_nodes.proofs.RequiredOnce.{required_by-determines, required_by-determined, required_by-found}
@@ -26,16 +24,12 @@ module _ (context : GroupContext) (required : RequiredCapabilities) (items : Lis
   pub required_after-requires : (new : RequiredCapabilities) → required_after required (proposed_extensions items) ≡ Some new → RequiresBy (new_extensions context.extensions items) new
   required_after-requires new e = required_by-determines (new_extensions context.extensions items) new (required_by-new ∙ e)
 
-  -- what is found of those extensions says so
-  found : (extensions : List Extension) (result : Result RequiredCapabilities CodecFault)
-      → extensions ≡ new_extensions context.extensions items → FindsRequirements (extension_of 3 extensions) result → Finds (required_after required (proposed_extensions items)) result
-  found extensions result e h =
-      subst (λ (o : Option RequiredCapabilities). Finds o result) (ap required_by e ∙ required_by-new) (required_by-found extensions result h)
+-- what is found of the extensions that a list proposes is what is required after it, whatever is required before
+module _ (items : List ListItem) (extensions : List Extension) (proposed : Some extensions ≡ proposed_extensions items) where
+  pub required_after_read : (r : RequiredCapabilities) → FindsRequirements (extension_of 3 extensions) (Ok r)
+      → (former : RequiredCapabilities) → required_after former (proposed_extensions items) ≡ Some r
+  required_after_read r h former = rw (← proposed) (required_by-determined extensions r h)
 
-  pub required_after_read : (extensions : List Extension) (r : RequiredCapabilities) → extensions ≡ new_extensions context.extensions items
-      → FindsRequirements (extension_of 3 extensions) (Ok r) → required_after required (proposed_extensions items) ≡ Some r
-  required_after_read extensions r e h = found extensions (Ok r) e h
-
-  pub required_after_unread : (extensions : List Extension) (f : WireFault) → extensions ≡ new_extensions context.extensions items
-      → FindsRequirements (extension_of 3 extensions) (Err (faults.Wire f)) → required_after required (proposed_extensions items) ≡ None
-  required_after_unread extensions f e h = found extensions (Err (faults.Wire f)) e h
+  pub required_after_unread : (f : WireFault) → FindsRequirements (extension_of 3 extensions) (Err (faults.Wire f))
+      → (former : RequiredCapabilities) → required_after former (proposed_extensions items) ≡ None
+  required_after_unread f h former = rw (← proposed) (required_by-found extensions (Err (faults.Wire f)) h)

@@ -1,12 +1,13 @@
 //! The rules for a commit (RFC 9420, 12.4.2), and how it changes the group's tree, in place.
 
-ghost use Rattle.std.specs.Prelude.{◌≡◌, ◌≢◌, ◌<◌, ℕ, Some, None, IsSome, IsTrue, IfOk, IfErr, OnOk, is_some, true, false};
+ghost use Rattle.std.specs.Prelude.{◌≡◌, ◌≢◌, ◌<◌, ℕ, Some, None, IsSome, IsTrue, IfOk, IfErr, OnOk, is_some, option_map, true, false};
 ghost use Rattle.mls_hash.specs.SuiteHash.{hash_of};
 ghost use Rattle.mls_nodes.specs.declared.required_capabilities.RequiredCapabilities.{RequiredCapabilities};
 ghost use Rattle.mls_check.specs.Signatures.{VerifyFn};
 ghost use Rattle.mls_tree.specs.Tree.{leaf_at, leaf_count};
 ghost use Rattle.mls_tree.specs.TreeHash.{tree_hash};
 ghost use Rattle.mls_msgs.specs.declared.framed_content.Sender.TheVariants.{Member};
+ghost use Rattle.mls_apply.specs.ContextExtensions.{proposed_extensions};
 ghost use Rattle.mls_apply.specs.ResolvedList.{resolved};
 ghost use Rattle.mls_apply.specs.JoinRules.{join_items, join_refusal};
 ghost use Rattle.mls_apply.specs.ListRules.{list_refusal};
@@ -24,7 +25,8 @@ ghost use Rattle.mls_follow.specs.MessageRulesInternal.{commit_refusal, external
 ghost use Rattle.mls_follow.specs.CommitTree.{change_rules, in_context};
 
 use crate::changed_tree_check::{TreeRules, check_changed_tree};
-use crate::group::Group;
+use crate::group::{Group, StagedContext};
+use crate::next_extensions::copy_of_proposed;
 use crate::proposals_by_value::check_inline;
 use crate::refusal::Refusal;
 use crate::resolved::{ReceivedCommit, ResolvedCommit};
@@ -231,15 +233,16 @@ fn check_added_keys(
     Err(repeated_key_refusal(alloc, tree, commit.items.as_slice()))
 }
 
-/// Stages a commit, and returns the tree hash after it, if the tree after the list and the path satisfies its rules.
-/// The changes can then be made final. On error a part of the commit may have been applied.
+/// Stages a commit, and returns what it changes in the GroupContext, if the tree after the list and the path satisfies its
+/// rules. The changes can then be made final. The proposed extensions are copied last. On error a part of the commit may
+/// have been applied.
 pub(crate) fn stage_commit<C: SignatureCheck>(
     alloc: Global,
     rules: &TreeRules<'_>,
     checker: &C,
     tree: &mut StagedTree,
     commit: &ResolvedCommit<'_>,
-) -> Result<Opaque, Refusal>
+) -> Result<StagedContext, Refusal>
     requires present { IsTrue (is_present tree.old.tree commit.now.committer) }
     requires rules_hold { SatisfiesTreeRules (C.meaning checker.now) rules.now.context.now rules.now.former.now
         tree.old.base }
@@ -256,11 +259,18 @@ pub(crate) fn stage_commit<C: SignatureCheck>(
         OnOk result (changed_tree H commit.now.committer commit.now.path.now o
         ≡ Some tree.new.tree) }
     ensures hash { let H = hash_of rules.now.context.now.cipher_suite in
-        IfOk result (λ hash. tree_hash H 0 tree.new.tree ≡ Some hash) }
+        IfOk result (λ staged. tree_hash H 0 tree.new.tree ≡ Some staged.tree_hash) }
+    ensures extensions { IfOk result (λ staged.
+        option_map (λ next. next.extensions) staged.extensions ≡ proposed_extensions commit.now.items.items) }
     ensures base { tree.new.base ≡ tree.old.base }
     ensures is_index_of_tree { OnOk result (tree.new.indexed ≡ true) }
 {
     check_added_keys(alloc, tree, commit)?;
     change_tree(alloc, rules.suite, tree, commit)?;
-    check_changed_tree(alloc, rules, checker, tree)
+    let tree_hash = check_changed_tree(alloc, rules, checker, tree)?;
+    let extensions = copy_of_proposed(alloc, commit.items.as_slice())?;
+    Ok(StagedContext {
+        tree_hash,
+        extensions,
+    })
 }

@@ -3,6 +3,7 @@
 ghost use Rattle.std.specs.Prelude.{◌≡◌, ◌≢◌, ◌↔◌, ℕ, ◌<◌, List, length, None, Err, IfOk, IfErr, OnOk, OnErr, IsErrAnd, option_map};
 ghost use Rattle.mls_wire.specs.Limits.{input_limit};
 ghost use Rattle.mls_tree.specs.PublicTreeModel.{plain};
+ghost use Rattle.mls_nodes.specs.ExternalSenders.{senders_by};
 ghost use Rattle.mls_nodes.specs.Requirements.{extension_of, Requires};
 ghost use Rattle.mls_msgs.specs.declared.profile.Profile.TheVariants.{Members};
 ghost use Rattle.mls_apply.specs.Staged.{IsSettled};
@@ -54,6 +55,7 @@ fn initial_group(
 ) -> Group
     requires suite_of_context { checked.suite ≡ info.context.cipher_suite }
     requires required { Requires info.context checked.required }
+    requires senders { checked.senders ≡ senders_by info.context.extensions }
     requires settled { IsSettled tree }
     ensures { group_state result ≡ initial_state_of_tree profile info tree.tree checked.interim }
 {
@@ -66,6 +68,7 @@ fn initial_group(
         ended: false,
         suite: checked.suite,
         required: checked.required,
+        senders: checked.senders,
     }
 }
 

@@ -1,6 +1,6 @@
 //! The rules for every message of a group (RFC 9420, 6.1).
 
-ghost use Rattle.std.specs.Prelude.{◌≡◌, ◌≢◌, ◌⊎◌, ◌<◌, length, Some, None, Err, IsSome, IsTrue, IfOk, IfErr, OnOk};
+ghost use Rattle.std.specs.Prelude.{◌≡◌, ◌≢◌, ◌⊎◌, ◌<◌, length, Some, None, Err, IsSome, IsTrue, IfOk, IfErr, OnOk, option_map};
 ghost use Rattle.mls_wire.specs.Limits.{input_limit};
 ghost use Rattle.mls_tree.specs.Tree.{leaf_at};
 ghost use Rattle.mls_nodes.specs.declared.required_capabilities.RequiredCapabilities.{RequiredCapabilities};
@@ -9,7 +9,6 @@ ghost use Rattle.mls_msgs.specs.declared.framed_content.Content.TheVariants as c
 ghost use Rattle.mls_msgs.specs.declared.framed_content.Sender.TheVariants.{Member};
 ghost use Rattle.mls_apply.specs.RuleLists.{first_failing};
 ghost use Rattle.mls_apply.specs.Senders.{is_present};
-ghost use Rattle.mls_signatures.specs.SigningKeys.{outside_key};
 ghost use Rattle.mls_follow.specs.State.{EncodesMessage};
 ghost use Rattle.mls_follow.specs.GroupModel.{group_state};
 ghost use Rattle.mls_follow.specs.MessageRules.{is_frame_signed, outside_content_rules};
@@ -27,7 +26,7 @@ use mls_msgs::{
     decode_message_in,
 };
 use mls_nodes::GroupContext;
-use mls_signatures::{may_propose, outside_key, signed_context};
+use mls_signatures::{may_propose, outside_key_among, signed_context};
 use mls_wire::{CodecFault, MAX_INPUT, Opaque};
 use std::alloc::Global;
 
@@ -169,15 +168,17 @@ fn check_outside_content<'a, C: SignatureCheck>(
     group: &Group,
     checker: &C,
     auth: &'a Authenticated,
-    key: &Option<Opaque>,
+    key: Option<&Opaque>,
 ) -> Result<&'a Proposal, Refusal>
     ensures proposal { IfOk result (λ p. auth.now.content.content ≡ contents.Proposal p.now) }
-    ensures rules_hold { IfOk result (λ p. first_failing (outside_content_rules (C.meaning checker.now)
-        (group_state group.now) auth.now auth.now.content.sender key.now auth.now.content.content)
+    ensures rules_hold { let signature_key = option_map (λ k. k.now) key.entry in
+        IfOk result (λ p. first_failing (outside_content_rules (C.meaning checker.now)
+        (group_state group.now) auth.now auth.now.content.sender signature_key auth.now.content.content)
         ≡ proposal_refusal (C.meaning checker.now) (group_state group.now) auth.now
         auth.now.content.sender p.now) }
-    ensures refused { IfErr result (FailsWithRule (first_failing (outside_content_rules (C.meaning checker.now)
-        (group_state group.now) auth.now auth.now.content.sender key.now auth.now.content.content))) }
+    ensures refused { let signature_key = option_map (λ k. k.now) key.entry in
+        IfErr result (FailsWithRule (first_failing (outside_content_rules (C.meaning checker.now)
+        (group_state group.now) auth.now auth.now.content.sender signature_key auth.now.content.content))) }
 {
     let frame = auth.content();
     let proposal = match &frame.content {
@@ -198,8 +199,8 @@ fn check_outside_content<'a, C: SignatureCheck>(
 }
 
 /// Returns whether a key is missing that an external sender must have.
-fn is_unknown_external(sender: Sender, key: &Option<Opaque>) -> bool
-    ensures { result ≡ lacks_key sender key.now }
+fn is_unknown_external(sender: Sender, key: Option<&Opaque>) -> bool
+    ensures { result ≡ lacks_key sender (option_map (λ k. k.now) key.entry) }
 {
     match sender {
         Sender::External(_) => key.is_none(),
@@ -226,14 +227,11 @@ pub(crate) fn check_outside_frame<'a, C: SignatureCheck>(
         auth.now auth.now.content.sender)) }
 {
     let frame = auth.content();
-    let key = outside_key(alloc, &group.context, frame.sender, &frame.content)?;
-    if is_unknown_external(frame.sender, &key) {
-        drop(key);
+    let key = outside_key_among(&group.senders, frame.sender, &frame.content);
+    if is_unknown_external(frame.sender, key) {
         return Err(Refusal::UnknownExternal);
     }
-    let answer = check_outside_content(alloc, group, checker, auth, &key);
-    drop(key);
-    answer
+    check_outside_content(alloc, group, checker, auth, key)
 }
 
 /// Returns the commit of a message of a client that joins with it, if it has a path, and is signed under the key of the path's

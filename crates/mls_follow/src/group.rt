@@ -1,9 +1,10 @@
 //! The public state of a group, and what an accepted message changes in it.
 
-ghost use Rattle.std.specs.Prelude.{◌≡◌, ◌<◌, Some, IsSome, IsTrue, IfOk, OnErr};
+ghost use Rattle.std.specs.Prelude.{◌≡◌, ◌<◌, Some, IsSome, IsTrue, IfOk, OnErr, option_map, unwrap_or};
 ghost use Rattle.mls_hash.specs.SuiteHash.{hash_of};
 ghost use Rattle.mls_msgs.specs.Layout.{is_commit};
 ghost use Rattle.mls_msgs.specs.Tbs.{confirmed_input};
+ghost use Rattle.mls_nodes.specs.ExternalSenders.{senders_by};
 ghost use Rattle.mls_nodes.specs.Requirements.{Requires, RequiresBy};
 ghost use Rattle.mls_nodes.proofs.RequiredOnce.{Requires-prop};
 ghost use Rattle.mls_apply.specs.Staged.{IsSettled};
@@ -18,13 +19,14 @@ use crate::transcript::{confirmed_hash, interim_hash};
 use mls_apply::{KnownProposal, PendingProposals, StagedTree};
 use mls_hash::Suite;
 use mls_msgs::{Authenticated, Profile, Proposal, Sender};
-use mls_nodes::{GroupContext, RequiredCapabilities};
+use mls_nodes::{ExternalSenders, GroupContext, RequiredCapabilities};
 use mls_tree::HashValue;
 use mls_wire::{Opaque, copy_of};
 use std::alloc::{AllocError, Global};
 
 /// The public state of a group: the profile, its context, its tree, the interim transcript hash, the pending proposals and
-/// whether it is over; and, read from these, the cipher suite and what the group requires of its members.
+/// whether it is over; and, read from these, the cipher suite, what the group requires of its members, and its external
+/// senders, `None` if they cannot be read.
 #[derive(Drop)]
 pub(crate) struct Group {
     pub(crate) profile: Profile,
@@ -35,8 +37,10 @@ pub(crate) struct Group {
     pub(crate) ended: bool,
     pub(crate) suite: Suite,
     pub(crate) required: RequiredCapabilities,
+    pub(crate) senders: Option<ExternalSenders>,
     ghost same_suite: { suite ≡ context.cipher_suite },
     ghost requires_these: { Requires context required } by { Requires-prop context required },
+    ghost same_senders: { senders ≡ senders_by context.extensions },
     ghost settled: { IsSettled tree } by { IsSettled-prop tree },
 }
 
@@ -45,6 +49,13 @@ pub(crate) struct Group {
 pub(crate) struct Transcript {
     confirmed: Opaque,
     interim: HashValue,
+}
+
+/// What a staged commit changes in the GroupContext: the tree hash, and the extensions, if its list proposes some.
+#[derive(Drop)]
+pub(crate) struct StagedContext {
+    pub(crate) tree_hash: Opaque,
+    pub(crate) extensions: Option<NextExtensions>,
 }
 
 impl Group {
@@ -99,27 +110,41 @@ impl Group {
         })
     }
 
-    /// Moves to the next epoch, whose tree is in place and has this tree hash, with these extensions and requirements. Does not allocate.
+    /// Moves to the next epoch, whose tree is in place. The extensions, the external senders and the requirements are
+    /// replaced only if the commit proposes extensions. Does not allocate.
     pub(crate) fn begin_epoch(
         &mut self,
-        tree_hash: Opaque,
+        staged: StagedContext,
         transcript: Transcript,
-        terms: NextExtensions,
+        required: Option<RequiredCapabilities>,
+        ends: bool,
     ) -> Taken
         requires not_last_epoch { self.old.context.epoch < last_epoch }
-        requires terms { RequiresBy terms.extensions terms.required }
-        ensures next { committed (with_extensions (group_state self.old) terms.extensions terms.ends)
-            self.old.tree.tree tree_hash transcript.confirmed transcript.interim
+        requires requirements { let proposed = option_map (λ next. next.extensions) staged.extensions in
+            RequiresBy (unwrap_or proposed self.old.context.extensions) (unwrap_or required self.old.required) }
+        ensures next { let proposed = option_map (λ next. next.extensions) staged.extensions in
+            let extensions = unwrap_or proposed self.old.context.extensions in
+            committed (with_extensions (group_state self.old) extensions ends)
+            self.old.tree.tree staged.tree_hash transcript.confirmed transcript.interim
             ≡ record { taken = result; state = group_state self.new } }
     {
+        let StagedContext {
+            tree_hash,
+            extensions,
+        } = staged;
         self.context.epoch += 1;
-        self.context.extensions = terms.extensions;
-        self.required = terms.required;
+        if let Some(next) = extensions {
+            self.context.extensions = next.extensions;
+            self.senders = next.senders;
+        }
+        if let Some(required) = required {
+            self.required = required;
+        }
         self.context.tree_hash = tree_hash;
         self.context.confirmed = transcript.confirmed;
         self.interim = transcript.interim;
         self.known.clear();
-        self.ended = terms.ends;
+        self.ended = ends;
         Taken::Commit(self.context.epoch)
     }
 }

@@ -1,59 +1,99 @@
-//! What a proposal list changes besides the tree: the extensions of the next GroupContext, with what they require of members
-//! (RFC 9420, 11.1 and 12.1.7), and whether the group is over (11.2).
+//! The extensions that a proposal list proposes for the next GroupContext, and what they require of members (RFC 9420,
+//! 11.1 and 12.1.7).
 
-ghost use Rattle.std.specs.Prelude.{◌≡◌, ◌≢◌, Some, None, IfOk, IfErr};
-ghost use Rattle.mls_nodes.specs.Requirements.{RequiresBy};
-ghost use Rattle.mls_apply.specs.ContextExtensions.{proposed_extensions, new_extensions};
-ghost use Rattle.mls_apply.specs.ListRules.{has_reinit};
+ghost use Rattle.std.specs.Prelude.{◌≡◌, ◌≢◌, Some, None, IfOk, IfErr, option_map, unwrap_or};
+ghost use Rattle.mls_nodes.specs.ExternalSenders.{senders_by};
+ghost use Rattle.mls_nodes.specs.declared.required_capabilities.RequiredCapabilities.{RequiredCapabilities};
+ghost use Rattle.mls_apply.specs.ContextExtensions.{proposed_extensions};
 ghost use Rattle.mls_follow.specs.MessageRules.{required_after};
 
-use crate::group::Group;
 use crate::refusal::Refusal;
-use mls_apply::{ListItem, has_reinit, new_extensions};
-use mls_nodes::{Extensions, RequiredCapabilities, requirements_of};
-use mls_wire::CodecFault;
+use mls_apply::ListItem;
+use mls_check::OutOfMemory;
+use mls_msgs::Proposal;
+use mls_nodes::{Extensions, ExternalSenders, RequiredCapabilities, requirements_of};
+use mls_signatures::senders_of;
+use mls_wire::{CodecFault, copy_of};
 use std::alloc::Global;
 
-/// The extensions of a GroupContext, what they require of members, and whether the group is over.
+/// The extensions that a commit proposes for the next GroupContext, and the external senders that they name, `None` if
+/// these cannot be read (RFC 9420, 12.1.7 and 12.1.8.1).
 #[derive(Drop)]
 pub(crate) struct NextExtensions {
     pub(crate) extensions: Extensions,
-    pub(crate) required: RequiredCapabilities,
-    pub(crate) ends: bool,
+    pub(crate) senders: Option<ExternalSenders>,
+    ghost same_senders: { senders ≡ senders_by extensions },
 }
 
-/// Returns the extensions after a commit with this proposal list, what they require, and whether the group is over. `ContextExtensionsInvalid` if
-/// that cannot be read.
-#[tactic(auto, using(crate::proofs::Requiring::required_after_read, crate::proofs::Requiring::required_after_unread))]
-pub(crate) fn next_extensions_after(
-    alloc: Global,
-    group: &Group,
-    items: &[ListItem<'_>],
-) -> Result<NextExtensions, Refusal>
-    ensures extensions { IfOk result (λ terms.
-        terms.extensions ≡ new_extensions group.now.context.extensions items.now) }
-    ensures determined { IfOk result (λ terms. RequiresBy terms.extensions terms.required) }
-    ensures required { IfOk result (λ terms.
-        required_after group.now.required (proposed_extensions items.now) ≡ Some terms.required) }
-    ensures ends { IfOk result (λ terms. terms.ends ≡ has_reinit items.now) }
-    ensures refused { IfErr result (λ e. e ≢ Refusal.OutOfMemory
-        → (e ≡ Refusal.ContextExtensionsInvalid)
-        × (required_after group.now.required (proposed_extensions items.now) ≡ None)) }
+/// Returns the extensions of the first GroupContextExtensions proposal of a list.
+fn proposed_extensions<'a>(items: &[ListItem<'a>]) -> Option<&'a Extensions>
+    ensures { option_map (λ extensions. extensions.now) result ≡ proposed_extensions items.now }
 {
-    let extensions = new_extensions(alloc, &group.context, items)?;
-    match requirements_of(alloc, &extensions) {
-        Ok(required) => Ok(NextExtensions {
-            extensions,
-            required,
-            ends: has_reinit(items),
-        }),
-        Err(CodecFault::Wire(_)) => {
-            drop(extensions);
-            Err(Refusal::ContextExtensionsInvalid)
+    for item in items {
+        if let Proposal::ContextExtensions(extensions) = item.proposal {
+            return Some(extensions);
         }
-        Err(CodecFault::OutOfMemory) => {
-            drop(extensions);
-            Err(Refusal::OutOfMemory)
-        }
+    }
+    None
+}
+
+/// Returns what the extensions that a proposal list proposes require of members, `None` if it proposes none. The
+/// extensions are not copied.
+///
+/// # Errors
+///
+/// `ContextExtensionsInvalid` if the required capabilities cannot be read, or `OutOfMemory`.
+#[tactic(auto, using(crate::proofs::Requiring::required_after_read, crate::proofs::Requiring::required_after_unread))]
+pub(crate) fn proposed_requirements(
+    alloc: Global,
+    items: &[ListItem<'_>],
+) -> Result<Option<RequiredCapabilities>, Refusal>
+    ensures required { IfOk result (λ required. (former : RequiredCapabilities)
+        → required_after former (proposed_extensions items.now) ≡ Some (unwrap_or required former)) }
+    ensures refused { IfErr result (λ e. e ≢ Refusal.OutOfMemory
+        → (e ≡ Refusal.ContextExtensionsInvalid) × ((former : RequiredCapabilities)
+        → required_after former (proposed_extensions items.now) ≡ None)) }
+{
+    let Some(extensions) = proposed_extensions(items) else {
+        return Ok(None);
+    };
+    match requirements_of(alloc, extensions) {
+        Ok(required) => Ok(Some(required)),
+        Err(CodecFault::Wire(_)) => Err(Refusal::ContextExtensionsInvalid),
+        Err(CodecFault::OutOfMemory) => Err(Refusal::OutOfMemory),
+    }
+}
+
+/// Returns a copy of the extensions that a proposal list proposes, and their external senders, `None` if it proposes
+/// none.
+pub(crate) fn copy_of_proposed(
+    alloc: Global,
+    items: &[ListItem<'_>],
+) -> Result<Option<NextExtensions>, OutOfMemory>
+    ensures { IfOk result (λ next.
+        option_map (λ n. n.extensions) next ≡ proposed_extensions items.now) }
+{
+    let Some(proposed) = proposed_extensions(items) else {
+        return Ok(None);
+    };
+    let extensions = copy_of(alloc, proposed)?;
+    let senders = senders_of(alloc, &extensions)?;
+    Ok(Some(NextExtensions {
+        extensions,
+        senders,
+    }))
+}
+
+/// Returns what a group requires after a commit: what the proposed extensions require, otherwise what is required before
+/// it.
+pub(crate) fn required_after<'a>(
+    former: &'a RequiredCapabilities,
+    proposed: &'a Option<RequiredCapabilities>,
+) -> &'a RequiredCapabilities
+    ensures { result.now ≡ unwrap_or proposed.now former.now }
+{
+    match proposed {
+        Some(required) => required,
+        None => former,
     }
 }

@@ -15,9 +15,9 @@ ghost use Rattle.mls_follow.specs.ResumptionParts.{IsKnownFault};
 use crate::group::Group;
 use crate::resume_fault::ResumeFault;
 use mls_apply::{ApplyFault, EpochState, check_proposal};
-use mls_check::{OutOfMemory, SignatureCheck};
+use mls_check::SignatureCheck;
 use mls_msgs::{Profile, Proposal, Sender};
-use mls_signatures::{external_key, may_propose};
+use mls_signatures::{external_key_among, may_propose};
 use mls_state::KnownEntry;
 use mls_tree::HashValue;
 use std::alloc::{AllocError, Global};
@@ -53,38 +53,31 @@ fn is_sender_supported(profile: Profile, sender: Sender) -> bool
 }
 
 /// Returns whether a group has an external sender, if the sender is one.
-fn is_known_external(alloc: Global, group: &Group, sender: Sender) -> Result<bool, OutOfMemory>
-    ensures { IfOk result (λ known. known ≡ is_known_external group.now.context.extensions sender) }
+fn is_known_external(group: &Group, sender: Sender) -> bool
+    ensures { result ≡ is_known_external group.now.context.extensions sender }
 {
     match sender {
-        Sender::External(index) => {
-            let key = external_key(alloc, &group.context.extensions, index)?;
-            Ok(key.is_some())
-        }
-        Sender::Member(_) => Ok(true),
-        Sender::NewMemberProposal => Ok(true),
-        Sender::NewMemberCommit => Ok(true),
+        Sender::External(index) => external_key_among(&group.senders, index).is_some(),
+        Sender::Member(_) => true,
+        Sender::NewMemberProposal => true,
+        Sender::NewMemberCommit => true,
     }
 }
 
 /// Returns whether a group processes the proposal of an entry.
 #[tactic(auto, unfolding(crate::specs::Resumption::is_receivable))]
-fn is_receivable(
-    alloc: Global,
-    group: &Group,
-    entry: &PendingEntry<'_>,
-) -> Result<bool, OutOfMemory>
-    ensures { IfOk result (λ received. received ≡ is_receivable (group_state group.now)
-        (record { reference = entry.now.reference; sender = entry.now.sender; proposal = entry.now.proposal.now })) }
+fn is_receivable(group: &Group, entry: &PendingEntry<'_>) -> bool
+    ensures { result ≡ is_receivable (group_state group.now)
+        (record { reference = entry.now.reference; sender = entry.now.sender; proposal = entry.now.proposal.now }) }
 {
     let sender = entry.sender;
     if group.ended
         || !group.profile.has_proposal(entry.proposal)
         || !is_sender_supported(group.profile, sender)
     {
-        return Ok(false);
+        return false;
     }
-    Ok(is_known_external(alloc, group, sender)? && may_propose(sender, entry.proposal))
+    is_known_external(group, sender) && may_propose(sender, entry.proposal)
 }
 
 /// Returns whether a proposal satisfies its rules.
@@ -121,10 +114,7 @@ fn can_hold<C: SignatureCheck>(
     ensures { IfOk result (λ held. held ≡ can_hold (C.meaning checker.now) (group_state group.now)
         (record { reference = entry.now.reference; sender = entry.now.sender; proposal = entry.now.proposal.now })) }
 {
-    let Ok(is_received) = is_receivable(alloc, group, entry) else {
-        return Err(AllocError);
-    };
-    if !is_received || !is_new_reference(group, &entry.reference) {
+    if !is_receivable(group, entry) || !is_new_reference(group, &entry.reference) {
         return Ok(false);
     }
     is_valid_proposal(alloc, group, checker, entry.sender, entry.proposal)

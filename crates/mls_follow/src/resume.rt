@@ -4,6 +4,7 @@ ghost use Rattle.std.specs.Prelude.{◌≡◌, ◌≢◌, None, Some, [], IfOk, 
 ghost use Rattle.mls_tree.specs.PublicTreeModel.{plain};
 ghost use Rattle.mls_tree.specs.RatchetTree.{RatchetTree};
 ghost use Rattle.mls_hash.specs.SuiteHash.{hash_length};
+ghost use Rattle.mls_nodes.specs.ExternalSenders.{senders_by};
 ghost use Rattle.mls_nodes.specs.Requirements.{Requires};
 ghost use Rattle.mls_check.specs.GroupTree.{IsSupportedContext, HasMembers};
 ghost use Rattle.mls_check.specs.Signatures.{VerifyFn};
@@ -21,10 +22,11 @@ use crate::group_tree::{UnsupportedContext, group_requirements, suite_of};
 use crate::pending_entries::hold_entries;
 use crate::resume_fault::ResumeFault;
 use mls_apply::{PendingProposals, StagedTree};
-use mls_check::SignatureCheck;
+use mls_check::{OutOfMemory, SignatureCheck};
 use mls_hash::Suite;
 use mls_msgs::Profile;
-use mls_nodes::{GroupContext, NodeFault, RequiredCapabilities};
+use mls_nodes::{ExternalSenders, GroupContext, NodeFault, RequiredCapabilities};
+use mls_signatures::senders_of;
 use mls_state::{FollowerState, GroupMode, StateFile, StateFileFault, decode_state_file};
 use mls_tree::{HashValue, PublicTree};
 use mls_wire::{CodecFault, Opaque, bytes_of, read_input};
@@ -148,6 +150,7 @@ struct Found {
     suite: Suite,
     tree: StagedTree,
     required: RequiredCapabilities,
+    senders: Option<ExternalSenders>,
     interim: HashValue,
 }
 
@@ -163,6 +166,7 @@ fn check_content<C: SignatureCheck>(
     ensures tree { IfOk result (λ found. found.tree.tree ≡ tree.tree) }
     ensures settled { IfOk result (λ found. IsSettled found.tree) }
     ensures required { IfOk result (λ found. Requires content.now.context found.required) }
+    ensures senders { IfOk result (λ found. found.senders ≡ senders_by content.now.context.extensions) }
     ensures interim { IfOk result (λ found. found.interim ≡ content.now.interim) }
     ensures based { OnOk result (HasInterim (C.meaning checker.now) content.now (plain tree)) }
     ensures refused { IfErr result (IsContentFault (C.meaning checker.now) content.now (plain tree)) }
@@ -170,12 +174,20 @@ fn check_content<C: SignatureCheck>(
     let suite = resumed_suite(&content.context)?;
     let (tree, required) = resumed_tree(alloc, suite, &content.context, tree, checker)?;
     match resumed_interim(suite, &content.interim) {
-        Some(interim) => Ok(Found {
-            suite,
-            tree,
-            required,
-            interim,
-        }),
+        Some(interim) => match senders_of(alloc, &content.context.extensions) {
+            Ok(senders) => Ok(Found {
+                suite,
+                tree,
+                required,
+                senders,
+                interim,
+            }),
+            Err(OutOfMemory) => {
+                drop(tree);
+                drop(required);
+                Err(ResumeFault::OutOfMemory)
+            }
+        },
         None => {
             drop(tree);
             drop(required);
@@ -216,6 +228,7 @@ fn group_of<C: SignatureCheck>(
     requires suite { found.suite ≡ content.context.cipher_suite }
     requires settled { IsSettled found.tree }
     requires required { Requires content.context found.required }
+    requires senders { found.senders ≡ senders_by content.context.extensions }
     ensures held { IfOk result (λ group. CanHoldEntries (C.meaning checker.now)
         (state_without_pending content.mode content.context found.tree.tree found.interim) content.known (group_state group)) }
     ensures refused { IfErr result (IsKnownFault (C.meaning checker.now)
@@ -236,6 +249,7 @@ fn group_of<C: SignatureCheck>(
         ended: is_over(mode),
         suite: found.suite,
         required: found.required,
+        senders: found.senders,
     };
     match hold_entries(alloc, &mut group, checker, known.as_slice()) {
         Ok(()) => Ok(group),

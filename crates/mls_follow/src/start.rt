@@ -4,6 +4,7 @@ ghost use Rattle.std.specs.Prelude.{◌≡◌, ◌≢◌, ◌↔◌, ℕ, List, 
 ghost use Rattle.mls_check.specs.Signatures.{VerifyFn};
 ghost use Rattle.mls_tree.specs.PublicTreeModel.{plain};
 ghost use Rattle.mls_tree.specs.RatchetTree.{RatchetTree};
+ghost use Rattle.mls_nodes.specs.ExternalSenders.{senders_by};
 ghost use Rattle.mls_nodes.specs.Requirements.{extension_of, Requires};
 ghost use Rattle.mls_check.specs.GroupTree.{IsSupportedContext, HasMembers, FailsSuite};
 ghost use Rattle.mls_msgs.specs.declared.profile.Profile.{Profile};
@@ -19,7 +20,8 @@ use mls_apply::StagedTree;
 use mls_check::{OutOfMemory, SignatureCheck, signed};
 use mls_hash::Suite;
 use mls_msgs::{GROUP_INFO_LABEL, GroupInfo, info_tbs};
-use mls_nodes::{LeafNode, NodeFault, RequiredCapabilities, find_extension};
+use mls_nodes::{ExternalSenders, LeafNode, NodeFault, RequiredCapabilities, find_extension};
+use mls_signatures::senders_of;
 use mls_tree::{HashValue, PublicTree};
 use mls_wire::CodecFault;
 use std::alloc::Global;
@@ -45,6 +47,7 @@ pub struct StartRefused<C> {
 pub(crate) struct StartParts {
     pub(crate) suite: Suite,
     pub(crate) required: RequiredCapabilities,
+    pub(crate) senders: Option<ExternalSenders>,
     pub(crate) interim: HashValue,
 }
 
@@ -175,7 +178,7 @@ fn verified_interim_hash<C: SignatureCheck>(
 }
 
 /// Returns what is found of a supported GroupInfo and a tree from which a follower starts. Checks the tree, then its
-/// leaf nodes, then the signature of the GroupInfo.
+/// leaf nodes, then the signature of the GroupInfo. Reads the external senders last.
 fn check_info_and_tree<C: SignatureCheck>(
     alloc: Global,
     suite: Suite,
@@ -188,17 +191,25 @@ fn check_info_and_tree<C: SignatureCheck>(
     ensures tree { plain tree.new ≡ plain tree.old }
     ensures suite { IfOk result (λ checked. checked.suite ≡ info.now.context.cipher_suite) }
     ensures required { IfOk result (λ checked. Requires info.now.context checked.required) }
+    ensures senders { IfOk result (λ checked. checked.senders ≡ senders_by info.now.context.extensions) }
     ensures started { IfOk result (λ checked. StartsWith
         (C.meaning checker.now) info.now (plain tree.old) checked.interim) }
     ensures refused { IfErr result (FailsWith (C.meaning checker.now) info.now (plain tree.old)) }
 {
     let required = validated_requirements(alloc, suite, info, tree, checker)?;
     match verified_interim_hash(alloc, suite, info, tree, checker) {
-        Ok(interim) => Ok(StartParts {
-            suite,
-            required,
-            interim,
-        }),
+        Ok(interim) => match senders_of(alloc, &info.context.extensions) {
+            Ok(senders) => Ok(StartParts {
+                suite,
+                required,
+                senders,
+                interim,
+            }),
+            Err(OutOfMemory) => {
+                drop(required);
+                Err(StartFault::OutOfMemory)
+            }
+        },
         Err(fault) => {
             drop(required);
             Err(fault)
@@ -220,6 +231,7 @@ fn check_tree<C: SignatureCheck>(
     ensures settled { IfOk result (λ found. IsSettled found.0) }
     ensures suite { IfOk result (λ found. found.1.suite ≡ info.now.context.cipher_suite) }
     ensures required { IfOk result (λ found. Requires info.now.context found.1.required) }
+    ensures senders { IfOk result (λ found. found.1.senders ≡ senders_by info.now.context.extensions) }
     ensures started { IfOk result (λ found. StartsWith
         (C.meaning checker.now) info.now (plain tree) found.1.interim) }
     ensures refused { IfErr result (λ r. FailsWith (C.meaning checker.now) info.now (plain tree) r.0) }
@@ -249,6 +261,7 @@ fn check_embedded_tree<C: SignatureCheck>(
     ensures settled { IfOk result (λ found. IsSettled found.0) }
     ensures suite { IfOk result (λ found. found.1.suite ≡ info.now.context.cipher_suite) }
     ensures required { IfOk result (λ found. Requires info.now.context found.1.required) }
+    ensures senders { IfOk result (λ found. found.1.senders ≡ senders_by info.now.context.extensions) }
     ensures started { IfOk result (λ found. (profile : Profile) → IsStart profile (C.meaning checker.now)
         info.now None (initial_state_of_tree profile info.now found.0.tree found.1.interim)) }
     ensures refused { IfErr result (IsStartFault (C.meaning checker.now) info.now None) }
@@ -279,6 +292,7 @@ pub(crate) fn check_start<C: SignatureCheck>(
     ensures settled { IfOk result (λ found. IsSettled found.0) }
     ensures suite { IfOk result (λ found. found.1.suite ≡ info.now.context.cipher_suite) }
     ensures required { IfOk result (λ found. Requires info.now.context found.1.required) }
+    ensures senders { IfOk result (λ found. found.1.senders ≡ senders_by info.now.context.extensions) }
     ensures started { IfOk result (λ found. (profile : Profile) → IsStart profile (C.meaning checker.now)
         info.now (option_map plain tree) (initial_state_of_tree profile info.now found.0.tree found.1.interim)) }
     ensures refused { IfErr result (λ r. IsStartFault (C.meaning checker.now) info.now

@@ -1,7 +1,6 @@
 //! How a group processes what its members, external senders and new members have sent.
 
-ghost use Rattle.std.specs.Prelude.{◌≡◌, ◌<◌, ℕ, List, Some, None, IsSome, IsTrue, IfOk, IfErr, OnOk, OnErr, option_and_then, option_map};
-ghost use Rattle.mls_nodes.specs.Requirements.{RequiresBy};
+ghost use Rattle.std.specs.Prelude.{◌≡◌, ◌<◌, ℕ, List, Some, None, IsSome, IsTrue, IfOk, IfErr, OnOk, OnErr, option_and_then, option_map, unwrap_or};
 ghost use Rattle.mls_tree.specs.Tree.{leaf_at};
 ghost use Rattle.mls_msgs.specs.Layout.{is_commit};
 ghost use Rattle.mls_msgs.specs.Tbs.{confirmed_input};
@@ -18,7 +17,7 @@ ghost use Rattle.mls_follow.specs.GroupModelInternal.{with_known};
 ghost use Rattle.mls_follow.specs.FollowerInvariant.{HasUniqueKeysAndValidLeaves};
 ghost use Rattle.mls_follow.specs.MessageRules.{changed_tree, if_full, joiner_rules, applied_tree_rules, outside_rules, required_after, rules_with_requirements, reference_of};
 ghost use Rattle.mls_follow.specs.MessageRulesInternal.{external_commit_refusal, frame_refusal, handshake_refusal, joiner_refusal, outside_refusal, proposal_refusal, sender_refusal};
-ghost use Rattle.mls_follow.specs.NextState.{after_commit, after_content, after_join, after_outside, after_proposal, after_sender, after_tree, with_extensions, with_list};
+ghost use Rattle.mls_follow.specs.NextState.{after_commit, after_content, after_join, after_outside, after_proposal, after_sender, after_tree, with_list};
 ghost use Rattle.mls_follow.specs.State.{HasEncoding, EncodesMessage, last_epoch};
 ghost use Rattle.mls_follow.specs.AcceptanceInternal.{FailsWithRule};
 ghost use Rattle.mls_follow.specs.Runs.{IsTransition};
@@ -29,14 +28,15 @@ use crate::framed_content_rules::{
     check_header, check_joiner_frame, check_member_frame, check_outside_frame,
 };
 use crate::group::Group;
-use crate::next_extensions::{NextExtensions, next_extensions_after};
+use crate::next_extensions::{proposed_requirements, required_after};
 use crate::proposal_message::check_proposal_message;
 use crate::refusal::Refusal;
 use crate::resolved::{MemberMessage, ReceivedCommit, ResolvedCommit, SentProposal};
 use crate::taken::Taken;
-use mls_apply::PendingProposals;
+use mls_apply::{PendingProposals, has_reinit};
 use mls_check::SignatureCheck;
 use mls_msgs::{Authenticated, Commit, Content, Message, Profile, Proposal, Sender};
+use mls_nodes::RequiredCapabilities;
 use std::alloc::Global;
 use std::mem::replace;
 
@@ -95,38 +95,41 @@ impl Group {
         self.take_proposal(alloc, checker, &sent)
     }
 
-    /// Changes the tree in place as a commit does, and begins the next epoch on these terms, if the path and the tree after
-    /// both satisfy their rules. Any error undoes the changes. The last step does not allocate.
+    /// Changes the tree in place as a commit does, and begins the next epoch, if the path and the tree after both satisfy
+    /// their rules. `required` is what the extensions require that the commit proposes, if it proposes some. Any error
+    /// undoes the changes. The last step does not allocate.
     fn apply_commit<C: SignatureCheck>(
         &mut self,
         alloc: Global,
         checker: &C,
         commit: &ResolvedCommit<'_>,
-        terms: NextExtensions,
+        required: Option<RequiredCapabilities>,
     ) -> Result<Taken, Refusal>
         requires present { IsTrue (is_present self.old.tree.tree commit.now.committer) }
         requires not_last_epoch { self.old.context.epoch < last_epoch }
-        requires terms { RequiresBy terms.extensions terms.required }
+        requires requirements { required_after self.old.required (proposed_extensions commit.now.items.items)
+            ≡ Some (unwrap_or required self.old.required) }
         requires checked { HasUniqueKeysAndValidLeaves (C.meaning checker.now) (group_state self.old) }
         ensures rules_hold { let o = outcome commit.now.items.items self.old.tree.tree in
             OnOk result (first_failing (applied_tree_rules (C.meaning checker.now)
-            (group_state self.old) terms.required commit.now.committer commit.now.path.now o)
-            ≡ None) }
+            (group_state self.old) (unwrap_or required self.old.required)
+            commit.now.committer commit.now.path.now o) ≡ None) }
         ensures next { let o = outcome commit.now.items.items self.old.tree.tree in
             let H = hash_of self.old.context.cipher_suite in
-            let s = with_extensions (group_state self.old) terms.extensions terms.ends in
+            let s = with_list (group_state self.old) (Some commit.now.items.items) in
             IfOk result (λ taken. option_and_then (after_tree s commit.now.auth.now)
             (changed_tree H commit.now.committer commit.now.path.now o)
             ≡ Some (record { taken = taken; state = group_state self.new })) }
         ensures refused { let o = outcome commit.now.items.items self.old.tree.tree in
             IfErr result (FailsWithRule (first_failing (applied_tree_rules (C.meaning checker.now)
-            (group_state self.old) terms.required commit.now.committer commit.now.path.now o))) }
+            (group_state self.old) (unwrap_or required self.old.required)
+            commit.now.committer commit.now.path.now o))) }
         ensures unchanged_on_error { OnErr result (group_state self.new ≡ group_state self.old) }
     {
         let transcript = match self.transcript(alloc, commit.auth) {
             Ok(transcript) => transcript,
             Err(_) => {
-                drop(terms);
+                drop(required);
                 return Err(Refusal::OutOfMemory);
             }
         };
@@ -134,12 +137,13 @@ impl Group {
             suite: self.suite,
             context: &self.context,
             former: &self.required,
-            required: &terms.required,
+            required: required_after(&self.required, &required),
         };
         match stage_commit(alloc, &rules, checker, &mut self.tree, commit) {
-            Ok(tree_hash) => {
+            Ok(staged) => {
                 self.tree.settle();
-                Ok(self.begin_epoch(tree_hash, transcript, terms))
+                let ends = has_reinit(commit.items.as_slice());
+                Ok(self.begin_epoch(staged, transcript, required, ends))
             }
             Err(refusal) => {
                 self.tree.rollback();
@@ -148,7 +152,7 @@ impl Group {
         }
     }
 
-    /// Processes a resolved commit: reads the extensions after it, and applies it.
+    /// Processes a resolved commit: reads what the extensions require that it proposes, and applies it.
     fn take_resolved<C: SignatureCheck>(
         &mut self,
         alloc: Global,
@@ -174,8 +178,8 @@ impl Group {
             (group_state self.old) commit.now.committer commit.now.path.now o required))) }
         ensures unchanged_on_error { OnErr result (group_state self.new ≡ group_state self.old) }
     {
-        let terms = next_extensions_after(alloc, self, commit.items.as_slice())?;
-        self.apply_commit(alloc, checker, commit, terms)
+        let required = proposed_requirements(alloc, commit.items.as_slice())?;
+        self.apply_commit(alloc, checker, commit, required)
     }
 
     /// Processes a commit that a member has sent and signed, while the group's pending proposals are apart from it.

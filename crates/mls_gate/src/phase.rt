@@ -216,7 +216,7 @@ impl<C: LearningCheck> GatePhase<C> {
         match outcome {
             Ok(follower) => {
                 let text = ready_line(alloc, &follower);
-                *self = GatePhase::Following(follower);
+                drop(mem::replace(self, GatePhase::Following(follower)));
                 Ok(Answer {
                     text: text?,
                     is_last: false,

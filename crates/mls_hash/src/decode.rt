@@ -126,8 +126,8 @@ fn put_leaf_hashes(
 /// which the leaves that were read have their tree hashes: each leaf is hashed from its bytes, which are not encoded
 /// again.
 ///
-/// The bytes are freed as they are read, so that the tree and all bytes are never in memory at once, if they are more
-/// than 65,536.
+/// Bytes are freed once they are read, as by [`OwnedTreeReader`], so that memory need not hold the tree and all bytes at
+/// once.
 ///
 /// # Errors
 ///

@@ -203,7 +203,11 @@ fn replay_state_ended(alloc: Global) -> Result<Ended, Stop> {
     let mut state = MemorySource::new(state.as_slice(), 40, None);
     let mut log = MemorySource::new(log.as_slice(), 40, None);
     let outcome = match replay_state(alloc, &mut state, &mut log, Trusting, &mut out) {
-        Ok(replayed) => stored_ended(replayed.verdict, &replayed.follower, needed.as_slice()),
+        Ok(replayed) => {
+            let ended = stored_ended(replayed.verdict, &replayed.follower, needed.as_slice());
+            drop(replayed);
+            ended
+        }
         Err(fault) => Err(fault),
     };
     Ok((outcome, out))

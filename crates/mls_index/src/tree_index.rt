@@ -23,7 +23,7 @@ use std::alloc::Global;
 ///
 /// The index has an entry for each key: its fingerprint, the first eight bytes of its SHA-256, and its node index. It
 /// has no copy of the key. A look-up costs a search among the sorted entries, and one comparison for each key of the
-/// tree with the same fingerprint. Nobody can choose fingerprints.
+/// tree with the same fingerprint. Keys with equal fingerprints are hard to find, by SHA-256.
 ///
 /// # Following a change of the tree
 ///

@@ -150,6 +150,7 @@ pub fn decode_message_in(
             if profile.has_message(&message) {
                 return Ok(message);
             }
+            drop(message);
             Err(fault_found(check_message(alloc, bytes)))
         }
         Err(CodecFault::OutOfMemory) => Err(CodecFault::OutOfMemory),

@@ -409,7 +409,11 @@ fn verdict_in<C: SignatureCheck>(
     ensures { result ≡ result_map_both (λ r. r.verdict) (λ e. e) replayed }
 {
     match replayed {
-        Ok(replayed) => Ok(replayed.verdict),
+        Ok(replayed) => {
+            let verdict = replayed.verdict;
+            drop(replayed);
+            Ok(verdict)
+        }
         Err(fault) => Err(fault),
     }
 }

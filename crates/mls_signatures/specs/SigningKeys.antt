@@ -30,10 +30,15 @@ external_sender_key [] k = None
 external_sender_key (x ∷ xs) zero = Some x.signature_key
 external_sender_key (x ∷ xs) (suc k) = external_sender_key xs k
 
--- `external_key extensions k` is the signature key of the external sender with index k (12.1.8). `None` if there is none,
--- or if the extension external_senders cannot be read (own rule).
+-- `external_key_among listed k` is the signature key of the external sender with index k (12.1.8), among those of the
+-- extension external_senders. `None` if there is none, or if the extension cannot be read (own rule).
+abbrev pub external_key_among : Option (List ExternalSender) → ℕ → Option (List ℕ)
+external_key_among listed k = option_and_then (λ xs. external_sender_key xs k) listed
+
+-- `external_key extensions k` is the signature key of the external sender with index k (12.1.8) of a group with these
+-- extensions.
 abbrev pub external_key : List Extension → ℕ → Option (List ℕ)
-external_key extensions k = option_and_then (λ xs. external_sender_key xs k) (senders_by extensions)
+external_key extensions k = external_key_among (senders_by extensions) k
 
 -- `added_signature_key p` is the signature key of the client that an Add adds.
 abbrev pub added_signature_key : Proposal → Option (List ℕ)
@@ -62,12 +67,16 @@ committer_key (contents.Application _) = None
 committer_key (contents.Proposal _) = None
 committer_key (contents.Commit c) = path_key c.path
 
--- `outside_key context sender c` is the key of a sender that is no member.
+-- `outside_key_among listed sender c` is the key of a sender that is no member, in a group with these external senders.
+abbrev pub outside_key_among : Option (List ExternalSender) → Sender → Content → Option (List ℕ)
+outside_key_among listed (senders.Member _) c = None
+outside_key_among listed (senders.External k) c = external_key_among listed k
+outside_key_among listed senders.NewMemberProposal c = joiner_key c
+outside_key_among listed senders.NewMemberCommit c = committer_key c
+
+-- `outside_key context sender c` is the key of a sender that is no member, in the group of this context.
 abbrev pub outside_key : GroupContext → Sender → Content → Option (List ℕ)
-outside_key context (senders.Member _) c = None
-outside_key context (senders.External k) c = external_key context.extensions k
-outside_key context senders.NewMemberProposal c = joiner_key c
-outside_key context senders.NewMemberCommit c = committer_key c
+outside_key context sender c = outside_key_among (senders_by context.extensions) sender c
 
 -- `leaf_key o` is the signature key of a leaf node, if it is non-blank.
 abbrev pub leaf_key : Option LeafNode → Option (List ℕ)

@@ -23,4 +23,7 @@ pub use signature_to_verify::SignatureToVerify;
 pub use signatures::{
     GroupEpoch, info_signatures, leaf_signatures, message_signatures, start_signatures,
 };
-pub use signing_keys::{external_key, may_propose, outside_key, signed_context};
+pub use signing_keys::{
+    external_key, external_key_among, may_propose, outside_key, outside_key_among, senders_of,
+    signed_context,
+};

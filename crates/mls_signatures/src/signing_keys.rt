@@ -3,7 +3,7 @@
 
 ghost use Rattle.std.specs.Prelude.{◌≡◌, IfOk, IfSome, None, OnErr, option_map};
 ghost use Rattle.mls_nodes.specs.ExternalSenders.{senders_by};
-ghost use Rattle.mls_signatures.specs.SigningKeys.{added_signature_key, committer_key, external_key, is_external_proposal, joiner_key, external_sender_key, may_propose, outside_key, path_key, signed_context};
+ghost use Rattle.mls_signatures.specs.SigningKeys.{added_signature_key, committer_key, external_key, external_key_among, is_external_proposal, joiner_key, external_sender_key, may_propose, outside_key, outside_key_among, path_key, signed_context};
 
 use mls_check::OutOfMemory;
 use mls_msgs::{Content, Proposal, Sender, UpdatePath};
@@ -24,9 +24,14 @@ pub fn signed_context(context: &GroupContext, sender: Sender) -> Option<&GroupCo
     }
 }
 
-/// Returns the external senders of a group with these extensions, if they can be read.
+/// Returns the external senders of a group with these extensions (RFC 9420, 12.1.8.1), `None` if the extension
+/// external_senders cannot be read.
+///
+/// # Errors
+///
+/// [`OutOfMemory`].
 #[tactic(auto, using(crate::proofs::ExternalKeys::senders_read, crate::proofs::ExternalKeys::senders_unread))]
-fn senders_of(
+pub fn senders_of(
     alloc: Global,
     extensions: &Extensions,
 ) -> Result<Option<ExternalSenders>, OutOfMemory>
@@ -46,6 +51,17 @@ fn external_sender_key(senders: &[ExternalSender], index: u32) -> Option<&Opaque
 {
     match senders.get(index as usize) {
         Some(sender) => Some(&sender.signature_key),
+        None => None,
+    }
+}
+
+/// Returns the signature key of the external sender with this index (RFC 9420, 12.1.8), if there is one, among those that
+/// [`senders_of`] returned. The first sender has the index 0. Does not allocate.
+pub fn external_key_among(senders: &Option<ExternalSenders>, index: u32) -> Option<&Opaque>
+    ensures { option_map (λ key. key.now) result ≡ external_key_among senders.now index }
+{
+    match senders {
+        Some(senders) => external_sender_key(senders.as_slice(), index),
         None => None,
     }
 }
@@ -162,6 +178,23 @@ pub fn outside_key(
         Sender::External(index) => external_key(alloc, &context.extensions, index),
         Sender::NewMemberProposal => joiner_key_copy(alloc, content),
         Sender::NewMemberCommit => committer_key_copy(alloc, content),
+    }
+}
+
+/// Returns the key that [`outside_key`] returns a copy of, for a group whose external senders [`senders_of`] returned. Does
+/// not allocate.
+pub fn outside_key_among<'a>(
+    senders: &'a Option<ExternalSenders>,
+    sender: Sender,
+    content: &'a Content,
+) -> Option<&'a Opaque>
+    ensures { option_map (λ key. key.now) result ≡ outside_key_among senders.now sender content.now }
+{
+    match sender {
+        Sender::Member(_) => None,
+        Sender::External(index) => external_key_among(senders, index),
+        Sender::NewMemberProposal => joiner_key(content),
+        Sender::NewMemberCommit => committer_key(content),
     }
 }
 

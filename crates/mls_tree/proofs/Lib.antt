@@ -1,5 +1,6 @@
 pub mod Numbers
 pub mod Choices
+pub mod SortedIndices
 pub mod Trees
 pub mod Arrays
 pub mod Lookups

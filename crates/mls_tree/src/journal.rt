@@ -4,6 +4,7 @@
 //! stores what it replaced. The changes are then either final, or undone in reverse order. Undoing does not allocate
 //! and cannot fail.
 ghost use Rattle.std.specs.Prelude.{◌≡◌, ◌<◌, ◌-◌, ◌*◌, ◌∷◌, ◌↔◌, ◌⊎◌, take, false, Err, IfOk, IfErr, OnOk, OnErr, Option, option_map};
+ghost use Rattle.std.specs.List.Sorted.{IsStrictlyIncreasing};
 ghost use Rattle.mls_nodes.specs.Limits.{leaf_limit};
 ghost use Rattle.mls_tree.specs.Tree.{leaf_count, node_at, IsParentNodeIndex};
 ghost use Rattle.mls_tree.specs.TreeOperations.{put_leaf, put_parent, change_parent, blank_path, with_unmerged, add_unmerged, is_overfilled, IsOverfull, extend, truncate};
@@ -321,16 +322,18 @@ impl Journal {
     /// Returns the node indices at which the changes replaced a node, and all those that extending added or truncating
     /// removed (RFC 9420, Appendix C). At every other node index the tree is as before the changes.
     ///
-    /// `tree` is the tree that was changed with this journal. (The contract holds for every tree.) A node index may
-    /// occur more than once. Time and memory are proportional to the number of changes and to the sizes of the subtrees
-    /// that were added or removed.
+    /// `tree` is the tree that was changed with this journal. (The contract holds for every tree.) The node indices are
+    /// in increasing order, and each is there once. Of n changes and of nodes that were added or removed, time is
+    /// proportional to n log n and memory to n.
     pub fn changed_node_indices(
         &self,
         alloc: Global,
         tree: &PublicTree,
     ) -> Result<Vec<u32>, AllocError>
-        ensures { IfOk result (λ node_indices.
+        ensures agree { IfOk result (λ node_indices.
             AgreeExceptAt node_indices.items (before self.now tree.now.tree) tree.now.tree) }
+        ensures increasing { IfOk result (λ node_indices.
+            IsStrictlyIncreasing node_indices.items) }
     {
         let mut node_indices = Vec::new(alloc);
         let mut leaves = tree.leaf_count();
@@ -339,6 +342,8 @@ impl Journal {
             let former_leaves = push_changed(&mut node_indices, &formers[index], leaves)?;
             leaves = former_leaves;
         }
+        node_indices.sort_unstable();
+        node_indices.dedup();
         Ok(node_indices)
     }
 

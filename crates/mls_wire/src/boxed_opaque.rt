@@ -1,4 +1,4 @@
-//! The body of a vector, stored on the heap.
+//! The body of a vector, as a value of 16 bytes.
 
 ghost use Rattle.std.specs.Prelude.{◌≡◌, ◌<◌, ◌≤◌, Err, IfOk, MatchResult, length};
 ghost use Rattle.mls_wire.specs.Encoding.{vector};
@@ -13,31 +13,35 @@ use crate::encode::Encode;
 use crate::fault::CodecFault;
 use crate::opaque::Opaque;
 use crate::reader::Reader;
+use crate::short_bytes::ShortBytes;
 use crate::size::size_of_vector;
 use std::alloc::{AllocError, Global};
 use std::marker::Model;
 
-/// A body, or none if it is empty.
+/// The most bytes of a body that is stored in place.
+const MAX_SHORT: usize = 14;
+
+/// Where the bytes of a body are.
 #[derive(Debug)]
 enum Body {
-    /// No bytes.
-    Empty,
-    /// The body.
-    Full(Box<Opaque>),
+    /// In place.
+    InPlace(ShortBytes<MAX_SHORT>),
+    /// On the heap.
+    OnHeap(Box<Opaque>),
 }
 
 // Written out, so that a drop is one call in the proofs of its owners.
 impl Drop for Body {
     fn drop(self) {
         match self {
-            Body::Empty => {}
-            Body::Full(_) => {}
+            Body::InPlace(_) => {}
+            Body::OnHeap(_) => {}
         }
     }
 }
 
-/// The body of a vector as [`Opaque`] has it (RFC 9420, 2.1.2), stored on the heap unless it is empty. It is smaller
-/// than an `Opaque`, so that a list of many short bodies takes little memory.
+/// The body of a vector as [`Opaque`] has it (RFC 9420, 2.1.2), in a value of 16 bytes. At most 14 bytes are stored in
+/// place. It is smaller than an `Opaque`, so that a list of many short bodies takes little memory.
 #[derive(Debug)]
 pub struct BoxedOpaque {
     body: Body,
@@ -63,15 +67,17 @@ impl Model for BoxedOpaque {
 }
 
 impl BoxedOpaque {
-    /// Returns this body, stored on the heap.
+    /// Returns this body. Allocates only if it has more than 14 bytes.
     pub fn new(alloc: Global, body: Opaque) -> Result<BoxedOpaque, AllocError>
         ensures { IfOk result (λ made. made ≡ body) }
     {
-        if body.as_slice().is_empty() {
-            return Ok(BoxedOpaque { body: Body::Empty });
+        if body.as_slice().len() <= MAX_SHORT {
+            return Ok(BoxedOpaque {
+                body: Body::InPlace(ShortBytes::of(body.as_slice())),
+            });
         }
         Ok(BoxedOpaque {
-            body: Body::Full(Box::new(alloc, body)?),
+            body: Body::OnHeap(Box::new(alloc, body)?),
         })
     }
 
@@ -107,8 +113,8 @@ impl BoxedOpaque {
         ensures limit { length self.now ≤ vector_limit }
     {
         match &self.body {
-            Body::Empty => &[],
-            Body::Full(body) => body.as_slice(),
+            Body::InPlace(bytes) => bytes.as_slice(),
+            Body::OnHeap(body) => body.as_slice(),
         }
     }
 }

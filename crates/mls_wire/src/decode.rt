@@ -48,7 +48,7 @@ pub trait Decode: Drop {
     ghost long: { IsLong encoding };
 }
 
-/// Returns the values whose encodings are all of the body, one after the other.
+/// Returns the values whose encodings are all of the body, one after the other. They take no more memory than they need.
 pub(crate) fn items_of<T: Decode>(alloc: Global, mut body: Reader<'_>) -> Result<Vec<T>, CodecFault>
     ensures { Finds
         (items_at T.reading (length body.entry.left) body.entry)
@@ -59,6 +59,7 @@ pub(crate) fn items_of<T: Decode>(alloc: Global, mut body: Reader<'_>) -> Result
         let item = T::read(alloc, &mut body)?;
         items.push(item)?;
     }
+    items.shrink_to_fit();
     Ok(items)
 }
 

@@ -4,8 +4,8 @@
 //! - A [`Reader`] reads bytes from left to right, and a [`Writer`] appends to its own.
 //! - A type that implements [`Decode`] and [`Encode`] states its encoding. It is then decoded by [`read_value`],
 //!   [`read_all_of`] and [`read_input`], and encoded by [`bytes_of`] and [`Writer::write`].
-//! - [`Opaque`] is the body of a vector, [`BoxedOpaque`] a smaller form for long lists, [`Items`] a list that fits into one, [`Codes`] such a list of `uint16`,
-//!   [`Sequence`] a list of any length.
+//! - [`Opaque`] is the body of a vector, [`BoxedOpaque`] a smaller form for long lists, [`Items`] a list that fits into
+//!   one, [`Codes`] such a list of `uint16`, [`Sequence`] a list of any length.
 //! - [`Shared`] holds a value with several owners, so that a copy of it allocates nothing.
 //! - A [`Source`] gives bytes and a [`Sink`] takes them, in pieces of any size; each over std or over memory.
 //! - A [`RecordReader`] reads the records of a log from its source. [`Records`] takes the source in each call.

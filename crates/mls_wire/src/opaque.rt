@@ -14,7 +14,7 @@ use crate::draft::Draft;
 use crate::encode::Encode;
 use crate::fault::{CodecFault, WireFault, WireFaultKind};
 use crate::reader::Reader;
-use crate::short_bytes::{MAX_SHORT, ShortBytes};
+use crate::short_bytes::ShortBytes;
 use crate::size::size_of_vector;
 use std::alloc::{AllocError, Global};
 use std::marker::Model;
@@ -22,11 +22,14 @@ use std::marker::Model;
 /// The most bytes of the body of a vector (RFC 9420, 2.1.2).
 pub const MAX_BODY: usize = 1073741823;
 
+/// The most bytes of a body that is stored in place.
+const MAX_SHORT: usize = 38;
+
 /// Where the bytes of a body are.
 #[derive(Debug)]
 enum Stored {
     /// In place.
-    InPlace(ShortBytes),
+    InPlace(ShortBytes<MAX_SHORT>),
     /// On the heap.
     OnHeap(Vec<u8>),
 }

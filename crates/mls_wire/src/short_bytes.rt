@@ -1,44 +1,42 @@
 //! Short byte strings, stored in place.
 
-ghost use Rattle.std.specs.Prelude.{◌≡◌, ◌≤◌, length};
+ghost use Rattle.std.specs.Prelude.{◌≡◌, ◌<◌, ◌≤◌, length};
 
 use std::marker::Model;
 
-/// The most bytes of a short byte string.
-pub(crate) const MAX_SHORT: usize = 38;
-
-/// At most [`MAX_SHORT`] bytes, stored in place.
+/// At most `MAX` bytes, stored in place.
 #[derive(Debug)]
-pub(crate) struct ShortBytes {
+pub(crate) struct ShortBytes<const MAX: usize> {
     len: u8,
-    bytes: [u8; MAX_SHORT],
+    bytes: [u8; MAX],
 }
 
 // Written out, so that a drop is one call in the proofs of its owners.
-impl Drop for ShortBytes {
+impl<const MAX: usize> Drop for ShortBytes<MAX> {
     fn drop(self) {
         let ShortBytes { len: _, bytes: _ } = self;
     }
 }
 
-impl Model for ShortBytes {
-    ghost use Rattle.std.specs.Prelude.{ℕ, ◌≤◌, List, take};
+impl<const MAX: usize> Model for ShortBytes<MAX> {
+    ghost use Rattle.std.specs.Prelude.{ℕ, ◌≡◌, ◌≤◌, List, length, take};
 
     ghost Value = { List ℕ };
 
     ghost view = { λ b. take b.len b.bytes };
 
-    ghost invariant = { λ b. b.len ≤ 38 };
+    ghost invariant = { λ b. (b.len ≤ MAX) × (length b.bytes ≡ MAX) };
 }
 
-impl ShortBytes {
+impl<const MAX: usize> ShortBytes<MAX> {
     /// Returns a copy of these bytes.
-    pub(crate) fn of(bytes: &[u8]) -> ShortBytes
-        requires { length bytes.now ≤ 38 }
+    pub(crate) fn of(bytes: &[u8]) -> ShortBytes<MAX>
+        requires max { MAX < 256 }
+        requires length { length bytes.now ≤ MAX }
         ensures { result ≡ bytes.now }
     {
         let len = bytes.len();
-        let mut padded = [0; MAX_SHORT];
+        let mut padded = [0; MAX];
         padded[..len].copy_from_slice(bytes);
         ShortBytes {
             len: len as u8,

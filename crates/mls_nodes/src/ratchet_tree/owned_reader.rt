@@ -1,4 +1,4 @@
-//! Reading the entries of a ratchet_tree, whose bytes are freed as they are read.
+//! Reading the entries of a ratchet_tree, whose bytes are freed once they are read.
 
 ghost use Rattle.std.specs.Prelude.{◌≡◌, ◌+◌, ◌≤◌, ◌<◌, ◌^◌, length, take, drop, Some, Err, IfOk, IfSome};
 ghost use Rattle.mls_wire.specs.Encoding.{optional};

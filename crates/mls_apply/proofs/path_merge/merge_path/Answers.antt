@@ -1,15 +1,14 @@
-use Rattle.std.proofs.Common.{rules, refl, ◌∙◌, Some, Err, map, sym, ap}
+use Rattle.std.proofs.Common.{rules, refl, ◌∙◌, Some, map, ap, sym}
 use Rattle.mls_tree.specs.TreeOperations.{blank_path, put_leaf}
 use Rattle.mls_tree.specs.Tree.{leaf_count}
 use Rattle.mls_tree.proofs.Choices.{is_less}
 use Rattle.mls_hash.specs.SuiteHash.{hash_of}
-use Rattle.mls_apply.specs.declared.fault.ApplyFault.TheVariants.{NoSuchLeaf, OutOfMemory}
+use Rattle.mls_apply.specs.declared.fault.ApplyFault.TheVariants.{NoSuchLeaf}
 use Rattle.mls_apply.specs.AppliedList.{applied_tree}
 use Rattle.mls_apply.specs.PathRules.{node_keys}
 use Rattle.mls_apply.specs.PathParents.{changed}
 use Rattle.mls_apply.specs.PathModel.{change_of}
-use Rattle.mls_index.proofs.Indexes.{index_covers}
-use Rattle.mls_apply.proofs.Refusals.{path-no_leaf, path-set, same_fault}
+use Rattle.mls_apply.proofs.Refusals.{path-no_leaf, path-mapped, path-set, same_fault}
 use Rattle.mls_apply.proofs.Routes.{merged-changes}
 use Rattle.mls_apply.proofs.path_merge.merge_path.Goals as goal
 
@@ -21,26 +20,19 @@ pub returns-then-committer-leaf_count-clause-no_such_leaf : goal.returns-then-co
 returns-then-committer-leaf_count-clause-no_such_leaf c =
     (λ _. path-no_leaf (applied_tree c.args.applied.tree.tree c.args.applied.added) c.args.committer c.args.path.now (hash_of c.args.suite) (search rules), λ _. refl)
 
-pub returns-in-Ok-new-clause-merged : goal.returns-in-Ok-new-clause-merged
-returns-in-Ok-new-clause-merged c =
+pub returns-in-Ok-clause-merged : goal.returns-in-Ok-clause-merged
+returns-in-Ok-clause-merged c =
     let t = c.args.applied.tree.tree in
-    let cs = map change_of c.in-Ok-new.new.parents.items in
-    merged-changes (hash_of c.args.suite) t c.args.committer c.args.path.now.leaf_node (node_keys c.args.path.now) cs c.in-Ok-new.ensures.made.path_parents
-    ∙ (λ i. Some (put_leaf 0 (changed 0 (blank_path (sym c.filled_nodes-new.ensures.tree i) c.args.committer) cs) c.args.committer (Some (sym c.in-Ok-new.ensures.made.leaf i))))
+    let cs = map change_of c.in-Ok.new.parents.items in
+    merged-changes (hash_of c.args.suite) t c.args.committer c.args.path.now.leaf_node (node_keys c.args.path.now) cs c.in-Ok.ensures.made.path_parents
+    ∙ (λ i. Some (put_leaf 0 (changed 0 (blank_path (sym c.checked_nodes-new.ensures.tree i) c.args.committer) cs) c.args.committer (Some (sym c.in-Ok.ensures.made.leaf i))))
     ∙ (λ i. Some (sym c.put_path.ensures i))
-
-pub returns-in_default-clause-no_such_leaf : goal.returns-in_default-clause-no_such_leaf
-returns-in_default-clause-no_such_leaf c =
-    let set = is_less c.args.committer (leaf_count c.args.applied.tree.tree) (search rules) in
-    path-set (applied_tree c.args.applied.tree.tree c.args.applied.added) c.args.committer c.args.path.now (hash_of c.args.suite)
-    (λ h. let f = same_fault OutOfMemory NoSuchLeaf _ _ h in absurd (cc)) set
 
 pub returns-in-Err-clause-no_such_leaf : goal.returns-in-Err-clause-no_such_leaf
 returns-in-Err-clause-no_such_leaf c =
+    let g = applied_tree c.args.applied.tree.tree c.args.applied.added in
     let set = is_less c.args.committer (leaf_count c.args.applied.tree.tree) (search rules) in
-    path-set (applied_tree c.args.applied.tree.tree c.args.applied.added) c.args.committer c.args.path.now (hash_of c.args.suite)
-    (λ h. c.in-Err.ensures.outside.0 (ap Err (same_fault c.in-Err.fault NoSuchLeaf _ _ h))) set
-
--- an index of a tree covers it
-pub filled_nodes-new-requires : goal.filled_nodes-new-requires
-filled_nodes-new-requires c = index_covers c.args.applied.tree.tree c.in-Ok.index c.in-Ok.ensures
+    path-set g c.args.committer c.args.path.now (hash_of c.args.suite)
+    (λ h.
+    let same = same_fault c.in-Err.fault NoSuchLeaf _ _ h in
+    path-mapped g c.args.committer c.args.path.now (hash_of c.args.suite) (c.in-Err.ensures.refused (λ e. cc (e, same)) ∙ ap Some same)) set

@@ -22,15 +22,15 @@ returns-in-Ok-clause-executed g c =
         verdict = c.in-Ok.replayed.verdict;
         last = last;
         whole = c.in-Ok.ensures.replayed;
-        saved = c.store_after.ensures.saved;
+        saved = c.store_after-stored.ensures.saved;
         going = going c.replay_group_in.result c.in-Ok.replayed _ c.in-Ok.is c.replay_group_in.ensures.write;
       });
-      failed = saved-read c.store_after.result c.store_after.ensures.fault (unfailed c.replay_group_in.result c.in-Ok.replayed c.in-Ok.is c.replay_group_in.ensures.read);
+      failed = saved-read c.store_after-stored.result c.store_after-stored.ensures.fault (unfailed c.replay_group_in.result c.in-Ok.replayed c.in-Ok.is c.replay_group_in.ensures.read);
     })))
 
 pub returns-in-Ok-clause-write : goal.returns-in-Ok-clause-write
 returns-in-Ok-clause-write g c =
-    saved-write _ c.store_after.result _ c.store_after.ensures.write (going c.replay_group_in.result c.in-Ok.replayed _ c.in-Ok.is c.replay_group_in.ensures.write)
+    saved-write _ c.store_after-stored.result _ c.store_after-stored.ensures.write (going c.replay_group_in.result c.in-Ok.replayed _ c.in-Ok.is c.replay_group_in.ensures.write)
 
 pub returns-clause-executed : goal.returns-clause-executed
 returns-clause-executed g c =

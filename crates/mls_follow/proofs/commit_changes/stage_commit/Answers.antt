@@ -26,8 +26,9 @@ returns-in_err-change_tree-clause-refused g c =
     change_failed G (in_context rules.context.now) rules.required.now commit.committer commit.path.now o e fails))
 
 -- the tree after the list and the path fails a rule
-pub returns-clause-refused : goal.returns-clause-refused
-returns-clause-refused g c =
+pub returns-in_err-tree_hash-clause-refused : goal.returns-in_err-tree_hash-clause-refused
+returns-in_err-tree_hash-clause-refused g c =
+    let p = err_from_is_err_and c.from_residual-in_err-tree_hash.result c.from_residual-in_err-tree_hash.ensures.1 in
     let G = g.C.SignatureCheck.meaning c.args.checker.now in
     let rules = c.args.rules.now in
     let commit = c.args.commit.now in
@@ -36,4 +37,4 @@ returns-clause-refused g c =
     let t = c.change_tree.new.tree.tree in
     let kept = subst2 (λ (suite : ℕ) (v : Option AppliedTree). first_failing (change_rules (hash_of suite) commit.committer commit.path.now v) ≡ None) rules.same_suite same c.in_ok-change_tree.ensures.rules_hold in
     let made = subst2 (λ (suite : ℕ) (v : Option AppliedTree). changed_tree (hash_of suite) commit.committer commit.path.now v ≡ Some t) rules.same_suite same c.in_ok-change_tree.ensures.tree in
-    rw (change_kept G (in_context rules.context.now) rules.required.now commit.committer commit.path.now o t kept made) c.check_changed_tree.ensures.refused
+    rw (p.1, p.2, change_kept G (in_context rules.context.now) rules.required.now commit.committer commit.path.now o t kept made) c.in_err-tree_hash.ensures.refused

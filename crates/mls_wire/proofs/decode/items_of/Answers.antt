@@ -19,5 +19,5 @@ loop-body-preserved g c =
 pub returns : goal.returns
 returns g c =
     let t = c.loop-body-test.ensures in
-    items_end g.T.Decode.reading (shortens g.T.Decode.encoding g.T.Decode.reading g.met.T.Decode.exact g.met.T.Decode.long)
-    c.loop-body.items.items c.loop-body.body _ (t.0 refl) c.loop-body.invariant
+    rw c.shrink_to_fit.ensures.items (items_end g.T.Decode.reading (shortens g.T.Decode.encoding g.T.Decode.reading g.met.T.Decode.exact g.met.T.Decode.long)
+    c.loop-body.items.items c.loop-body.body _ (t.0 refl) c.loop-body.invariant)

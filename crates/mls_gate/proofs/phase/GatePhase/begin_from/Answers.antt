@@ -15,8 +15,9 @@ returns-in_ok-text-in-Ok-clause-answered g c =
     let i = inputs_of c.args.inputs in
     let G = g.C.SignatureCheck.meaning c.args.checker in
     let s = state_of c.in-Ok.follower in
-    subst (λ (K : VerifyFn). Replies (Begins i G) (string_bytes c.in_ok-text-in-Ok.field-0) false (Some (Following K s))) (sym c.in-Ok.ensures.checker)
-    (subst (λ (t : List ℕ). Replies (Begins i G) t false (Some (Following G s))) (sym c.in_ok-text-in-Ok.ensures) (begun G i s c.in-Ok.ensures.first))
+    rw c.replace.ensures.after
+    (subst (λ (K : VerifyFn). Replies (Begins i G) (string_bytes c.in_ok-text-in-Ok.field-0) false (Some (Following K s))) (sym c.in-Ok.ensures.checker)
+    (subst (λ (t : List ℕ). Replies (Begins i G) t false (Some (Following G s))) (sym c.in_ok-text-in-Ok.ensures) (begun G i s c.in-Ok.ensures.first)))
 
 pub returns-in-Err-Found-clause-answered : goal.returns-in-Err-Found-clause-answered
 returns-in-Err-Found-clause-answered g c =

@@ -97,7 +97,7 @@ in_left : (first i : ℕ) (l m : Tree) (n x : Option ParentNode) (r : Tree) → 
     → direct_path first (branch m x r) i ≡ direct_path first (branch l n r) i
 in_left first i l m n x r c e = λ j. (if nat_lt i (first + c j) then e j else direct_path (first + c j) r i) ++ (2 * (first + c j) - 1) ∷ []
 
-direct_path-put_parent : (first : ℕ) (t : Tree) (q : ℕ) (x : Option ParentNode) (i : ℕ) → direct_path first (put_parent first t q x) i ≡ direct_path first t i
+pub direct_path-put_parent : (first : ℕ) (t : Tree) (q : ℕ) (x : Option ParentNode) (i : ℕ) → direct_path first (put_parent first t q x) i ≡ direct_path first t i
 direct_path-put_parent first (leaf y) q x i = refl
 direct_path-put_parent first (branch l n r) q x i =
     let m = first + leaf_count l in

@@ -31,12 +31,14 @@ pub mod SlotsBack
 pub mod ParentEntries
 pub mod Emptying
 pub mod LeafCounts
+pub mod MergedLists
 pub mod Fronts
 pub mod Rejoining
 pub mod KeptSlots
 pub mod FrontSlots
 pub mod EmptyFronts
 pub mod EmptiedAgain
+pub mod MergedParents
 pub mod ChangedNodeIndices
 pub mod Counting
 pub mod KeptCounts

@@ -22,6 +22,7 @@ pub mod ChangedNodes
 pub mod TreeSizes
 pub mod NodeArray
 pub mod NewUnmergedLists
+pub mod MergedLists
 pub mod HashValue
 pub mod HashLists
 pub mod HashListsInternal

@@ -86,6 +86,18 @@ is_overfilled_above first (branch l n r) i =
 abbrev pub IsOverfull : Tree → ℕ → Type 0
 IsOverfull t i = IsTrue (is_overfilled_above 0 t i)
 
+-- `add_all_unmerged is t` is the tree with the leaf indices `is` added, one after the other, to the unmerged lists above
+-- them (RFC 9420, 12.1.1): the call `add_all_unmerged`.
+abbrev pub add_all_unmerged : List ℕ → Tree → Tree
+add_all_unmerged [] t = t
+add_all_unmerged (i ∷ is) t = add_all_unmerged is (add_unmerged t i)
+
+-- `overfills is t`: one of the steps of `add_all_unmerged is t` adds a leaf index above which some unmerged list cannot
+-- take it.
+abbrev pub overfills : List ℕ → Tree → Bool
+overfills [] t = false
+overfills (i ∷ is) t = is_overfilled_above 0 t i || overfills is (add_unmerged t i)
+
 -- `has_non_blank_leaf t`: some leaf is non-blank.
 abbrev pub has_non_blank_leaf : Tree → Bool
 has_non_blank_leaf (leaf None) = false

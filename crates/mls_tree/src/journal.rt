@@ -3,12 +3,12 @@
 //! A large tree is changed in place, not on a copy, and is validated after that. Each call here changes the tree and
 //! stores what it replaced. The changes are then either final, or undone in reverse order. Undoing does not allocate
 //! and cannot fail.
-ghost use Rattle.std.specs.Prelude.{◌≡◌, ◌<◌, ◌-◌, ◌*◌, ◌∷◌, ◌↔◌, ◌⊎◌, take, false, Err, IfOk, IfErr, OnOk, OnErr, Option, option_map};
+ghost use Rattle.std.specs.Prelude.{◌≡◌, ◌<◌, ◌-◌, ◌*◌, ◌∷◌, ◌↔◌, ◌⊎◌, take, true, false, All, Err, IfOk, IfErr, OnOk, OnErr, Option, option_map};
 ghost use Rattle.std.specs.List.Sorted.{IsStrictlyIncreasing};
 ghost use Rattle.mls_nodes.specs.Limits.{leaf_limit};
 ghost use Rattle.mls_tree.specs.Tree.{leaf_count, node_at, IsParentNodeIndex};
-ghost use Rattle.mls_tree.specs.TreeOperations.{put_leaf, put_parent, change_parent, blank_path, with_unmerged, add_unmerged, is_overfilled, IsOverfull, extend, truncate};
-ghost use Rattle.mls_tree.specs.Paths.{direct_path};
+ghost use Rattle.mls_tree.specs.TreeOperations.{put_leaf, put_parent, change_parent, blank_path, with_unmerged, add_unmerged, add_all_unmerged, overfills, is_overfilled, IsOverfull, extend, truncate};
+ghost use Rattle.mls_tree.specs.Paths.{direct_path, direct_paths};
 ghost use Rattle.mls_tree.specs.NodeView.{parent_of};
 ghost use Rattle.mls_tree.specs.HashCache.{emptied, extended, parents_from};
 ghost use Rattle.mls_tree.specs.Journals.{undone, before, slots_back, slots_before, IsEntryOfKind, IsOfKind, IsEmptyJournal};
@@ -56,9 +56,10 @@ pub(crate) enum UndoEntry {
 /// call that returns `OutOfMemory` may have made a part of its changes, if its documentation says so; the journal has
 /// stored that part.
 ///
-/// Each call empties the cache slots that the tree's own call of that name empties. Undoing empties those of what it
-/// restores: `slots_before` is the slots that the tree then has. A restored subtree has the slots that it had, if its
-/// cache is of the same kind as the tree's (`IsOfKind`). That is so if only the calls here have changed the kind.
+/// Each call empties the cache slots that the tree's own call of that name empties, and `add_all_unmerged` only slots of
+/// parents above the leaves. Undoing empties those of what it restores: `slots_before` is the slots that the tree then
+/// has. A restored subtree has the slots that it had, if its cache is of the same kind as the tree's (`IsOfKind`). That
+/// is so if only the calls here have changed the kind.
 ///
 /// The journal has an entry for each node that a change replaces, except if a blank node is replaced by a blank one.
 #[derive(Drop)]
@@ -262,6 +263,73 @@ impl Journal {
             self.insert_unmerged(tree, node_index, index)?;
         }
         Ok(())
+    }
+
+    // As `add_all_unmerged`. Each non-blank parent above some of the leaves is replaced once, by one with the same keys.
+    fn replace_lists(
+        &mut self,
+        alloc: Global,
+        tree: &mut PublicTree,
+        indices: &[u32],
+    ) -> Result<(), TreeError>
+        requires { IsStrictlyIncreasing indices.now }
+        ensures in_lists { OnOk result (tree.new.tree ≡ add_all_unmerged indices.now tree.old.tree) }
+        ensures before { before self.new tree.new.tree ≡ before self.old tree.old.tree }
+        ensures kind { tree.new.kind ≡ tree.old.kind }
+        ensures slots { OnOk result (SlotsAgreeExceptAt (direct_paths 0 tree.old.tree indices.now)
+            tree.old.slots tree.new.slots) }
+        ensures fits { OnOk result (overfills indices.now tree.old.tree ≡ false) }
+        ensures too_many_leaves { (result ≡ Err TreeError.TooManyLeaves)
+            → overfills indices.now tree.old.tree ≡ true }
+        ensures possible_errors { IfErr result
+            (λ e. (e ≡ TreeError.TooManyLeaves) ⊎ (e ≡ TreeError.OutOfMemory)) }
+        ensures halves { IsOfKind tree.old.kind self.old → IsOfKind tree.old.kind self.new }
+        ensures slots_back { SlotsAgreeExceptAt (direct_paths 0 tree.old.tree indices.now)
+            (slots_before self.old tree.old) (slots_before self.new tree.new) }
+    {
+        let mut parents = tree.new_parents(alloc, indices)?;
+        while let Some(new) = parents.pop() {
+            self.put_parent(tree, new.node_index, Some(new.parent))?;
+        }
+        Ok(())
+    }
+
+    /// Adds leaf indices, one after the other, to the unmerged leaves of the non-blank parents above them (RFC 9420,
+    /// 12.1.1). Each list is as `add_unmerged` makes it. The leaf indices must be in increasing order.
+    ///
+    /// A single leaf index is added in place. Of several, each list is copied once: for k leaf indices in a tree of n
+    /// leaves, the time is proportional to k log n and to the length of the lists that change, if these are sorted.
+    ///
+    /// # Errors
+    ///
+    /// `TooManyLeaves` if a list would have more than 1,048,576 entries. If memory runs out, some of the lists may have
+    /// changed.
+    pub fn add_all_unmerged(
+        &mut self,
+        alloc: Global,
+        tree: &mut PublicTree,
+        indices: &[u32],
+    ) -> Result<(), TreeError>
+        requires increasing { IsStrictlyIncreasing indices.now }
+        requires inside { All (λ i. i < leaf_count tree.old.tree) indices.now }
+        ensures in_lists { OnOk result (tree.new.tree ≡ add_all_unmerged indices.now tree.old.tree) }
+        ensures before { before self.new tree.new.tree ≡ before self.old tree.old.tree }
+        ensures kind { tree.new.kind ≡ tree.old.kind }
+        ensures slots { OnOk result (SlotsAgreeExceptAt (direct_paths 0 tree.old.tree indices.now)
+            tree.old.slots tree.new.slots) }
+        ensures fits { OnOk result (overfills indices.now tree.old.tree ≡ false) }
+        ensures too_many_leaves { (result ≡ Err TreeError.TooManyLeaves)
+            → overfills indices.now tree.old.tree ≡ true }
+        ensures possible_errors { IfErr result
+            (λ e. (e ≡ TreeError.TooManyLeaves) ⊎ (e ≡ TreeError.OutOfMemory)) }
+        ensures halves { IsOfKind tree.old.kind self.old → IsOfKind tree.old.kind self.new }
+        ensures slots_back { SlotsAgreeExceptAt (direct_paths 0 tree.old.tree indices.now)
+            (slots_before self.old tree.old) (slots_before self.new tree.new) }
+    {
+        if let [index] = indices {
+            return self.add_unmerged(alloc, tree, *index);
+        }
+        self.replace_lists(alloc, tree, indices)
     }
 
     /// Extends the tree (RFC 9420, 7.7): the tree becomes the left subtree of one twice as large, whose other nodes are

@@ -1,6 +1,7 @@
 //! The nodes of a tree as one array.
-ghost use Rattle.std.specs.Prelude.{◌≡◌, ℕ, ◌+◌, ◌≤◌, ◌<◌, ◌==◌, length, IfOk, IfErr, IfSome, Err, MatchOption, OnOk, OnErr, IsOk, IsErr, ◌↔◌, ◌⊎◌, None, Some, false, map, option_map, option_copied};
+ghost use Rattle.std.specs.Prelude.{◌≡◌, ℕ, ◌+◌, ◌≤◌, ◌<◌, ◌==◌, length, IfOk, IfErr, IfSome, Err, MatchOption, OnOk, OnErr, IsOk, IsErr, ◌↔◌, ◌⊎◌, None, Some, true, false, map, option_map, option_copied};
 ghost use Rattle.std.specs.Bool.{OnTrue, OnFalse};
+ghost use Rattle.std.specs.List.Sorted.{IsStrictlyIncreasing};
 ghost use Rattle.mls_nodes.specs.Limits.{leaf_limit};
 ghost use Rattle.mls_nodes.specs.NodeModel.{entry_value, node_value};
 ghost use Rattle.mls_tree.specs.Tree.{leaf_count, member_count, height, listing, node_at, leaf_at, IsParentNodeIndex};
@@ -11,12 +12,14 @@ ghost use Rattle.mls_tree.specs.NodeView.{parent_of};
 ghost use Rattle.mls_tree.specs.TreeSizes.{IsPowerOfTwo, IsTooLong, IsListing};
 ghost use Rattle.mls_tree.specs.SubtreeCounts.{subtree_count, AreCounts, AreOutside};
 ghost use Rattle.mls_tree.specs.CountsModel.{AreCountsIfAny};
+ghost use Rattle.mls_tree.specs.MergedLists.{new_parents, overfills_below, replacement};
 
 use crate::blanks::{blank_above, counted_blank_leaf, push_blanks, truncated_height};
 use crate::entries::{
     all_fit, as_leaf, clone_entries, count_leaves, into_leaf, into_parent, leaf_entry, parent_entry,
 };
 use crate::error::TreeError;
+use crate::merged_parents::{NewParent, push_new_parents};
 use crate::node_indices::level_inside;
 use crate::paths::{push_copath, push_direct_path, push_filtered_direct_path};
 use crate::resolution::push_resolution;
@@ -466,6 +469,34 @@ impl NodeArray {
         ensures { result ≡ is_overfilled_above 0 self.now.tree index }
     {
         is_overfilled_above(self.nodes.as_slice(), self.height, 0, index)
+    }
+
+    /// Makes the parents that replace the non-blank ones above the leaves `indices`, which are the same with these leaf
+    /// indices in their lists, the topmost last. `TooManyLeaves` if a list would have more than 1,048,576 entries.
+    pub(crate) fn new_parents(
+        &self,
+        alloc: Global,
+        indices: &[u32],
+    ) -> Result<Vec<NewParent>, TreeError>
+        requires { IsStrictlyIncreasing indices.now }
+        ensures parents { IfOk result
+            (λ v. map replacement v.items ≡ new_parents 0 self.now.tree indices.now) }
+        ensures fits { OnOk result (overfills_below 0 self.now.tree indices.now ≡ false) }
+        ensures too_many_leaves { result ≡ Err TreeError.TooManyLeaves
+            → overfills_below 0 self.now.tree indices.now ≡ true }
+        ensures possible_errors { IfErr result
+            (λ e. (e ≡ TreeError.TooManyLeaves) ⊎ (e ≡ TreeError.OutOfMemory)) }
+    {
+        let mut out = Vec::new(alloc);
+        push_new_parents(
+            &mut out,
+            alloc,
+            self.nodes.as_slice(),
+            self.height,
+            0,
+            indices,
+        )?;
+        Ok(out)
     }
 
     /// Adds a leaf index to the unmerged leaves of the parent at node index `node_index`, in place, unless the parent

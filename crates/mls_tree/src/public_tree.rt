@@ -1,6 +1,7 @@
 //! The public tree of a group: its nodes, and a cache of the tree hashes of its subtrees.
-ghost use Rattle.std.specs.Prelude.{◌≡◌, ◌≢◌, ◌≤◌, ◌<◌, ◌-◌, ◌*◌, ◌∷◌, ◌==◌, [], length, take, replicate, IfOk, IfErr, IfSome, Err, MatchOption, OnOk, OnErr, IsOk, IsErr, ◌↔◌, ◌⊎◌, None, Some, false, map, option_map, option_copied, slice_get, slice_set, IsSome};
+ghost use Rattle.std.specs.Prelude.{◌≡◌, ◌≢◌, ◌≤◌, ◌<◌, ◌-◌, ◌*◌, ◌∷◌, ◌==◌, [], length, take, replicate, IfOk, IfErr, IfSome, Err, MatchOption, OnOk, OnErr, IsOk, IsErr, ◌↔◌, ◌⊎◌, None, Some, true, false, map, option_map, option_copied, slice_get, slice_set, IsSome};
 ghost use Rattle.std.specs.Bool.{OnTrue, OnFalse};
+ghost use Rattle.std.specs.List.Sorted.{IsStrictlyIncreasing};
 ghost use Rattle.mls_tree.specs.SlotChanges.{rejoined_slots, SlotsAgreeExceptAt};
 ghost use Rattle.mls_nodes.specs.Limits.{leaf_limit};
 ghost use Rattle.mls_nodes.specs.NodeModel.{entry_value, node_value};
@@ -9,6 +10,7 @@ ghost use Rattle.mls_tree.specs.Paths.{direct_path, copath, filtered_direct_path
 ghost use Rattle.mls_tree.specs.BlankLeaves.{first_blank_leaf, next_blank_leaf, IsFirstBlank, AllLeavesNonBlank};
 ghost use Rattle.mls_tree.specs.TreeOperations.{put_leaf, put_parent, blank_path, change_parent, with_unmerged, without_unmerged, add_unmerged, is_overfilled, is_overfilled_above, IsOverfull, truncate, blank_tree, extend, left_subtree, front_subtree, rejoined, seat};
 ghost use Rattle.mls_tree.specs.NodeView.{parent_of};
+ghost use Rattle.mls_tree.specs.MergedLists.{new_parents, overfills_below, replacement};
 ghost use Rattle.mls_tree.specs.TreeSizes.{IsPowerOfTwo, IsTooLong, IsListing};
 ghost use Rattle.mls_tree.specs.HashCache.{emptied, empty_count, extended, parents_from, hash_in, IsRightHash, AreAllFilled};
 
@@ -24,6 +26,7 @@ use crate::error::TreeError;
 use crate::hash_cache::Slots;
 use crate::hash_kind::HashKind;
 use crate::hash_value::HashValue;
+use crate::merged_parents::NewParent;
 use crate::node_array::NodeArray;
 use crate::tree_size::leaves_of;
 use mls_nodes::{LeafNode, Node, ParentNode};
@@ -493,6 +496,25 @@ impl PublicTree {
         ensures { result ≡ is_overfilled_above 0 self.now.tree index }
     {
         self.tree.is_overfull(index)
+    }
+
+    /// Makes the parents that replace the non-blank ones above the leaves `indices`, which are the same with these leaf
+    /// indices in their lists, the topmost last. `TooManyLeaves` if a list would have more than 1,048,576 entries.
+    pub(crate) fn new_parents(
+        &self,
+        alloc: Global,
+        indices: &[u32],
+    ) -> Result<Vec<NewParent>, TreeError>
+        requires { IsStrictlyIncreasing indices.now }
+        ensures parents { IfOk result
+            (λ v. map replacement v.items ≡ new_parents 0 self.now.tree indices.now) }
+        ensures fits { OnOk result (overfills_below 0 self.now.tree indices.now ≡ false) }
+        ensures too_many_leaves { result ≡ Err TreeError.TooManyLeaves
+            → overfills_below 0 self.now.tree indices.now ≡ true }
+        ensures possible_errors { IfErr result
+            (λ e. (e ≡ TreeError.TooManyLeaves) ⊎ (e ≡ TreeError.OutOfMemory)) }
+    {
+        self.tree.new_parents(alloc, indices)
     }
 
     /// Adds a leaf index to the unmerged leaves of the parent at node index `node_index`, in place, unless the parent

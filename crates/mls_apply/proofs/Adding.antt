@@ -1,6 +1,6 @@
 -- Members that are added one after the other.
-use Rattle.std.proofs.Common.{◌≡◌, ◌∙◌, ℕ, ◌+◌, ◌<◌, ◌≤◌, true, false, List, [], ◌∷◌, ◌++◌, length, drop, get_or, Option, Some, None, refl, sym, ap, subst, arith}
-use Rattle.std.specs.Prelude.{if◌then◌else◌, is_some, option_map, MatchOption}
+use Rattle.std.proofs.Common.{◌≡◌, ◌∙◌, ℕ, ◌+◌, ◌<◌, ◌≤◌, Bool, true, false, List, [], ◌∷◌, ◌++◌, length, drop, get_or, Option, Some, None, refl, sym, ap, subst, arith}
+use Rattle.std.specs.Prelude.{if◌then◌else◌, ◌||◌, option_map, MatchOption}
 use Rattle.std.proofs.lemmas.Bool.{false≢true}
 use Rattle.std.proofs.lemmas.List.{append_assoc, append-nil, drop_all}
 use Rattle.mls_nodes.specs.declared.leaf.LeafNode.{LeafNode}
@@ -9,16 +9,16 @@ use Rattle.mls_msgs.specs.declared.proposal.Proposal.{Proposal}
 use Rattle.mls_msgs.specs.declared.proposal.Proposal.TheVariants.{Add, Update, Remove, ContextExtensions, PreSharedKey, ReInit, ExternalInit}
 use Rattle.mls_nodes.specs.Limits.{leaf_limit}
 use Rattle.mls_tree.specs.Tree.{Tree, height, leaf_count, member_count, leaf_at}
-use Rattle.mls_tree.specs.BlankLeaves.{first_blank_leaf, IsFirstBlank, AllLeavesNonBlank, AreNonBlankBelow}
-use Rattle.mls_tree.specs.TreeOperations.{extend, add, add_at, added_leaf, extended_if_full, number_or, blank_tree, add_unmerged, with_unmerged}
+use Rattle.mls_tree.specs.BlankLeaves.{first_blank_leaf, IsFirstBlank, AllLeavesNonBlank}
+use Rattle.mls_tree.specs.TreeOperations.{extend, add, add_at, added_leaf, extended_if_full, number_or, blank_tree, add_unmerged, with_unmerged, add_all_unmerged, overfills}
 use Rattle.mls_tree.proofs.Trees.{leaf_count-positive}
 use Rattle.mls_tree.proofs.Kept.{leaf_at-change_above, leaf_count-change_above, leaf_at-extend}
-use Rattle.mls_tree.proofs.Added.{add-set_below}
 use Rattle.mls_tree.proofs.FirstBlanks.{first_blank_leaf-leftmost}
 use Rattle.mls_tree.proofs.Lookups.{leaf_at-past}
 use Rattle.mls_apply.specs.AppliedList.{AppliedTree, applied_tree, after_leaf, after_adds, added_to, new_members}
-use Rattle.mls_apply.specs.AddSteps.{is_add, is_overfull_add, Adds}
+use Rattle.mls_apply.specs.AddSteps.{is_add, is_overfull_add, PutsMember}
 use Rattle.mls_apply.specs.declared.list_item.ListItem.{ListItem}
+use Rattle.mls_apply.proofs.AddedAtOnce.{add-put, put-index, put-listed, put-overfills, ArePlaced, placed-start, placed-next}
 use Rattle.mls_apply.proofs.Updating.{next_item}
 use Rattle.mls_apply.proofs.LeavesAreValid.{member_count-change_above, member_count-put_leaf, member_count-extend, member_count-full}
 
@@ -98,6 +98,10 @@ blank_inside t j e =
 pub member_count-add : (t : Tree) (x : LeafNode) → member_count (add t x) ≡ member_count t + 1
 member_count-add t x = one_member t x (first_blank_leaf 0 t) (first_blank_leaf-leftmost t)
 
+-- its leaf is put
+pub member_count-put : (t : Tree) (x : LeafNode) (j : ℕ) (u : Tree) → PutsMember t x j u → member_count u ≡ member_count t + 1
+member_count-put t x j u p = sym (ap member_count (add-put t x j u p) ∙ member_count-change_above (with_unmerged j) 0 u j) ∙ member_count-add t x
+
 -- a tree grows only where it has fewer leaves than a group has members
 pub room_to_grow : (t : Tree) → first_blank_leaf 0 t ≡ None → member_count t < leaf_limit → leaf_count t ≡ 1048576 → ⊥
 room_to_grow t e capacity full = let all = member_count-full 0 t e in omega arith
@@ -108,10 +112,10 @@ room_to_grow t e capacity full = let all = member_count-full 0 t e in omega arit
 abbrev pub append_parent_hash : List ℕ → AppliedTree → AppliedTree
 append_parent_hash added g = applied_tree g.tree (added ++ g.added)
 
--- where a walk stands, before the rest of the list
+-- where a walk stands, before the rest of the list: the members have their leaves, and are in no unmerged list
 pub record Adding (whole : Option AppliedTree) (rest : List ListItem) (t : Tree) (added : List ℕ) (start : ℕ) : Type 0 where
-  pub so_far : whole ≡ option_map (append_parent_hash added) (after_adds (new_members rest) t)
-  pub set : AreNonBlankBelow t start
+  pub so_far : whole ≡ (if overfills added t then None else option_map (append_parent_hash added) (after_adds (new_members rest) (add_all_unmerged added t)))
+  pub placed : ArePlaced t added start
   pub capacity : member_count t + length (new_members rest) ≤ leaf_limit
 
 none_before : (o : Option AppliedTree) → o ≡ option_map (append_parent_hash []) o
@@ -122,18 +126,28 @@ pub adding-start : (items : List ListItem) (t : Tree) → member_count t + lengt
     → Adding (after_adds (new_members items) t) items t [] 0
 adding-start items t capacity = record {
   so_far = none_before (after_adds (new_members items) t);
-  set = λ i lt. absurd (omega arith);
+  placed = placed-start t;
   capacity = capacity;
 }
 
-adding-end : (whole : Option AppliedTree) (t : Tree) (added : List ℕ) (start : ℕ) → Adding whole [] t added start → whole ≡ Some (applied_tree t added)
+adding-end : (whole : Option AppliedTree) (t : Tree) (added : List ℕ) (start : ℕ) → Adding whole [] t added start
+    → whole ≡ (if overfills added t then None else Some (applied_tree (add_all_unmerged added t) added))
 unfolding new_members after_adds
-adding-end whole t added start a = a.so_far ∙ ap (λ js. Some (applied_tree t js)) (append-nil added)
+adding-end whole t added start a = a.so_far ∙ ap (λ js. if overfills added t then None else Some (applied_tree (add_all_unmerged added t) js)) (append-nil added)
 
-pub adding-all : (whole : Option AppliedTree) (items : List ListItem) (i : ℕ) (t : Tree) (added : List ℕ) (start : ℕ) → length items ≤ i
-    → Adding whole (drop i items) t added start → whole ≡ Some (applied_tree t added)
-adding-all whole items i t added start past a =
-    adding-end whole t added start (subst (λ xs. Adding whole xs t added start) (drop_all i items past) a)
+-- all members have their leaves
+module _ (whole : Option AppliedTree) (items : List ListItem) (i : ℕ) (t : Tree) (added : List ℕ) (start : ℕ) (past : length items ≤ i)
+    (a : Adding whole (drop i items) t added start) where
+  adding-last : whole ≡ (if overfills added t then None else Some (applied_tree (add_all_unmerged added t) added))
+  adding-last = adding-end whole t added start (subst (λ xs. Adding whole xs t added start) (drop_all i items past) a)
+
+  pub adding-all : (u : Tree) → overfills added t ≡ false → u ≡ add_all_unmerged added t → whole ≡ Some (applied_tree u added)
+  adding-all u fits listed =
+      adding-last ∙ ap (λ (b : Bool). if b then None else Some (applied_tree (add_all_unmerged added t) added)) fits ∙ ap (λ v. Some (applied_tree v added)) (sym listed)
+
+  -- a list gets too long
+  pub adding-refused : overfills added t ≡ true → whole ≡ None
+  adding-refused full = adding-last ∙ ap (λ (b : Bool). if b then None else Some (applied_tree (add_all_unmerged added t) added)) full
 
 -- a proposal that is no Add
 pub no_add : (p : Proposal) → ((k : KeyPackage) → p ≡ Add k → ⊥) → is_add p ≡ false
@@ -150,22 +164,33 @@ one_more : (added : List ℕ) (j : ℕ) (o : Option AppliedTree)
 one_more added j None = refl
 one_more added j (Some g) = ap (λ js. Some (applied_tree g.tree js)) (sym (append_assoc added (j ∷ []) g.added))
 
+-- one of two tests holds
+either_full : (a b : Bool) (added : List ℕ) (j : ℕ) (o : Option AppliedTree)
+    → (if a then None else option_map (append_parent_hash added) (if b then None else option_map (after_leaf j) o))
+    ≡ (if a || b then None else option_map (append_parent_hash (added ++ j ∷ [])) o)
+either_full true b added j o = refl
+either_full false true added j o = refl
+either_full false false added j o = one_more added j o
+
 module _ (whole : Option AppliedTree) (x : ListItem) (xs : List ListItem) (t : Tree) (added : List ℕ) (start : ℕ)
     (a : Adding whole (x ∷ xs) t added start) where
+  abbrev lists : Tree
+  lists = add_all_unmerged added t
+
   pub adding-other : ((k : KeyPackage) → x.proposal ≡ Add k → ⊥) → Adding whole xs t added start
   unfolding new_members
   adding-other none =
       let same = same_members x.proposal (new_members xs) (no_add x.proposal none) in
       record {
-        so_far = a.so_far ∙ ap (λ ms. option_map (append_parent_hash added) (after_adds ms t)) same;
-        set = a.set;
+        so_far = a.so_far ∙ ap (λ ms. if overfills added t then None else option_map (append_parent_hash added) (after_adds ms lists)) same;
+        placed = a.placed;
         capacity = subst (λ ms. member_count t + length ms ≤ leaf_limit) same a.capacity;
       }
 
   module _ (k : KeyPackage) (e : x.proposal ≡ Add k) where
-    so_far_member : whole ≡ option_map (append_parent_hash added) (after_adds (k.leaf_node ∷ new_members xs) t)
+    so_far_member : whole ≡ (if overfills added t then None else option_map (append_parent_hash added) (after_adds (k.leaf_node ∷ new_members xs) lists))
     unfolding new_members
-    so_far_member = a.so_far ∙ ap (λ p. option_map (append_parent_hash added) (after_adds (added_to p (new_members xs)) t)) e
+    so_far_member = a.so_far ∙ ap (λ p. if overfills added t then None else option_map (append_parent_hash added) (after_adds (added_to p (new_members xs)) lists)) e
 
     room_member : member_count t + length (k.leaf_node ∷ new_members xs) ≤ leaf_limit
     unfolding new_members
@@ -175,25 +200,20 @@ module _ (whole : Option AppliedTree) (x : ListItem) (xs : List ListItem) (t : T
     pub adding-capacity : member_count t < leaf_limit
     adding-capacity = let r = room_member in omega arith
 
-    -- it was added
-    pub adding-member : (j : ℕ) (u : Tree) → Adds t k.leaf_node j u → Adding whole xs u (added ++ j ∷ []) (j + 1)
+    -- its leaf was put
+    pub adding-member : (j : ℕ) (u : Tree) → PutsMember t k.leaf_node j u → Adding whole xs u (added ++ j ∷ []) (j + 1)
     unfolding after_adds
-    adding-member j u d =
+    adding-member j u p =
         let r = room_member in
-        let more = ap member_count d.tree ∙ member_count-add t k.leaf_node in
+        let more = member_count-put t k.leaf_node j u p in
+        let inside = a.placed.inside in
         record {
           so_far =
               so_far_member
-              ∙ ap (λ b. option_map (append_parent_hash added) (if b then None else option_map (after_leaf (added_leaf t)) (after_adds (new_members xs) (add t k.leaf_node)))) d.fits
-              ∙ one_more added (added_leaf t) (after_adds (new_members xs) (add t k.leaf_node))
-              ∙ sym (λ i. option_map (append_parent_hash (added ++ d.index i ∷ [])) (after_adds (new_members xs) (d.tree i)));
-          set = λ i lt. (let low : i < added_leaf t + 1 = omega (arith, d.index) in ap (λ v. is_some (leaf_at 0 v i)) d.tree ∙ add-set_below t k.leaf_node i low);
+              ∙ either_full (overfills added t) (is_overfull_add lists) added (added_leaf lists) (after_adds (new_members xs) (add lists k.leaf_node))
+              ∙ sym
+              (λ i. if put-overfills t added inside k.leaf_node j u p i then None
+              else option_map (append_parent_hash (added ++ put-index t added inside k.leaf_node j u p i ∷ [])) (after_adds (new_members xs) (put-listed t added inside k.leaf_node j u p i)));
+          placed = placed-next t added start k.leaf_node j u a.placed p;
           capacity = omega arith;
         }
-
-    -- a list gets too long
-    pub adding-refused : is_overfull_add t ≡ true → whole ≡ None
-    unfolding after_adds
-    adding-refused o =
-        so_far_member
-        ∙ ap (λ b. option_map (append_parent_hash added) (if b then None else option_map (after_leaf (added_leaf t)) (after_adds (new_members xs) (add t k.leaf_node)))) o

@@ -1,12 +1,12 @@
 -- Members that are added one after the other, as the implementation does it. Internal: no public contract uses this.
-use Rattle.std.specs.Prelude.{◌≡◌, ℕ, ◌<◌, Bool, true, false}
+use Rattle.std.specs.Prelude.{◌≡◌, ℕ, ◌<◌, Bool, true, false, Some}
 use Rattle.mls_nodes.specs.declared.leaf.LeafNode.{LeafNode}
 use Rattle.mls_msgs.specs.declared.proposal.Proposal.{Proposal}
 use Rattle.mls_msgs.specs.declared.proposal.Proposal.TheVariants.{Add, Update, Remove, ContextExtensions, PreSharedKey, ReInit, ExternalInit}
 use Rattle.mls_nodes.specs.Limits.{leaf_limit}
-use Rattle.mls_tree.specs.Tree.{Tree}
+use Rattle.mls_tree.specs.Tree.{Tree, leaf_count}
 use Rattle.mls_tree.specs.BlankLeaves.{first_blank_leaf}
-use Rattle.mls_tree.specs.TreeOperations.{add, added_leaf, extended_if_full, is_overfilled_above}
+use Rattle.mls_tree.specs.TreeOperations.{put_leaf, added_leaf, extended_if_full, is_overfilled_above}
 
 -- `is_add p`: the proposal is an Add.
 abbrev pub is_add : Proposal → Bool
@@ -22,9 +22,10 @@ is_add (ExternalInit _) = false
 abbrev pub is_overfull_add : Tree → Bool
 is_overfull_add t = is_overfilled_above 0 (extended_if_full (first_blank_leaf 0 t) t) (added_leaf t)
 
--- `Adds old x j new`: `new` is `old` with a member at leaf j.
-pub record Adds (old : Tree) (x : LeafNode) (j : ℕ) (new : Tree) : Type 0 where
+-- `PutsMember old x j new`: `new` is `old`, extended if it has no blank leaf, with the leaf of a new member as leaf j. No
+-- unmerged list has the leaf index.
+pub record PutsMember (old : Tree) (x : LeafNode) (j : ℕ) (new : Tree) : Type 0 where
   pub index : j ≡ added_leaf old
-  pub tree : new ≡ add old x
-  pub fits : is_overfull_add old ≡ false
+  pub tree : new ≡ put_leaf 0 (extended_if_full (first_blank_leaf 0 old) old) j (Some x)
+  pub inside : j < leaf_count new
   pub small : j < leaf_limit

@@ -1,13 +1,14 @@
 //! The Adds of a proposal list (RFC 9420, 12.1.1).
 
-ghost use Rattle.std.specs.Prelude.{◌≡◌, ◌+◌, ◌<◌, ◌≤◌, ◌⊎◌, true, false, None, Some, IsSome, Err, IfOk, IfErr, OnOk, length};
+ghost use Rattle.std.specs.Prelude.{◌≡◌, ◌+◌, ◌<◌, ◌≤◌, ◌⊎◌, true, false, All, None, Some, IsSome, Err, IfOk, IfErr, OnOk, length};
+ghost use Rattle.std.specs.List.Sorted.{IsStrictlyIncreasing};
 ghost use Rattle.mls_nodes.specs.Limits.{leaf_limit};
 ghost use Rattle.mls_tree.specs.Tree.{leaf_count, member_count};
 ghost use Rattle.mls_tree.specs.BlankLeaves.{first_blank_leaf, AreNonBlankBelow};
-ghost use Rattle.mls_tree.specs.TreeOperations.{added_leaf, extended_if_full, add_unmerged, is_overfilled_above};
+ghost use Rattle.mls_tree.specs.TreeOperations.{added_leaf, extended_if_full, add_all_unmerged, overfills};
 ghost use Rattle.mls_tree.specs.Journals.{before};
 ghost use Rattle.mls_apply.specs.AppliedList.{after_adds, applied_tree, new_members};
-ghost use Rattle.mls_apply.specs.AddSteps.{is_overfull_add, Adds};
+ghost use Rattle.mls_apply.specs.AddSteps.{PutsMember};
 ghost use Rattle.mls_apply.specs.Outline.{IsOutline};
 
 use crate::fault::ApplyFault;
@@ -47,32 +48,9 @@ pub(crate) fn leaf_for_member(
     }
 }
 
-/// Adds a leaf to the unmerged lists above it. `TooManyLeaves` if one of them would be too long.
-fn add_unmerged(
-    alloc: Global,
-    tree: &mut PublicTree,
-    journal: &mut Journal,
-    index: u32,
-) -> Result<(), ApplyFault>
-    requires { index < leaf_count tree.old.tree }
-    ensures in_lists { OnOk result (tree.new.tree ≡ add_unmerged tree.old.tree index) }
-    ensures fits { OnOk result (is_overfilled_above 0 tree.old.tree index ≡ false) }
-    ensures too_many_leaves { result ≡ Err ApplyFault.TooManyLeaves
-        → is_overfilled_above 0 tree.old.tree index ≡ true }
-    ensures possible_errors { IfErr result (λ e.
-        (e ≡ ApplyFault.TooManyLeaves) ⊎ (e ≡ ApplyFault.OutOfMemory)) }
-    ensures before { before journal.new tree.new.tree ≡ before journal.old tree.old.tree }
-{
-    match journal.add_unmerged(alloc, tree, index) {
-        Ok(()) => Ok(()),
-        Err(TreeError::TooManyLeaves) => Err(ApplyFault::TooManyLeaves),
-        Err(TreeError::OutOfMemory) => Err(ApplyFault::OutOfMemory),
-        Err(_) => unreachable!(),
-    }
-}
-
-/// Adds a member with this leaf node, and returns its leaf. The leaves before `start` must be non-blank.
-fn add_member(
+/// Puts the leaf of a new member with this leaf node, and returns its leaf index, which is in no unmerged list. The leaves
+/// before `start` must be non-blank.
+fn put_member(
     alloc: Global,
     tree: &mut PublicTree,
     journal: &mut Journal,
@@ -81,21 +59,43 @@ fn add_member(
 ) -> Result<u32, ApplyFault>
     requires set { AreNonBlankBelow tree.old.tree start }
     requires capacity { member_count tree.old.tree < leaf_limit }
-    ensures added { IfOk result (λ j. Adds tree.old.tree leaf.now j tree.new.tree) }
-    ensures too_many_leaves { result ≡ Err ApplyFault.TooManyLeaves
-        → is_overfull_add tree.old.tree ≡ true }
-    ensures possible_errors { IfErr result (λ e.
-        (e ≡ ApplyFault.TooManyLeaves) ⊎ (e ≡ ApplyFault.OutOfMemory)) }
+    ensures put { IfOk result (λ j. PutsMember tree.old.tree leaf.now j tree.new.tree) }
+    ensures memory { IfErr result (λ e. e ≡ ApplyFault.OutOfMemory) }
     ensures before { before journal.new tree.new.tree ≡ before journal.old tree.old.tree }
 {
     let index = leaf_for_member(tree, journal, start)?;
-    add_unmerged(alloc, tree, journal, index)?;
     put_shared(alloc, tree, journal, index, leaf)?;
     Ok(index)
 }
 
+/// Adds these leaf indices to the unmerged lists above them. `TooManyLeaves` if one of them would be too long.
+fn add_unmerged(
+    alloc: Global,
+    tree: &mut PublicTree,
+    journal: &mut Journal,
+    added: &[u32],
+) -> Result<(), ApplyFault>
+    requires increasing { IsStrictlyIncreasing added.now }
+    requires inside { All (λ i. i < leaf_count tree.old.tree) added.now }
+    ensures in_lists { OnOk result (tree.new.tree ≡ add_all_unmerged added.now tree.old.tree) }
+    ensures fits { OnOk result (overfills added.now tree.old.tree ≡ false) }
+    ensures too_many_leaves { result ≡ Err ApplyFault.TooManyLeaves
+        → overfills added.now tree.old.tree ≡ true }
+    ensures possible_errors { IfErr result (λ e.
+        (e ≡ ApplyFault.TooManyLeaves) ⊎ (e ≡ ApplyFault.OutOfMemory)) }
+    ensures before { before journal.new tree.new.tree ≡ before journal.old tree.old.tree }
+{
+    match journal.add_all_unmerged(alloc, tree, added) {
+        Ok(()) => Ok(()),
+        Err(TreeError::TooManyLeaves) => Err(ApplyFault::TooManyLeaves),
+        Err(TreeError::OutOfMemory) => Err(ApplyFault::OutOfMemory),
+        Err(_) => unreachable!(),
+    }
+}
+
 /// Applies the Adds of a list, in its order, and returns their leaves. Each search for a blank leaf continues after the
-/// leaf that was added last.
+/// leaf that was added last. The leaf nodes are put in place first, then the leaf indices are added to the unmerged lists at
+/// once. Which leaves are blank does not depend on these lists.
 pub(crate) fn apply_adds(
     alloc: Global,
     tree: &mut PublicTree,
@@ -115,11 +115,12 @@ pub(crate) fn apply_adds(
     let mut start = 0;
     for item in items {
         if let Proposal::Add(key_package) = item.proposal {
-            let index = add_member(alloc, tree, journal, start, &key_package.leaf_node)?;
+            let index = put_member(alloc, tree, journal, start, &key_package.leaf_node)?;
             added.push(index)?;
             start = index + 1;
         }
     }
+    add_unmerged(alloc, tree, journal, added.as_slice())?;
     Ok(Leaves::new(added))
 }
 
@@ -146,10 +147,11 @@ pub(crate) fn fit_adds(
     let mut start = 0;
     for item in items {
         if let Proposal::Add(_) = item.proposal {
-            let index = add_member(alloc, tree, journal, start, leaf)?;
+            let index = put_member(alloc, tree, journal, start, leaf)?;
             added.push(index)?;
             start = index + 1;
         }
     }
+    add_unmerged(alloc, tree, journal, added.as_slice())?;
     Ok(Leaves::new(added))
 }

@@ -1,17 +1,22 @@
-use Rattle.std.proofs.Common.{◌≡◌, Err, ◌∙◌, ◌+◌, drop, ap, sym, subst}
+use Rattle.std.proofs.Common.{◌≡◌, ℕ, List, Err, ◌∙◌, ◌+◌, ◌<◌, drop, ap, sym, subst}
+use Rattle.std.specs.Prelude.{All}
+use Rattle.std.specs.List.Sorted.{IsStrictlyIncreasing}
 use Rattle.std.proofs.lemmas.Result.{err_from_is_err_and}
+use Rattle.mls_tree.specs.Tree.{leaf_count}
+use Rattle.mls_tree.specs.TreeOperations.{add_all_unmerged, overfills}
 use Rattle.mls_tree.specs.Journals.{before}
 use Rattle.mls_apply.specs.AppliedList.{after_adds, new_members}
 use Rattle.mls_apply.specs.Outline.{IsOutline}
 use Rattle.mls_apply.specs.declared.fault.ApplyFault.TheVariants.{TooManyLeaves}
 use Rattle.mls_apply.specs.declared.list_item.ListItem.{ListItem}
 use Rattle.mls_apply.proofs.Updating.{next_item}
-use Rattle.mls_apply.proofs.Fitting.{Fitting, fitting-other, fitting-capacity, fitting-member, fitting-refused, fitting-all, consistent, outlined}
+use Rattle.mls_apply.proofs.AddedAtOnce.{placed-up}
+use Rattle.mls_apply.proofs.Fitting.{Fitting, fitting-other, fitting-capacity, fitting-member, fitting-refused, fitting-all, fitting-others, consistent, outlined}
 use Rattle.mls_apply.proofs.adds.fit_adds.Goals.{in-Add+in_ok-index+in_ok-push, in_default}
 use Rattle.mls_apply.proofs.adds.fit_adds.Goals as goal
 
-pub add_member-requires-clause-capacity : goal.add_member-requires-clause-capacity
-add_member-requires-clause-capacity c =
+pub put_member-requires-clause-capacity : goal.put_member-requires-clause-capacity
+put_member-requires-clause-capacity c =
     let items = c.args.items.now in
     let i = c.loop-item.item-index in
     let x = c.item-item.result in
@@ -21,23 +26,6 @@ add_member-requires-clause-capacity c =
     let whole = after_adds (new_members items) first in
     let here = subst (λ xs. Fitting whole xs first t added c.loop-item.start) (next_item items i x c.loop-item-test.true c.item-item.is) c.loop-item.invariant.fitting in
     fitting-capacity whole x (drop (i + 1) items) first t added c.loop-item.start here c.in-Add.field-0 (ap (λ (y : ListItem). y.proposal) (sym c.item.view_is) ∙ c.in-Add.is)
-
-pub returns-in_err-index-clause-too_many_leaves : goal.returns-in_err-index-clause-too_many_leaves
-returns-in_err-index-clause-too_many_leaves c =
-    let items = c.args.items.now in
-    let i = c.loop-item.item-index in
-    let x = c.item-item.result in
-    let first = c.args.tree.now.tree in
-    let t = c.loop-item.tree.tree in
-    let added = c.loop-item.added.items in
-    let whole = after_adds (new_members items) first in
-    let here = subst (λ xs. Fitting whole xs first t added c.loop-item.start) (next_item items i x c.loop-item-test.true c.item-item.is) c.loop-item.invariant.fitting in
-    let p = err_from_is_err_and c.from_residual.result c.from_residual.ensures.1 in
-    λ mapped.
-    let joined = sym p.1 ∙ mapped in
-    let fault : p.0 ≡ TooManyLeaves = cc in
-    fitting-refused whole x (drop (i + 1) items) first t added c.loop-item.start here c.in-Add.field-0 (ap (λ (y : ListItem). y.proposal) (sym c.item.view_is) ∙ c.in-Add.is)
-    (c.in_err-index.ensures.too_many_leaves (ap Err (sym p.2 ∙ fault)))
 
 pub loop-item-preserved : goal.loop-item-preserved
 loop-item-preserved c =
@@ -55,8 +43,8 @@ loop-item-preserved c =
           record {
             fitting =
                 rw (w.tree-is, w.added-is, w.start-is, w.in_ok-push.ensures.items)
-                (fitting-member whole x rest first t added c.loop-item.start here w.in-Add.field-0 (ap (λ (y : ListItem). y.proposal) (sym c.item.view_is) ∙ w.in-Add.is) c.args.leaf.now w.in_ok-index.index w.add_member.new.tree.tree w.in_ok-index.ensures.added);
-            same_before = (λ k. before (w.journal-is k) (w.tree-is k).tree) ∙ w.add_member.ensures.before ∙ c.loop-item.invariant.same_before;
+                (fitting-member whole x rest first t added c.loop-item.start here w.in-Add.field-0 (ap (λ (y : ListItem). y.proposal) (sym c.item.view_is) ∙ w.in-Add.is) c.args.leaf.now w.in_ok-index.index w.put_member.new.tree.tree w.in_ok-index.ensures.put);
+            same_before = (λ k. before (w.journal-is k) (w.tree-is k).tree) ∙ w.put_member.ensures.before ∙ c.loop-item.invariant.same_before;
           }
       | in_default w ↦
           record {
@@ -67,20 +55,49 @@ loop-item-preserved c =
           }
     ]
 
+pub add_unmerged-requires-clause-increasing : goal.add_unmerged-requires-clause-increasing
+add_unmerged-requires-clause-increasing c =
+    subst IsStrictlyIncreasing (sym c.as_slice.ensures.value) (placed-up c.loop-item.tree.tree c.loop-item.added.items c.loop-item.start c.loop-item.invariant.fitting.placed)
+
+pub add_unmerged-requires-clause-inside : goal.add_unmerged-requires-clause-inside
+add_unmerged-requires-clause-inside c =
+    let t = c.loop-item.tree.tree in
+    subst (All (λ (i : ℕ). i < leaf_count t)) (sym c.as_slice.ensures.value) c.loop-item.invariant.fitting.placed.inside
+
+pub returns-in_err-add_unmerged-clause-too_many_leaves : goal.returns-in_err-add_unmerged-clause-too_many_leaves
+returns-in_err-add_unmerged-clause-too_many_leaves c =
+    let first = c.args.tree.now.tree in
+    let t = c.loop-item.tree.tree in
+    let added : List ℕ = c.loop-item.added.items in
+    let p = err_from_is_err_and c.from_residual-in_err-add_unmerged.result c.from_residual-in_err-add_unmerged.ensures.1 in
+    λ mapped.
+    let joined = sym p.1 ∙ mapped in
+    let fault : p.0 ≡ TooManyLeaves = cc in
+    fitting-refused (after_adds (new_members c.args.items.now) first) c.args.items.now c.loop-item.item-index first t added c.loop-item.start c.loop-item-test.false c.loop-item.invariant.fitting
+    (ap (λ js. overfills js t) (sym c.as_slice.ensures.value) ∙ c.in_err-add_unmerged.ensures.too_many_leaves (ap Err (sym p.2 ∙ fault)))
+
 pub returns-clause-fit : goal.returns-clause-fit
 returns-clause-fit c =
-    let items = c.args.items.now in
     let first = c.args.tree.now.tree in
-    consistent (after_adds (new_members items) first) c.loop-item.added.items
-    (fitting-all (after_adds (new_members items) first) items c.loop-item.item-index first c.loop-item.tree.tree c.loop-item.added.items c.loop-item.start c.loop-item-test.false
-    c.loop-item.invariant.fitting)
+    let t = c.loop-item.tree.tree in
+    let added : List ℕ = c.loop-item.added.items in
+    let whole = after_adds (new_members c.args.items.now) first in
+    consistent whole added
+    (fitting-all whole c.args.items.now c.loop-item.item-index first t added c.loop-item.start c.loop-item-test.false c.loop-item.invariant.fitting
+    (ap (λ js. overfills js t) (sym c.as_slice.ensures.value) ∙ c.in_ok-add_unmerged.ensures.fits))
 
 pub returns-clause-outline : goal.returns-clause-outline
 returns-clause-outline c =
     let items = c.args.items.now in
     let first = c.args.tree.now.tree in
+    let t = c.loop-item.tree.tree in
+    let u = c.add_unmerged.new.tree.tree in
+    let added : List ℕ = c.loop-item.added.items in
+    let whole = after_adds (new_members items) first in
     let walked = c.loop-item.invariant.fitting in
-    subst (λ js. IsOutline (after_adds (new_members items) first) js c.loop-item.tree.tree) (sym c.new.ensures)
-    (outlined (new_members items) first c.loop-item.tree.tree c.loop-item.added.items
-    (fitting-all (after_adds (new_members items) first) items c.loop-item.item-index first c.loop-item.tree.tree c.loop-item.added.items c.loop-item.start c.loop-item-test.false walked)
-    walked.others)
+    let past = c.loop-item-test.false in
+    subst (λ js. IsOutline whole js u) (sym c.new.ensures)
+    (outlined (new_members items) first u added
+    (fitting-all whole items c.loop-item.item-index first t added c.loop-item.start past walked (ap (λ js. overfills js t) (sym c.as_slice.ensures.value) ∙ c.in_ok-add_unmerged.ensures.fits))
+    (fitting-others whole items c.loop-item.item-index first t added c.loop-item.start past walked u
+    (c.in_ok-add_unmerged.ensures.in_lists ∙ ap (λ js. add_all_unmerged js t) c.as_slice.ensures.value)))

@@ -8,6 +8,7 @@ use crate::support::{
 use mls_apply::{ListItem, apply_list_in_place};
 use mls_hash::fill_hashes;
 use mls_msgs::{Proposal, Sender, decode_proposal};
+use mls_nodes::Node;
 use mls_tree::{Journal, PublicTree};
 use std::alloc::Global;
 use std::test::Fail;
@@ -191,6 +192,53 @@ fn changed_node_indices_are_returned(rt: HostRuntime) -> Result<(), Fail> {
     ];
     for (input, expected) in CHANGES {
         expect_text(&rt, changed_node_indices(alloc, *input)?, expected);
+    }
+    Ok(())
+}
+
+/// The tree of [`GROWN`], but at node 3 the leaves 3 and 1 are unmerged, in this order.
+const UNSORTED: &str =
+    "40ea0101018001b0000101400200010200010000020001032093665b04245cc070b1bdf028955a30b2dc700e38eb40845f27\
+    4e3075f50535910001c0010201d1206a02415c428629f3da6145086a76a2675a238d2c57ad21584dba9d231107a0f7000101\
+    01a101b1000101410200010200010000020001010000000000000000ffffffffffffffff0001c1010201d300080000000300\
+    000001010101a201b2000101420200010200010000020001010000000000000000ffffffffffffffff0001c200010101a301\
+    b3000101430200010200010000020001010000000000000000ffffffffffffffff0001c3";
+
+/// The unmerged leaves of the parent at a node index.
+fn unmerged_text(alloc: Global, tree: &PublicTree, node_index: u32) -> Result<String, Fail> {
+    match tree.node(node_index) {
+        Some(Node::Parent(parent)) => list_text(alloc, parent.unmerged.as_slice()),
+        _ => Err(Fail::from("a parent")),
+    }
+}
+
+/// The unmerged leaves of the parents at node indices 1 and 3 after these leaf indices were added at once, and whether the
+/// tree is the one before once this is undone.
+fn added_at_once(alloc: Global, encoding: &str, indices: &[u32]) -> Result<String, Fail> {
+    let mut tree = tree_with(alloc, encoding)?;
+    let before = nodes_text(alloc, &tree)?;
+    let mut journal = Journal::new(alloc);
+    journal.add_all_unmerged(alloc, &mut tree, indices)?;
+    let left = unmerged_text(alloc, &tree, 1)?;
+    let root = unmerged_text(alloc, &tree, 3)?;
+    journal.rollback(&mut tree);
+    let same = before == nodes_text(alloc, &tree)?;
+    Ok(format!(in alloc; "{left} {root} {same}")?)
+}
+
+/// The parent at node index 5 is blank.
+#[test]
+fn leaf_indices_are_added_at_once(rt: HostRuntime) -> Result<(), Fail> {
+    let alloc = rt.alloc();
+    const ADDED: &[(&str, &[u32], &str)] = &[
+        (GROWN, &[], "[] [3] true"),
+        (GROWN, &[2], "[] [2, 3] true"),
+        (GROWN, &[0, 2], "[0] [0, 2, 3] true"),
+        (GROWN, &[0, 1, 2, 3], "[0, 1] [0, 1, 2, 3] true"),
+        (UNSORTED, &[0, 1, 2], "[0, 1] [0, 2, 3, 1] true"),
+    ];
+    for (encoding, indices, expected) in ADDED {
+        expect_text(&rt, added_at_once(alloc, encoding, *indices)?, expected);
     }
     Ok(())
 }

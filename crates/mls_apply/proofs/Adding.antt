@@ -112,7 +112,7 @@ room_to_grow t e capacity full = let all = member_count-full 0 t e in omega arit
 abbrev pub append_parent_hash : List ℕ → AppliedTree → AppliedTree
 append_parent_hash added g = applied_tree g.tree (added ++ g.added)
 
--- where a walk stands, before the rest of the list: the members have their leaves, and are in no unmerged list
+-- where a walk stands, before the rest of the list: the members have their leaves, and the unmerged lists are unchanged
 pub record Adding (whole : Option AppliedTree) (rest : List ListItem) (t : Tree) (added : List ℕ) (start : ℕ) : Type 0 where
   pub so_far : whole ≡ (if overfills added t then None else option_map (append_parent_hash added) (after_adds (new_members rest) (add_all_unmerged added t)))
   pub placed : ArePlaced t added start

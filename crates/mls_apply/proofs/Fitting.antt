@@ -23,7 +23,7 @@ abbrev pub after_those : List ℕ → Option (List ℕ) → Option (List ℕ)
 after_those added o = option_map (λ js. added ++ js) o
 
 -- where a walk stands, before the rest of the list: `first` is the tree before the walk. The members have their leaves, and
--- are in no unmerged list
+-- the unmerged lists are unchanged
 pub record Fitting (whole : Option AppliedTree) (rest : List ListItem) (first t : Tree) (added : List ℕ) (start : ℕ) : Type 0 where
   pub so_far : node_indices whole ≡ (if overfills added t then None else after_those added (node_indices (after_adds (new_members rest) (add_all_unmerged added t))))
   pub others : (j : ℕ) → IsApart added j → leaf_at 0 t j ≡ leaf_at 0 first j

@@ -22,8 +22,8 @@ is_add (ExternalInit _) = false
 abbrev pub is_overfull_add : Tree → Bool
 is_overfull_add t = is_overfilled_above 0 (extended_if_full (first_blank_leaf 0 t) t) (added_leaf t)
 
--- `PutsMember old x j new`: `new` is `old`, extended if it has no blank leaf, with the leaf of a new member as leaf j. No
--- unmerged list has the leaf index.
+-- `PutsMember old x j new`: `new` is `old`, extended if it has no blank leaf, with `x` as the leaf j of a new member. The
+-- unmerged lists are unchanged.
 pub record PutsMember (old : Tree) (x : LeafNode) (j : ℕ) (new : Tree) : Type 0 where
   pub index : j ≡ added_leaf old
   pub tree : new ≡ put_leaf 0 (extended_if_full (first_blank_leaf 0 old) old) j (Some x)

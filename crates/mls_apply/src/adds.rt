@@ -48,7 +48,7 @@ pub(crate) fn leaf_for_member(
     }
 }
 
-/// Puts the leaf of a new member with this leaf node, and returns its leaf index, which is in no unmerged list. The leaves
+/// Puts this leaf node at the leaf of a new member, and returns the leaf index. The unmerged lists are unchanged. The leaves
 /// before `start` must be non-blank.
 fn put_member(
     alloc: Global,

@@ -212,13 +212,28 @@ fn unmerged_text(alloc: Global, tree: &PublicTree, node_index: u32) -> Result<St
     }
 }
 
-/// The unmerged leaves of the parents at node indices 1 and 3 after these leaf indices were added at once, and whether the
+/// Adds two leaf indices to the unmerged lists above them, at once.
+fn add_two(
+    alloc: Global,
+    tree: &mut PublicTree,
+    journal: &mut Journal,
+    low: u32,
+    high: u32,
+) -> Result<(), Fail> {
+    if low < high && high < tree.leaf_count() {
+        Ok(journal.add_all_unmerged(alloc, tree, &[low, high])?)
+    } else {
+        Err(Fail::from("two leaves of the tree, in increasing order"))
+    }
+}
+
+/// The unmerged leaves of the parents at node indices 1 and 3 after two leaf indices were added at once, and whether the
 /// tree is the one before once this is undone.
-fn added_at_once(alloc: Global, encoding: &str, indices: &[u32]) -> Result<String, Fail> {
+fn added_at_once(alloc: Global, encoding: &str, added: (u32, u32)) -> Result<String, Fail> {
     let mut tree = tree_with(alloc, encoding)?;
     let before = nodes_text(alloc, &tree)?;
     let mut journal = Journal::new(alloc);
-    journal.add_all_unmerged(alloc, &mut tree, indices)?;
+    add_two(alloc, &mut tree, &mut journal, added.0, added.1)?;
     let left = unmerged_text(alloc, &tree, 1)?;
     let root = unmerged_text(alloc, &tree, 3)?;
     journal.rollback(&mut tree);
@@ -230,15 +245,16 @@ fn added_at_once(alloc: Global, encoding: &str, indices: &[u32]) -> Result<Strin
 #[test]
 fn leaf_indices_are_added_at_once(rt: HostRuntime) -> Result<(), Fail> {
     let alloc = rt.alloc();
-    const ADDED: &[(&str, &[u32], &str)] = &[
-        (GROWN, &[], "[] [3] true"),
-        (GROWN, &[2], "[] [2, 3] true"),
-        (GROWN, &[0, 2], "[0] [0, 2, 3] true"),
-        (GROWN, &[0, 1, 2, 3], "[0, 1] [0, 1, 2, 3] true"),
-        (UNSORTED, &[0, 1, 2], "[0, 1] [0, 2, 3, 1] true"),
+    const ADDED: &[(&str, (u32, u32), &str)] = &[
+        (GROWN, (0, 1), "[0, 1] [0, 1, 3] true"),
+        (GROWN, (0, 2), "[0] [0, 2, 3] true"),
+        (GROWN, (1, 3), "[1] [1, 3] true"),
+        (GROWN, (2, 3), "[] [2, 3] true"),
+        (UNSORTED, (0, 1), "[0, 1] [0, 3, 1] true"),
+        (UNSORTED, (1, 2), "[1] [2, 3, 1] true"),
     ];
-    for (encoding, indices, expected) in ADDED {
-        expect_text(&rt, added_at_once(alloc, encoding, *indices)?, expected);
+    for (encoding, added, expected) in ADDED {
+        expect_text(&rt, added_at_once(alloc, encoding, *added)?, expected);
     }
     Ok(())
 }

@@ -1,14 +1,14 @@
 -- A state has a file, or no bytes are its file.
-use Rattle.std.proofs.Common.{◌≡◌, ◌∙◌, ℕ, List, map, Option, Some, None, refl, sym, ap, subst, inl, inr}
+use Rattle.std.proofs.Common.{◌≡◌, ◌∙◌, ℕ, List, length, map, Option, Some, None, refl, sym, ap, subst, inl, inr}
 use Rattle.std.specs.Prelude.{◌⊎◌}
 use Rattle.std.proofs.lemmas.Option.{none-some, same_Some}
 use Rattle.sha2.specs.Sha256.{sha256}
 use Rattle.mls_wire.specs.Encoding.{vector}
 use Rattle.mls_wire.specs.Parsing.{vector_at}
 use Rattle.mls_wire.specs.VectorsExact.{vector_exact}
-use Rattle.mls_nodes.specs.RatchetTreeEncoding.{ratchet_tree, trimmed}
+use Rattle.mls_nodes.specs.RatchetTreeEncoding.{full_size, ratchet_tree, trimmed}
 use Rattle.mls_tree.specs.RatchetTree.{HasShape, RatchetTree}
-use Rattle.mls_tree.specs.Tree.{Tree, leaf, branch, height, IsPerfect, leaf_count, listing}
+use Rattle.mls_tree.specs.Tree.{Tree, leaf, branch, height, IsPerfect, listing}
 use Rattle.mls_tree.specs.TreeDecoding.{IsTreeOf}
 use Rattle.mls_state.specs.Layout.{follower_state, state_file}
 use Rattle.mls_state.specs.StateFile.{IsFileOf}
@@ -17,10 +17,10 @@ use Rattle.mls_state.specs.declared.state.GroupMode.{GroupMode}
 use Rattle.mls_follow.specs.State.{State}
 use Rattle.mls_follow.specs.StoredState.{IsTreeBody, Stores, EncodesState, HasNoFile, stored_entry, stored_mode}
 use Rattle.mls_follow.specs.StoredRuns.{StoredFileOrNone}
-use Rattle.mls_follow.proofs.Readings.{read_or_not, fits_or_not, tree_or_not, same_or_not, le_or_not}
+use Rattle.mls_follow.proofs.Readings.{read_or_not, fits_or_not, same_or_not, le_or_not}
 use Rattle.mls_follow.proofs.StoredStates.{made_file, no_file, long_file, no_tree_no_file, no_mode_no_file}
-use Rattle.mls_follow.proofs.StoredTrees.{one_tree_of, encoded_tree, decoded_same}
-use Rattle.mls_follow.proofs.Storing.{own_bytes, no_body}
+use Rattle.mls_follow.proofs.StoredTrees.{encoded_tree, filled-full}
+use Rattle.mls_follow.proofs.Storing.{own_bytes, no_body, is_same}
 
 -- ---- shapes
 
@@ -61,19 +61,15 @@ module _ (t : RatchetTree) where
         | inr none ↦ inr (λ body h. none body (own_bytes bytes t e body h).0)
       ]
 
-  by_leaves : (bytes : List ℕ) → ratchet_tree (trimmed (listing t.tree)) ≡ Some bytes → (u : RatchetTree) → IsTreeOf bytes u → BodyOrNone
-  by_leaves bytes e u decoded =
-      elim (same_or_not (leaf_count u.tree) (leaf_count t.tree)) [
-        | inl same ↦ by_vector bytes e (subst (IsTreeOf bytes) (decoded_same bytes t u e decoded same) decoded)
-        | inr other ↦ inr (no_body bytes t e (λ h. other (ap (λ (v : RatchetTree). leaf_count v.tree) (one_tree_of bytes u t decoded h))))
-      ]
-
   by_bytes : (o : Option (List ℕ)) → ratchet_tree (trimmed (listing t.tree)) ≡ o → BodyOrNone
   by_bytes None e = inr (λ body h. none-some h.bytes (sym e ∙ encoded_tree h.bytes t h.tree))
   by_bytes (Some bytes) e =
-      elim (tree_or_not bytes) [
-        | inl u ↦ by_leaves bytes e u.0 u.1
-        | inr none ↦ inr (no_body bytes t e (λ h. none h.nodes h.is_tree))
+      elim (fits_or_not bytes) [
+        | inr long ↦ inr (no_body bytes t e (λ h. long h.is_tree.bounded))
+        | inl short ↦ elim (same_or_not (full_size (length (trimmed (listing t.tree)))) (length (listing t.tree))) [
+          | inr other ↦ inr (no_body bytes t e (λ h. other (filled-full bytes t h)))
+          | inl full ↦ by_vector bytes e (is_same bytes t e short full)
+        ]
       ]
 
   body_or_none : BodyOrNone

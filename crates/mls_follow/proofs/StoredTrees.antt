@@ -1,18 +1,20 @@
 -- The tree of a stored body, and the body of a tree: each is one.
-use Rattle.std.proofs.Common.{◌≡◌, ◌∙◌, ℕ, suc, ◌-◌, List, [], ◌∷◌, ◌++◌, length, replicate, Option, Some, None, refl, sym, ap, subst, arith, length-append}
-use Rattle.std.proofs.lemmas.List.{length-replicate}
+use Rattle.std.proofs.Common.{◌≡◌, ◌∙◌, ℕ, ◌≤◌, suc, ◌-◌, List, [], ◌∷◌, ◌++◌, length, map, replicate, Option, Some, None, refl, sym, ap, subst, arith, length-append}
+use Rattle.std.proofs.lemmas.List.{length-map, length-replicate}
 use Rattle.std.proofs.lemmas.Option.{same_Some}
 use Rattle.mls_wire.specs.Encoding.{vector}
 use Rattle.mls_wire.specs.ExactTheorems.{one_value}
 use Rattle.mls_wire.specs.Parsing.{vector_at}
 use Rattle.mls_wire.specs.VectorsExact.{vector_exact}
 use Rattle.mls_nodes.proofs.Trimming.{ratchet_tree_unambiguous, tree_again_trimmed}
+use Rattle.mls_nodes.specs.FilledTree.{length-filled}
 use Rattle.mls_nodes.specs.NodeModel.{NodeValue}
 use Rattle.mls_nodes.specs.RatchetTreeEncoding.{ratchet_tree, prepend_trimmed, trimmed, filled, full_size}
+use Rattle.mls_tree.proofs.Descent.{leaf_count-limit}
 use Rattle.mls_tree.proofs.SameListings.{RatchetTree-listing}
 use Rattle.mls_tree.proofs.Trees.{length-listing}
 use Rattle.mls_tree.specs.RatchetTree.{RatchetTree}
-use Rattle.mls_tree.specs.Tree.{leaf_count, listing}
+use Rattle.mls_tree.specs.Tree.{listing}
 use Rattle.mls_tree.specs.TreeDecoding.{IsTreeOf}
 use Rattle.mls_follow.specs.StoredState.{IsTreeBody}
 
@@ -67,13 +69,29 @@ same_long front xs ys j k p q same =
     let m : j ≡ k = omega (arith, ap length p, ap length q, length-append front (replicate {A = Option NodeValue} j None), length-append front (replicate {A = Option NodeValue} k None), length-replicate {A = Option NodeValue} j None, length-replicate {A = Option NodeValue} k None, same) in
     p ∙ ap (λ (n : ℕ). front ++ replicate n None) m ∙ sym q
 
--- a tree with as many leaves, whose encoding is that of the entries of another, is the other
-pub decoded_same : (bytes : List ℕ) (t u : RatchetTree) → ratchet_tree (trimmed (listing t.tree)) ≡ Some bytes → IsTreeOf bytes u
-    → leaf_count u.tree ≡ leaf_count t.tree → u ≡ t
-decoded_same bytes t u e h count =
-    let same : h.nodes ≡ trimmed (listing t.tree) = ratchet_tree_unambiguous.once h.nodes (trimmed (listing t.tree)) bytes h.is_tree.encoded e in
+-- a tree has no more entries than one of the most leaves
+pub trimmed-fits : (t : RatchetTree) → length (trimmed (listing t.tree)) ≤ 2097151
+trimmed-fits t =
     let back = trimmed-back (listing t.tree) in
-    let long : length (listing u.tree) ≡ length (listing t.tree) = omega (arith, length-listing u.tree, length-listing t.tree, count) in
-    RatchetTree-listing u t
-    (same_long (trimmed (listing t.tree)) (listing u.tree) (listing t.tree) (full_size (length h.nodes) - length h.nodes) back.0
-    (h.full ∙ ap (λ (xs : List (Option NodeValue)). xs ++ replicate (full_size (length h.nodes) - length h.nodes) None) same) back.1 long)
+    omega (arith, length-listing t.tree, leaf_count-limit t, ap length back.1, length-append (trimmed (listing t.tree)) (replicate {A = Option NodeValue} back.0 None))
+
+-- entries that the least full tree fills
+pub filled-trimmed : (xs : List (Option NodeValue)) → full_size (length (trimmed xs)) ≡ length xs → xs ≡ filled (trimmed xs)
+filled-trimmed xs e =
+    let back = trimmed-back xs in
+    same_long (trimmed xs) xs (filled (trimmed xs)) back.0 (full_size (length (trimmed xs)) - length (trimmed xs)) back.1 refl
+    (sym (length-filled (trimmed xs) ∙ e))
+
+-- the entries of an encoded tree fill it
+pub filled-full : (bytes : List ℕ) (t : RatchetTree) → IsTreeOf bytes t → full_size (length (trimmed (listing t.tree))) ≡ length (listing t.tree)
+filled-full bytes t h =
+    ap (λ (xs : List (Option NodeValue)). full_size (length xs)) (nodes_of bytes t h) ∙ sym (length-filled h.nodes) ∙ ap length (sym h.full)
+
+-- the numbers of entries up to the last non-blank one, and of all, by those of the nodes that have these values
+pub stored_sizes : {A : Type 0} (value : A → Option NodeValue) (nodes short : List A) (t : RatchetTree) (size : ℕ) → map value nodes ≡ listing t.tree
+    → map value short ≡ trimmed (map value nodes) → size ≡ full_size (length short)
+    → (size ≡ full_size (length (trimmed (listing t.tree)))) × (length nodes ≡ length (listing t.tree))
+stored_sizes value nodes short t size all front full = (
+  full ∙ ap full_size (sym (length-map short value) ∙ ap length (front ∙ ap trimmed all)),
+  sym (length-map nodes value) ∙ ap length all,
+)

@@ -1,5 +1,5 @@
 -- What the calls that store a state say of its file.
-use Rattle.std.proofs.Common.{◌≡◌, ◌≢◌, ◌∙◌, ℕ, ◌<◌, List, length, Bool, true, false, Some, Result, Ok, Err, IfOk, IfErr, refl, sym, ap, subst, arith}
+use Rattle.std.proofs.Common.{◌≡◌, ◌≢◌, ◌∙◌, ℕ, ◌≤◌, ◌<◌, List, length, Bool, true, false, Some, Result, Ok, Err, IfOk, IfErr, refl, sym, ap, subst, arith}
 use Rattle.std.specs.Prelude.{◌==◌}
 use Rattle.std.specs.Bool.{OnTrue, OnFalse}
 use Rattle.std.proofs.lemmas.Bool.{false≢true}
@@ -11,12 +11,12 @@ use Rattle.mls_wire.specs.ReadContracts.{DecodesInput, seen}
 use Rattle.mls_wire.specs.declared.fault.CodecFault.{CodecFault}
 use Rattle.mls_wire.specs.declared.fault.CodecFault.TheVariants as codec
 use Rattle.mls_nodes.specs.RatchetTreeContracts.{EncodesTree}
-use Rattle.mls_nodes.specs.RatchetTreeEncoding.{ratchet_tree, trimmed}
+use Rattle.mls_nodes.specs.RatchetTreeEncoding.{full_size, ratchet_tree, trimmed}
 use Rattle.mls_nodes.specs.declared.fault.NodeFault.{NodeFault}
 use Rattle.mls_nodes.specs.declared.fault.NodeFault.TheVariants as nodes
 use Rattle.mls_tree.specs.RatchetTree.{RatchetTree}
-use Rattle.mls_tree.specs.Tree.{leaf_count, listing}
-use Rattle.mls_tree.specs.TreeDecoding.{IsTreeOf, ReadsTree}
+use Rattle.mls_tree.specs.Tree.{listing}
+use Rattle.mls_tree.specs.TreeDecoding.{IsTreeOf}
 use Rattle.mls_state.proofs.Files.{file_is_unique}
 use Rattle.mls_state.specs.StateFile.{IsFileOf}
 use Rattle.mls_state.specs.declared.state.FollowerState.{FollowerState}
@@ -24,7 +24,7 @@ use Rattle.mls_follow.specs.State.{State}
 use Rattle.mls_follow.specs.StoredState.{IsTreeBody, Stores, EncodesState, HasNoFile}
 use Rattle.mls_follow.specs.StoringParts.{HasNoTreeBody, MakesShortFile, storing_fault}
 use Rattle.mls_follow.proofs.StoredStates.{made_file, one_content}
-use Rattle.mls_follow.proofs.StoredTrees.{one_tree_of, encoded_tree, decoded_same}
+use Rattle.mls_follow.proofs.StoredTrees.{encoded_tree, filled-trimmed, filled-full}
 
 module _ (bytes : List ℕ) (t : RatchetTree) (e : ratchet_tree (trimmed (listing t.tree)) ≡ Some bytes) where
   -- a body of the tree has these bytes
@@ -36,21 +36,21 @@ module _ (bytes : List ℕ) (t : RatchetTree) (e : ratchet_tree (trimmed (listin
   pub no_body : (IsTreeOf bytes t → ⊥) → (body : List ℕ) → IsTreeBody body t → ⊥
   no_body none body h = none (own_bytes body h).1
 
-  module _ (u : RatchetTree) (decoded : IsTreeOf bytes u) where
-    same_leaves : (b : Bool) → (leaf_count u.tree == leaf_count t.tree) ≡ b → OnTrue b (IsTreeOf bytes t)
-    same_leaves true f = subst (IsTreeOf bytes) (decoded_same bytes t u e decoded ((Decides-eqb (leaf_count u.tree) (leaf_count t.tree)).0 f)) decoded
-    same_leaves false f = tt
+  -- the bytes encode the tree exactly if they are within the limit and its entries fill it
+  pub is_same : length bytes ≤ 268435456 → full_size (length (trimmed (listing t.tree))) ≡ length (listing t.tree) → IsTreeOf bytes t
+  is_same short full = record {
+    nodes = trimmed (listing t.tree);
+    is_tree = record { encoded = e; bounded = short };
+    full = filled-trimmed (listing t.tree) full;
+  }
 
-    other_leaves : (b : Bool) → (leaf_count u.tree == leaf_count t.tree) ≡ b → OnFalse b (IsTreeOf bytes t → ⊥)
-    other_leaves true f = tt
-    other_leaves false f = λ h.
-        false≢true (sym f ∙ (Decides-eqb (leaf_count u.tree) (leaf_count t.tree)).1 (ap (λ (v : RatchetTree). leaf_count v.tree) (one_tree_of bytes u t decoded h)))
+  pub same_when : (b : Bool) → length bytes ≤ 268435456 → (b ≡ true → full_size (length (trimmed (listing t.tree))) ≡ length (listing t.tree)) → OnTrue b (IsTreeOf bytes t)
+  same_when true short full = is_same short (full refl)
+  same_when false short full = tt
 
-    pub is_same : OnTrue (leaf_count u.tree == leaf_count t.tree) (IsTreeOf bytes t)
-    is_same = same_leaves (leaf_count u.tree == leaf_count t.tree) refl
-
-    pub is_other : OnFalse (leaf_count u.tree == leaf_count t.tree) (IsTreeOf bytes t → ⊥)
-    is_other = other_leaves (leaf_count u.tree == leaf_count t.tree) refl
+  pub other_when : (b : Bool) → (full_size (length (trimmed (listing t.tree))) ≡ length (listing t.tree) → b ≡ true) → OnFalse b (IsTreeOf bytes t → ⊥)
+  other_when true full = tt
+  other_when false full = λ h. false≢true (full (filled-full bytes t h))
 
   module _ (is_tree : IsTreeOf bytes t) where
     pub body_read : (r : Result (List ℕ) CodecFault) → DecodesInput vector bytes r → IfOk r (λ body. IsTreeBody body t)
@@ -61,15 +61,6 @@ module _ (bytes : List ℕ) (t : RatchetTree) (e : ratchet_tree (trimmed (listin
     body_unread (Ok body) h = tt
     body_unread (Err (codec.Wire f)) h = λ own body i. h body (own_bytes body i).0 is_tree.is_tree.bounded
     body_unread (Err codec.OutOfMemory) h = λ own body i. absurd (own refl)
-
--- bytes that can't be decoded are no tree
-pub unread_tree : (bytes : List ℕ) (f : NodeFault) → ReadsTree bytes (Err f) → f ≢ nodes.OutOfMemory → (t : RatchetTree) → IsTreeOf bytes t → ⊥
-unread_tree bytes (nodes.Wire f) h own t i = h i.nodes i.is_tree
-unread_tree bytes (nodes.WrongNodeKind node_index) h own t i = h i.nodes i.is_tree
-unread_tree bytes nodes.LastBlank h own t i = h i.nodes i.is_tree
-unread_tree bytes nodes.EmptyTree h own t i = h i.nodes i.is_tree
-unread_tree bytes nodes.TooManyLeaves h own t i = h i.nodes i.is_tree
-unread_tree bytes nodes.OutOfMemory h own t i = own refl
 
 -- entries that have no encoding are those of no tree with a body
 pub unencoded_tree : (t : RatchetTree) (f : NodeFault) → EncodesTree (listing t.tree) (Err f) → f ≢ nodes.OutOfMemory → (body : List ℕ) → IsTreeBody body t → ⊥

@@ -19,7 +19,7 @@ use crate::group::Group;
 use mls_apply::KnownProposal;
 use mls_check::SignatureCheck;
 use mls_msgs::Profile;
-use mls_nodes::{NodeFault, encode_ratchet_tree};
+use mls_nodes::{NodeFault, encode_ratchet_tree, full_size_of, trimmed_entries};
 use mls_state::{FollowerState, GroupMode, KnownEntry, encode_state_file};
 use mls_tree::PublicTree;
 use mls_wire::{
@@ -39,16 +39,14 @@ fn too_long() -> CodecFault
 
 /// Returns whether bytes, which encode the entries of a tree, encode the tree. They do not if its right subtree is
 /// blank, or if they are more than an input may have.
-fn encodes_tree(alloc: Global, bytes: &[u8], tree: &PublicTree) -> Result<bool, AllocError>
+fn encodes_tree(bytes: &[u8], tree: &PublicTree) -> bool
     requires { ratchet_tree (trimmed (listing tree.now.tree)) ≡ Some bytes.now }
-    ensures same { IfOk result (λ same. OnTrue same (IsTreeOf bytes.now (plain tree.now))) }
-    ensures other { IfOk result (λ same. OnFalse same (IsTreeOf bytes.now (plain tree.now) → ⊥)) }
+    ensures same { OnTrue result (IsTreeOf bytes.now (plain tree.now)) }
+    ensures other { OnFalse result (IsTreeOf bytes.now (plain tree.now) → ⊥) }
 {
-    match PublicTree::decode(alloc, bytes) {
-        Ok(decoded) => Ok(decoded.leaf_count() == tree.leaf_count()),
-        Err(NodeFault::OutOfMemory) => Err(AllocError),
-        Err(_) => Ok(false),
-    }
+    let nodes = tree.nodes();
+    let count = trimmed_entries(nodes).len();
+    bytes.len() <= MAX_INPUT && full_size_of(count) == nodes.len()
 }
 
 /// Returns the body of these bytes, which encode the entries of a tree. `TooLong` if they do not encode the tree.
@@ -57,7 +55,7 @@ fn body_of(alloc: Global, bytes: &[u8], tree: &PublicTree) -> Result<Opaque, Cod
     ensures body { IfOk result (λ body. IsTreeBody body (plain tree.now)) }
     ensures none { IfErr result (λ e. e ≢ CodecFault.OutOfMemory → HasNoTreeBody (plain tree.now)) }
 {
-    if !encodes_tree(alloc, bytes, tree)? {
+    if !encodes_tree(bytes, tree) {
         return Err(too_long());
     }
     read_input(alloc, bytes)

@@ -68,7 +68,7 @@ unfolding full_size
 full_size-least count k le = full_from-least count 1 count 0 k refl (omega arith) le
 
 -- There are as many entries as in a full tree.
-length-filled : (nodes : List (Option NodeValue)) → length (filled nodes) ≡ full_size (length nodes)
+pub length-filled : (nodes : List (Option NodeValue)) → length (filled nodes) ≡ full_size (length nodes)
 length-filled nodes =
     let capacity = full_size-enough (length nodes) in
     let blanks = length-replicate {A = Option NodeValue} (full_size (length nodes) - length nodes) None in

@@ -35,7 +35,7 @@ pub use node::Node;
 pub use parent::{ParentNode, write_parent};
 pub use ratchet_tree::{
     OwnedTreeReader, RatchetTreeReader, append_blanks, decode_ratchet_tree, encode_ratchet_tree,
-    full_size_of,
+    full_size_of, trimmed_entries,
 };
 pub use required_capabilities::{
     RequiredCapabilities, find_extension, requirements, requirements_of,

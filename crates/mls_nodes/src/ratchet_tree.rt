@@ -8,7 +8,7 @@ mod progress;
 mod reader;
 
 pub use decode::{append_blanks, decode_ratchet_tree, full_size_of};
-pub use encode::encode_ratchet_tree;
+pub use encode::{encode_ratchet_tree, trimmed_entries};
 pub use owned_reader::OwnedTreeReader;
 pub use reader::RatchetTreeReader;
 

@@ -22,8 +22,8 @@ use crate::ratchet_tree::MAX_ENTRIES;
 use mls_wire::{CodecFault, Draft, Encode, MAX_BODY, WireFault, WireFaultKind, add_sizes};
 use std::alloc::Global;
 
-/// Returns the entries without the blank ones at the end.
-fn trim(entries: &[Option<Node>]) -> &[Option<Node>]
+/// Returns the entries without the blank ones at the end, as they are encoded (RFC 9420, 12.4.3.3).
+pub fn trimmed_entries(entries: &[Option<Node>]) -> &[Option<Node>]
     ensures { map entry_value result.now ≡ trimmed (map entry_value entries.now) }
 {
     let mut count = entries.len();
@@ -210,5 +210,5 @@ pub fn encode_ratchet_tree(alloc: Global, nodes: &[Option<Node>]) -> Result<Vec<
     ensures long { (f : WireFault) → result ≡ Err (faults.Wire f) → f ≡ too_long_at 0 }
     ensures not_blank { result ≢ Err faults.LastBlank }
 {
-    encode_trimmed(alloc, trim(nodes))
+    encode_trimmed(alloc, trimmed_entries(nodes))
 }

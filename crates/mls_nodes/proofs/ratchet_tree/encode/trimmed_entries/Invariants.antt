@@ -1,7 +1,7 @@
 use Rattle.std.proofs.Common.{◌≡◌, ◌≤◌, map, take, length}
 use Rattle.mls_nodes.specs.NodeModel.{entry_value}
 use Rattle.mls_nodes.specs.RatchetTreeEncoding.{trimmed}
-use Rattle.mls_nodes.proofs.ratchet_tree.encode.trim.Given as goal
+use Rattle.mls_nodes.proofs.ratchet_tree.encode.trimmed_entries.Given as goal
 
 abbrev pub invariant-loop-count : goal.invariant-loop-count
 invariant-loop-count l = record {

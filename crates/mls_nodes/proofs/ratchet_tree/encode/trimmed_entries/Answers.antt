@@ -1,7 +1,7 @@
 use Rattle.std.proofs.Common.{◌∙◌, arith}
 use Rattle.mls_nodes.proofs.Trimming.{blank_end, set_end, no_end}
-use Rattle.mls_nodes.proofs.ratchet_tree.encode.trim.Goals.{then-loop-count-test+else-is_none, else-loop-count-test}
-use Rattle.mls_nodes.proofs.ratchet_tree.encode.trim.Goals as goal
+use Rattle.mls_nodes.proofs.ratchet_tree.encode.trimmed_entries.Goals.{then-loop-count-test+else-is_none, else-loop-count-test}
+use Rattle.mls_nodes.proofs.ratchet_tree.encode.trimmed_entries.Goals as goal
 
 pub loop-count-preserved : goal.loop-count-preserved
 loop-count-preserved c = record {

@@ -1,7 +1,11 @@
 pub mod DuplicateMarks
 pub mod Agreement
+pub mod Fronts
 pub mod LeafLists
 pub mod Repeats
+pub mod Shortened
+pub mod ShortenedMarks
+pub mod KeptInPlace
 pub mod AddedLeaves
 pub mod ExternalKeys
 pub mod DistinctStarts

@@ -19,7 +19,7 @@ number_itself : (n : ℕ) → (n == n) ≡ true
 number_itself n = eq-eqb n n refl
 
 -- each is the same as itself
-same_itself : (q : SignatureToVerify) → is_same q q ≡ true
+pub same_itself : (q : SignatureToVerify) → is_same q q ≡ true
 same_itself q =
     (λ i. (number_itself q.suite i) && (bytes_eq-Decides q.key q.key).1 refl i && (bytes_eq-Decides q.content q.content).1 refl i && (bytes_eq-Decides q.signature q.signature).1 refl i)
 

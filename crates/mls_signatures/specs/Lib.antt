@@ -3,4 +3,5 @@ pub mod SignaturesToVerify
 pub mod Agreement
 pub mod DistinctStarts
 pub mod Marks
+pub mod ShortenedSignatures
 pub mod AddedLeaves

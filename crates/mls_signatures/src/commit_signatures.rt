@@ -14,8 +14,8 @@ use crate::added_leaves::{AddedLeaf, added_leaves, leaves_by_index};
 use crate::new_leaf_signatures::{
     TreeAfter, push_added_leaf_signatures, push_replaced_leaf_signatures,
 };
-use crate::signature_list::{push_leaf_signature, push_proposal_signatures};
-use crate::signature_to_verify::SignatureToVerify;
+use crate::push_signatures::{push_leaf_signature, push_proposal_signatures};
+use crate::signature_list::SignatureList;
 use mls_apply::{ApplyFault, ListItem, PendingProposals, StagedTree, resolve_list};
 use mls_check::OutOfMemory;
 use mls_msgs::{Commit, Proposal, ProposalOrRef, Sender, UpdatePath};
@@ -37,9 +37,9 @@ fn push_entry_signatures(
     context: &GroupContext,
     committer: Sender,
     entry: &ProposalOrRef,
-    list: &mut Vec<SignatureToVerify>,
+    list: &mut SignatureList,
 ) -> Result<(), OutOfMemory>
-    ensures { OnOk result (list.new.items ≡ list.old.items
+    ensures { OnOk result (list.new ≡ list.old
         ++ entry_signatures context.now committer entry.now) }
 {
     match entry {
@@ -56,9 +56,9 @@ fn push_entries_signatures(
     context: &GroupContext,
     committer: Sender,
     entries: &[ProposalOrRef],
-    list: &mut Vec<SignatureToVerify>,
+    list: &mut SignatureList,
 ) -> Result<(), OutOfMemory>
-    ensures { OnOk result (list.new.items ≡ list.old.items
+    ensures { OnOk result (list.new ≡ list.old
         ++ entries_signatures context.now committer entries.now) }
 {
     for entry in entries {
@@ -113,9 +113,9 @@ fn push_path_signature(
     context: &GroupContext,
     committer: u32,
     path: &Option<UpdatePath>,
-    list: &mut Vec<SignatureToVerify>,
+    list: &mut SignatureList,
 ) -> Result<(), OutOfMemory>
-    ensures { OnOk result (list.new.items ≡ list.old.items
+    ensures { OnOk result (list.new ≡ list.old
         ++ path_signatures context.now committer path.now) }
 {
     let Some(path) = path else {
@@ -137,12 +137,12 @@ fn push_update_leaf_signatures(
     context: &GroupContext,
     items: &[ListItem],
     outline: &Outline<'_, '_>,
-    list: &mut Vec<SignatureToVerify>,
+    list: &mut SignatureList,
 ) -> Result<(), OutOfMemory>
     ensures { let suite = context.now.cipher_suite in
         (t : Tree) → IsAfter t outline.now.tree.now.tree outline.now.leaves.now
-        → OnOk result (AppendsSignatures list.old.items
-        (signatures_at suite context.now.group_id t (replaced_leaves items.now)) list.new.items) }
+        → OnOk result (AppendsSignatures list.old
+        (signatures_at suite context.now.group_id t (replaced_leaves items.now)) list.new) }
 {
     let mut replaced = Vec::new(alloc);
     push_replaced_leaves(items, &mut replaced)?;
@@ -162,14 +162,14 @@ fn push_new_leaf_signatures(
     commit: &MemberCommit<'_>,
     items: &[ListItem],
     outline: &Outline<'_, '_>,
-    list: &mut Vec<SignatureToVerify>,
+    list: &mut SignatureList,
 ) -> Result<(), OutOfMemory>
     requires { AreNamedAlike outline.now.leaves.now }
     ensures { let context = commit.now.context.now in
         (t : Tree) → IsAfter t outline.now.tree.now.tree outline.now.leaves.now
-        → OnOk result (AppendsSignatures list.old.items
+        → OnOk result (AppendsSignatures list.old
         (signatures_at context.cipher_suite context.group_id t (replaced_leaves items.now ++ indices outline.now.leaves.now)
-        ++ path_signatures context commit.now.committer commit.now.commit.now.path) list.new.items) }
+        ++ path_signatures context commit.now.committer commit.now.commit.now.path) list.new) }
 {
     push_update_leaf_signatures(alloc, commit.context, items, outline, list)?;
     push_added_leaf_signatures(alloc, commit.context, outline.leaves, list)?;
@@ -189,13 +189,13 @@ fn apply_and_push_signatures(
     commit: &MemberCommit<'_>,
     items: &[ListItem],
     tree: &mut StagedTree,
-    list: &mut Vec<SignatureToVerify>,
+    list: &mut SignatureList,
 ) -> Result<(), OutOfMemory>
     requires named { HasNames commit.now.commit.now.proposals items.now }
     ensures signatures { let context = commit.now.context.now in
-        OnOk result (AppendsSignatures list.old.items
+        OnOk result (AppendsSignatures list.old
         (applied_list_signatures context commit.now.committer commit.now.commit.now.path items.now
-        (outcome items.now tree.old.tree)) list.new.items) }
+        (outcome items.now tree.old.tree)) list.new) }
     ensures base { tree.new.base ≡ tree.old.base }
 {
     let added = match tree.check_list_fits(alloc, items) {
@@ -225,14 +225,14 @@ fn push_applied_list_signatures(
     commit: &MemberCommit<'_>,
     items: &[ListItem],
     tree: &mut StagedTree,
-    list: &mut Vec<SignatureToVerify>,
+    list: &mut SignatureList,
 ) -> Result<(), OutOfMemory>
     requires named { HasNames commit.now.commit.now.proposals items.now }
     requires settled { IsSettled tree.old }
     ensures signatures { let context = commit.now.context.now in
-        OnOk result (AppendsSignatures list.old.items
+        OnOk result (AppendsSignatures list.old
         (applied_list_signatures context commit.now.committer commit.now.commit.now.path items.now
-        (outcome items.now tree.old.tree)) list.new.items) }
+        (outcome items.now tree.old.tree)) list.new) }
     ensures base { tree.new.base ≡ tree.old.base }
     ensures tree { tree.new.tree ≡ tree.old.tree }
     ensures settled { IsSettled tree.new }
@@ -248,13 +248,13 @@ fn push_list_signatures(
     commit: &MemberCommit<'_>,
     items: &[ListItem],
     tree: &mut StagedTree,
-    list: &mut Vec<SignatureToVerify>,
+    list: &mut SignatureList,
 ) -> Result<(), OutOfMemory>
     requires named { HasNames commit.now.commit.now.proposals items.now }
     requires settled { IsSettled tree.old }
-    ensures signatures { OnOk result (AppendsSignatures list.old.items
+    ensures signatures { OnOk result (AppendsSignatures list.old
         (commit_signatures commit.now.context.now tree.old.tree commit.now.committer
-        commit.now.commit.now (Some items.now)) list.new.items) }
+        commit.now.commit.now (Some items.now)) list.new) }
     ensures base { tree.new.base ≡ tree.old.base }
     ensures tree { tree.new.tree ≡ tree.old.tree }
     ensures settled { IsSettled tree.new }
@@ -290,13 +290,13 @@ pub(crate) fn push_commit_signatures(
     commit: &MemberCommit<'_>,
     known: &PendingProposals,
     tree: &mut StagedTree,
-    list: &mut Vec<SignatureToVerify>,
+    list: &mut SignatureList,
 ) -> Result<(), OutOfMemory>
     requires { IsSettled tree.old }
-    ensures signatures { OnOk result (AppendsSignatures list.old.items
+    ensures signatures { OnOk result (AppendsSignatures list.old
         (commit_signatures commit.now.context.now tree.old.tree commit.now.committer
         commit.now.commit.now
-        (resolved (Member commit.now.committer) known.now commit.now.commit.now.proposals)) list.new.items) }
+        (resolved (Member commit.now.committer) known.now commit.now.commit.now.proposals)) list.new) }
     ensures base { tree.new.base ≡ tree.old.base }
     ensures tree { tree.new.tree ≡ tree.old.tree }
     ensures settled { IsSettled tree.new }

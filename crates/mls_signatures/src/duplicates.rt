@@ -1,55 +1,57 @@
-//! A list of signatures without its duplicates.
+//! Signatures without their duplicates.
 
-ghost use Rattle.std.specs.Prelude.{◌≡◌, ◌++◌, IfOk, OnOk, length};
+ghost use Rattle.std.specs.Prelude.{◌≡◌, ℕ, IfOk, List, length};
 ghost use Rattle.mls_signatures.specs.SignaturesToVerify.{deduplicated};
+ghost use Rattle.mls_signatures.specs.ShortenedSignatures.{AreShortened, restored_all};
 ghost use Rattle.mls_signatures.specs.Marks.{marked};
 
-use crate::signature_to_verify::SignatureToVerify;
+use crate::shortened_signature::ShortenedSignature;
 use mls_check::OutOfMemory;
 use std::alloc::Global;
 use std::collections::BTreeSet;
 
-/// Returns for each signature of a list whether none before it is equal to it.
-fn first_marks(alloc: Global, list: &[SignatureToVerify]) -> Result<Vec<bool>, OutOfMemory>
+/// Returns for each signature whether none before it is equal to it.
+fn first_marks(alloc: Global, list: &[ShortenedSignature]) -> Result<Vec<bool>, OutOfMemory>
     ensures length { IfOk result (λ marks. length marks.items ≡ length list.now) }
-    ensures marked { IfOk result (λ marks. marked marks.items list.now ≡ deduplicated list.now) }
+    ensures marked { (g : List ℕ) → AreShortened g list.now → IfOk result (λ marks.
+        marked marks.items (restored_all g list.now) ≡ deduplicated (restored_all g list.now)) }
 {
-    let mut seen: BTreeSet<(u16, &[u8], &[u8], &[u8])> = BTreeSet::new(alloc);
+    let mut seen: BTreeSet<(u16, bool, &[u8], &[u8], &[u8])> = BTreeSet::new(alloc);
     let mut marks = Vec::new(alloc);
     for entry in list {
+        let is_shortened = entry.content.is_shortened;
         let key = entry.key.as_slice();
-        let content = entry.content.as_slice();
         let signature = entry.signature.as_slice();
-        marks.push(seen.insert((entry.suite, key, content, signature))?)?;
+        let bytes = entry.content.bytes.as_slice();
+        marks.push(seen.insert((entry.suite, is_shortened, key, signature, bytes))?)?;
     }
     Ok(marks)
 }
 
-/// Returns the marked signatures of a list, in its order. Each is moved.
-fn push_marked(
-    list: Vec<SignatureToVerify>,
-    marks: &[bool],
-    kept: &mut Vec<SignatureToVerify>,
-) -> Result<(), OutOfMemory>
-    requires { length marks.now ≡ length list.items }
-    ensures { OnOk result (kept.new.items ≡ kept.old.items ++ marked marks.now list.items) }
+/// Removes the signatures that are not marked. Does not allocate.
+fn keep_marked(list: &mut Vec<ShortenedSignature>, marks: &[bool])
+    requires { length marks.now ≡ length list.old.items }
+    ensures { list.new.items ≡ marked marks.now list.old.items }
 {
-    let mut at = 0;
-    for entry in list {
+    let mut kept = 0;
+    for at in 0..marks.len() {
         if marks[at] {
-            kept.push(entry)?;
+            list.swap(kept, at);
+            kept += 1;
         }
-        at += 1;
     }
-    Ok(())
+    list.truncate(kept);
 }
 
-/// Returns a list without the signatures that are equal to an earlier one, in its order. Each is moved.
-pub(crate) fn deduplicated(
+/// Returns the signatures that are equal to no earlier one, in their order.
+pub(crate) fn without_duplicates(
     alloc: Global,
-    list: Vec<SignatureToVerify>,
-) -> Result<Vec<SignatureToVerify>, OutOfMemory>
-    ensures { IfOk result (λ v. v.items ≡ deduplicated list.items) }
+    list: Vec<ShortenedSignature>,
+) -> Result<Vec<ShortenedSignature>, OutOfMemory>
+    ensures shortened { (g : List ℕ) → AreShortened g list.items
+        → IfOk result (λ v. AreShortened g v.items) }
+    ensures signatures { (g : List ℕ) → AreShortened g list.items
+        → IfOk result (λ v. restored_all g v.items ≡ deduplicated (restored_all g list.items)) }
 {
     let marks = match first_marks(alloc, list.as_slice()) {
         Ok(marks) => marks,
@@ -58,12 +60,7 @@ pub(crate) fn deduplicated(
             return Err(memory);
         }
     };
-    let mut kept = Vec::new(alloc);
-    match push_marked(list, marks.as_slice(), &mut kept) {
-        Ok(()) => Ok(kept),
-        Err(memory) => {
-            drop(kept);
-            Err(memory)
-        }
-    }
+    let mut kept = list;
+    keep_marked(&mut kept, marks.as_slice());
+    Ok(kept)
 }

@@ -6,8 +6,8 @@ ghost use Rattle.mls_apply.specs.AppliedList.{outcome};
 ghost use Rattle.mls_apply.specs.Staged.{IsSettled};
 ghost use Rattle.mls_signatures.specs.SignaturesToVerify.{join_list_signatures, seated_signatures};
 
-use crate::signature_list::push_leaf_signature;
-use crate::signature_to_verify::SignatureToVerify;
+use crate::push_signatures::push_leaf_signature;
+use crate::signature_list::SignatureList;
 use mls_apply::{ApplyFault, ListItem, StagedTree, is_join_list, join_items};
 use mls_check::OutOfMemory;
 use mls_msgs::{Commit, UpdatePath};
@@ -41,9 +41,9 @@ fn apply_and_push_seated_signature(
     external: &ExternalCommit<'_>,
     items: &[ListItem],
     tree: &mut StagedTree,
-    list: &mut Vec<SignatureToVerify>,
+    list: &mut SignatureList,
 ) -> Result<(), OutOfMemory>
-    ensures signatures { OnOk result (list.new.items ≡ list.old.items
+    ensures signatures { OnOk result (list.new ≡ list.old
         ++ seated_signatures external.now.context.now external.now.path.now (outcome items.now tree.old.tree)) }
     ensures base { tree.new.base ≡ tree.old.base }
 {
@@ -72,10 +72,10 @@ fn push_seated_signature(
     external: &ExternalCommit<'_>,
     items: &[ListItem],
     tree: &mut StagedTree,
-    list: &mut Vec<SignatureToVerify>,
+    list: &mut SignatureList,
 ) -> Result<(), OutOfMemory>
     requires { IsSettled tree.old }
-    ensures signatures { OnOk result (list.new.items ≡ list.old.items
+    ensures signatures { OnOk result (list.new ≡ list.old
         ++ seated_signatures external.now.context.now external.now.path.now (outcome items.now tree.old.tree)) }
     ensures base { tree.new.base ≡ tree.old.base }
     ensures tree { tree.new.tree ≡ tree.old.tree }
@@ -92,10 +92,10 @@ pub(crate) fn push_external_commit_signature(
     alloc: Global,
     external: &ExternalCommit<'_>,
     tree: &mut StagedTree,
-    list: &mut Vec<SignatureToVerify>,
+    list: &mut SignatureList,
 ) -> Result<(), OutOfMemory>
     requires { IsSettled tree.old }
-    ensures signatures { OnOk result (list.new.items ≡ list.old.items
+    ensures signatures { OnOk result (list.new ≡ list.old
         ++ join_list_signatures external.now.context.now tree.old.tree external.now.commit.now
         external.now.path.now) }
     ensures base { tree.new.base ≡ tree.old.base }

@@ -3,7 +3,7 @@
 //!
 //! [`start_signatures`] and [`message_signatures`] return them without duplicates, for a caller that verifies them
 //! elsewhere. [`info_signatures`] and [`leaf_signatures`] return those of a start one at a time. [`resumption_signatures`]
-//! returns those of a resumption. None verifies a signature.
+//! returns those of a resumption. None verifies a signature. A [`SignatureList`] stores the id of the group once.
 #![tactic(auto)]
 
 mod added_leaves;
@@ -12,13 +12,18 @@ mod duplicates;
 mod external_commit_signatures;
 pub mod laws;
 mod new_leaf_signatures;
+mod push_signatures;
 mod resumption;
+mod shortened_content;
+mod shortened_signature;
 mod signature_list;
 mod signature_to_verify;
 mod signatures;
 mod signing_keys;
+mod single_signatures;
 
 pub use resumption::resumption_signatures;
+pub use signature_list::SignatureList;
 pub use signature_to_verify::SignatureToVerify;
 pub use signatures::{
     GroupEpoch, info_signatures, leaf_signatures, message_signatures, start_signatures,

@@ -10,8 +10,8 @@ ghost use Rattle.mls_signatures.specs.AddedLeaves.{AreNamedAlike, AppendsSignatu
 ghost use Rattle.mls_signatures.specs.SignaturesToVerify.{non_blank_leaf_signatures, signatures_at};
 
 use crate::added_leaves::AddedLeaf;
-use crate::signature_list::push_leaf_signature;
-use crate::signature_to_verify::SignatureToVerify;
+use crate::push_signatures::push_leaf_signature;
+use crate::signature_list::SignatureList;
 use mls_apply::is_from_key_package;
 use mls_check::OutOfMemory;
 use mls_nodes::{GroupContext, LeafNode};
@@ -43,11 +43,11 @@ fn push_signature_after(
     context: &GroupContext,
     after: &TreeAfter<'_, '_>,
     index: u32,
-    list: &mut Vec<SignatureToVerify>,
+    list: &mut SignatureList,
 ) -> Result<(), OutOfMemory>
     ensures { let suite = context.now.cipher_suite in
         (t : Tree) → IsMapOf t after.now.tree.now.tree after.now.added.now
-        → OnOk result (list.new.items ≡ list.old.items
+        → OnOk result (list.new ≡ list.old
         ++ non_blank_leaf_signatures suite context.now.group_id index (leaf_at 0 t index)) }
 {
     match leaf_after(after, index) {
@@ -63,11 +63,11 @@ pub(crate) fn push_replaced_leaf_signatures(
     context: &GroupContext,
     after: &TreeAfter<'_, '_>,
     replaced: &[u32],
-    list: &mut Vec<SignatureToVerify>,
+    list: &mut SignatureList,
 ) -> Result<(), OutOfMemory>
     ensures { let suite = context.now.cipher_suite in
         (t : Tree) → IsMapOf t after.now.tree.now.tree after.now.added.now
-        → OnOk result (AppendsSignatures list.old.items (signatures_at suite context.now.group_id t replaced.now) list.new.items) }
+        → OnOk result (AppendsSignatures list.old (signatures_at suite context.now.group_id t replaced.now) list.new) }
 {
     let mut seen: BTreeSet<u32> = BTreeSet::new(alloc);
     for index in replaced {
@@ -128,11 +128,11 @@ pub(crate) fn push_added_leaf_signatures(
     alloc: Global,
     context: &GroupContext,
     leaves: &[AddedLeaf<'_>],
-    list: &mut Vec<SignatureToVerify>,
+    list: &mut SignatureList,
 ) -> Result<(), OutOfMemory>
     requires { AreNamedAlike leaves.now }
     ensures { let suite = context.now.cipher_suite in
-        OnOk result (AppendsSignatures list.old.items (added_signatures suite context.now.group_id leaves.now) list.new.items) }
+        OnOk result (AppendsSignatures list.old (added_signatures suite context.now.group_id leaves.now) list.new) }
 {
     let mut named: BTreeMap<&[u8], usize> = BTreeMap::new(alloc);
     let mut position = 0;

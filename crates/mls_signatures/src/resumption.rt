@@ -3,9 +3,10 @@
 ghost use Rattle.std.specs.Prelude.{◌≡◌, ◌++◌, IfOk, OnOk};
 ghost use Rattle.mls_signatures.specs.SignaturesToVerify.{pending_signatures, all_resumption_signatures, resumption_signatures};
 
-use crate::duplicates::deduplicated;
-use crate::signature_list::{is_supported_context, push_proposal_signatures, push_tree_signatures};
-use crate::signature_to_verify::SignatureToVerify;
+use crate::push_signatures::{
+    is_supported_context, push_proposal_signatures, push_tree_signatures,
+};
+use crate::signature_list::SignatureList;
 use mls_apply::KnownProposal;
 use mls_check::OutOfMemory;
 use mls_nodes::GroupContext;
@@ -17,9 +18,9 @@ fn push_pending_signatures(
     alloc: Global,
     context: &GroupContext,
     known: &[KnownProposal],
-    list: &mut Vec<SignatureToVerify>,
+    list: &mut SignatureList,
 ) -> Result<(), OutOfMemory>
-    ensures { OnOk result (list.new.items ≡ list.old.items
+    ensures { OnOk result (list.new ≡ list.old
         ++ pending_signatures context.now known.now) }
 {
     for pending in known {
@@ -34,9 +35,9 @@ fn push_resumption_signatures(
     context: &GroupContext,
     tree: &PublicTree,
     known: &[KnownProposal],
-    list: &mut Vec<SignatureToVerify>,
+    list: &mut SignatureList,
 ) -> Result<(), OutOfMemory>
-    ensures { OnOk result (list.new.items ≡ list.old.items
+    ensures { OnOk result (list.new ≡ list.old
         ++ all_resumption_signatures context.now tree.now.tree known.now) }
 {
     if !is_supported_context(context) {
@@ -58,13 +59,13 @@ pub fn resumption_signatures(
     context: &GroupContext,
     tree: &PublicTree,
     known: &[KnownProposal],
-) -> Result<Vec<SignatureToVerify>, OutOfMemory>
-    ensures { IfOk result (λ v.
-        v.items ≡ resumption_signatures context.now tree.now.tree known.now) }
+) -> Result<SignatureList, OutOfMemory>
+    ensures { IfOk result (λ list.
+        list ≡ resumption_signatures context.now tree.now.tree known.now) }
 {
-    let mut list = Vec::new(alloc);
+    let mut list = SignatureList::of_group(alloc, &context.group_id)?;
     match push_resumption_signatures(alloc, context, tree, known, &mut list) {
-        Ok(()) => deduplicated(alloc, list),
+        Ok(()) => list.deduplicated(alloc),
         Err(memory) => {
             drop(list);
             Err(memory)

@@ -1,6 +1,7 @@
 //! The signatures of a start and of a message, without duplicates.
 
 ghost use Rattle.std.specs.Prelude.{◌≡◌, ◌++◌, IfOk, OnOk};
+ghost use Rattle.std.specs.Option.{option_to_list};
 ghost use Rattle.mls_tree.specs.Tree.{leaf_at};
 ghost use Rattle.mls_apply.specs.Staged.{IsSettled};
 ghost use Rattle.mls_signatures.specs.AddedLeaves.{AppendsSignatures};
@@ -8,14 +9,14 @@ ghost use Rattle.mls_signatures.specs.SignaturesToVerify.{all_message_signatures
 ghost use Rattle.mls_signatures.specs.SigningKeys.{outside_key};
 
 use crate::commit_signatures::{MemberCommit, push_commit_signatures};
-use crate::duplicates::deduplicated;
 use crate::external_commit_signatures::{ExternalCommit, push_external_commit_signature};
-use crate::signature_list::{
-    push_framed_content_signature, push_info_signature, push_non_blank_leaf_signature,
-    push_proposal_signatures, push_start_signatures,
+use crate::push_signatures::{
+    push_framed_content_signature, push_proposal_signatures, push_start_signatures,
 };
+use crate::signature_list::SignatureList;
 use crate::signature_to_verify::SignatureToVerify;
 use crate::signing_keys::{may_propose, outside_key};
+use crate::single_signatures::{info_signature, non_blank_leaf_signature};
 use mls_apply::{PendingProposals, StagedTree};
 use mls_check::OutOfMemory;
 use mls_msgs::{Authenticated, Content, GroupInfo, Message, Profile, Proposal, Sender};
@@ -35,17 +36,31 @@ pub fn start_signatures(
     alloc: Global,
     info: &GroupInfo,
     tree: &PublicTree,
-) -> Result<Vec<SignatureToVerify>, OutOfMemory>
-    ensures { IfOk result (λ v. v.items ≡ start_signatures info.now tree.now.tree) }
+) -> Result<SignatureList, OutOfMemory>
+    ensures { IfOk result (λ list. list ≡ start_signatures info.now tree.now.tree) }
 {
-    let mut list = Vec::new(alloc);
+    let mut list = SignatureList::of_group(alloc, &info.context.group_id)?;
     match push_start_signatures(alloc, info, tree, &mut list) {
-        Ok(()) => deduplicated(alloc, list),
+        Ok(()) => list.deduplicated(alloc),
         Err(memory) => {
             drop(list);
             Err(memory)
         }
     }
+}
+
+/// Returns the list of a signature, if there is one.
+fn list_of(
+    alloc: Global,
+    signature: Option<SignatureToVerify>,
+) -> Result<Vec<SignatureToVerify>, OutOfMemory>
+    ensures { IfOk result (λ v. v.items ≡ option_to_list signature) }
+{
+    let mut list = Vec::new(alloc);
+    if let Some(signature) = signature {
+        list.push(signature)?;
+    }
+    Ok(list)
 }
 
 /// Returns the signature of a GroupInfo by a tree (RFC 9420, 12.4.3). It is the first of [`start_signatures`] if version
@@ -62,14 +77,8 @@ pub fn info_signatures(
     ensures { IfOk result (λ v. v.items
         ≡ info_signatures info.now (leaf_at 0 tree.now.tree info.now.signer)) }
 {
-    let mut list = Vec::new(alloc);
-    match push_info_signature(alloc, info, tree, &mut list) {
-        Ok(()) => Ok(list),
-        Err(memory) => {
-            drop(list);
-            Err(memory)
-        }
-    }
+    let signature = info_signature(alloc, info, tree)?;
+    list_of(alloc, signature)
 }
 
 /// Returns the signature of one leaf node of a group (RFC 9420, 7.2), by its leaf index. Those of all leaves from left to
@@ -89,14 +98,8 @@ pub fn leaf_signatures(
         IfOk result (λ v. v.items ≡ non_blank_leaf_signatures
         suite context.now.group_id index (leaf_at 0 tree.now.tree index)) }
 {
-    let mut list = Vec::new(alloc);
-    match push_non_blank_leaf_signature(alloc, context, tree, index, &mut list) {
-        Ok(()) => Ok(list),
-        Err(memory) => {
-            drop(list);
-            Err(memory)
-        }
-    }
+    let signature = non_blank_leaf_signature(alloc, context, tree, index)?;
+    list_of(alloc, signature)
 }
 
 /// What the signatures of a message depend on besides the tree.
@@ -123,12 +126,12 @@ fn push_member_signatures(
     epoch: &GroupEpoch<'_>,
     tree: &mut StagedTree,
     sent: &Sent<'_>,
-    list: &mut Vec<SignatureToVerify>,
+    list: &mut SignatureList,
 ) -> Result<(), OutOfMemory>
     requires { IsSettled tree.old }
-    ensures signatures { OnOk result (AppendsSignatures list.old.items
+    ensures signatures { OnOk result (AppendsSignatures list.old
         (member_signatures epoch.now.context.now epoch.now.known.now tree.old.tree sent.now.auth.now
-        sent.now.sender (leaf_at 0 tree.old.tree sent.now.sender)) list.new.items) }
+        sent.now.sender (leaf_at 0 tree.old.tree sent.now.sender)) list.new) }
     ensures base { tree.new.base ≡ tree.old.base }
     ensures tree { tree.new.tree ≡ tree.old.tree }
     ensures settled { IsSettled tree.new }
@@ -171,10 +174,10 @@ fn push_outside_proposal_signatures(
     context: &GroupContext,
     frame: &OutsideFrame<'_>,
     proposal: &Proposal,
-    list: &mut Vec<SignatureToVerify>,
+    list: &mut SignatureList,
 ) -> Result<(), OutOfMemory>
     ensures { let auth = frame.now.auth.now in
-        OnOk result (list.new.items ≡ list.old.items ++ outside_proposal_signatures context.now auth
+        OnOk result (list.new ≡ list.old ++ outside_proposal_signatures context.now auth
         auth.content.sender frame.now.key.now proposal.now) }
 {
     let sender = frame.auth.content().sender;
@@ -190,10 +193,10 @@ fn push_outside_content_signatures(
     alloc: Global,
     context: &GroupContext,
     frame: &OutsideFrame<'_>,
-    list: &mut Vec<SignatureToVerify>,
+    list: &mut SignatureList,
 ) -> Result<(), OutOfMemory>
     ensures { let auth = frame.now.auth.now in
-        OnOk result (list.new.items ≡ list.old.items ++ outside_content_signatures context.now auth
+        OnOk result (list.new ≡ list.old ++ outside_content_signatures context.now auth
         auth.content.sender frame.now.key.now auth.content.content) }
 {
     match &frame.auth.content().content {
@@ -210,10 +213,10 @@ fn push_outside_signatures(
     alloc: Global,
     context: &GroupContext,
     auth: &Authenticated,
-    list: &mut Vec<SignatureToVerify>,
+    list: &mut SignatureList,
 ) -> Result<(), OutOfMemory>
     ensures { let content = auth.now.content in
-        OnOk result (list.new.items ≡ list.old.items ++ outside_signatures context.now auth.now content.sender
+        OnOk result (list.new ≡ list.old ++ outside_signatures context.now auth.now content.sender
         (outside_key context.now content.sender content.content)) }
 {
     let content = auth.content();
@@ -232,10 +235,10 @@ fn push_join_signatures(
     context: &GroupContext,
     tree: &mut StagedTree,
     auth: &Authenticated,
-    list: &mut Vec<SignatureToVerify>,
+    list: &mut SignatureList,
 ) -> Result<(), OutOfMemory>
     requires { IsSettled tree.old }
-    ensures signatures { OnOk result (list.new.items ≡ list.old.items
+    ensures signatures { OnOk result (list.new ≡ list.old
         ++ join_content_signatures context.now tree.old.tree auth.now auth.now.content.content) }
     ensures base { tree.new.base ≡ tree.old.base }
     ensures tree { tree.new.tree ≡ tree.old.tree }
@@ -264,12 +267,12 @@ fn push_sender_signatures(
     epoch: &GroupEpoch<'_>,
     tree: &mut StagedTree,
     auth: &Authenticated,
-    list: &mut Vec<SignatureToVerify>,
+    list: &mut SignatureList,
 ) -> Result<(), OutOfMemory>
     requires { IsSettled tree.old }
-    ensures signatures { OnOk result (AppendsSignatures list.old.items
+    ensures signatures { OnOk result (AppendsSignatures list.old
         (sender_signatures epoch.now.profile epoch.now.context.now epoch.now.known.now tree.old.tree auth.now
-        auth.now.content.sender) list.new.items) }
+        auth.now.content.sender) list.new) }
     ensures base { tree.new.base ≡ tree.old.base }
     ensures tree { tree.new.tree ≡ tree.old.tree }
     ensures settled { IsSettled tree.new }
@@ -298,12 +301,12 @@ fn push_authenticated_signatures(
     epoch: &GroupEpoch<'_>,
     tree: &mut StagedTree,
     auth: &Authenticated,
-    list: &mut Vec<SignatureToVerify>,
+    list: &mut SignatureList,
 ) -> Result<(), OutOfMemory>
     requires { IsSettled tree.old }
-    ensures signatures { OnOk result (AppendsSignatures list.old.items
+    ensures signatures { OnOk result (AppendsSignatures list.old
         (authenticated_signatures epoch.now.profile epoch.now.context.now epoch.now.known.now tree.old.tree
-        auth.now) list.new.items) }
+        auth.now) list.new) }
     ensures base { tree.new.base ≡ tree.old.base }
     ensures tree { tree.new.tree ≡ tree.old.tree }
     ensures settled { IsSettled tree.new }
@@ -324,12 +327,12 @@ fn push_message_signatures(
     epoch: &GroupEpoch<'_>,
     tree: &mut StagedTree,
     message: &Message,
-    list: &mut Vec<SignatureToVerify>,
+    list: &mut SignatureList,
 ) -> Result<(), OutOfMemory>
     requires { IsSettled tree.old }
-    ensures signatures { OnOk result (AppendsSignatures list.old.items
+    ensures signatures { OnOk result (AppendsSignatures list.old
         (all_message_signatures epoch.now.profile epoch.now.context.now epoch.now.known.now tree.old.tree
-        message.now) list.new.items) }
+        message.now) list.new) }
     ensures base { tree.new.base ≡ tree.old.base }
     ensures tree { tree.new.tree ≡ tree.old.tree }
     ensures settled { IsSettled tree.new }
@@ -362,17 +365,17 @@ pub fn message_signatures(
     epoch: &GroupEpoch<'_>,
     tree: &mut StagedTree,
     message: &Message,
-) -> Result<Vec<SignatureToVerify>, OutOfMemory>
+) -> Result<SignatureList, OutOfMemory>
     requires settled { IsSettled tree.old }
-    ensures signatures { IfOk result (λ v. v.items
+    ensures signatures { IfOk result (λ list. list
         ≡ message_signatures epoch.now.profile epoch.now.context.now epoch.now.known.now tree.old.tree message.now) }
     ensures base { tree.new.base ≡ tree.old.base }
     ensures tree { tree.new.tree ≡ tree.old.tree }
     ensures settled { IsSettled tree.new }
 {
-    let mut list = Vec::new(alloc);
+    let mut list = SignatureList::of_group(alloc, &epoch.context.group_id)?;
     match push_message_signatures(alloc, epoch, tree, message, &mut list) {
-        Ok(()) => deduplicated(alloc, list),
+        Ok(()) => list.deduplicated(alloc),
         Err(memory) => {
             drop(list);
             Err(memory)

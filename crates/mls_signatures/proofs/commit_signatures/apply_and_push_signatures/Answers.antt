@@ -12,12 +12,12 @@ use Rattle.mls_signatures.proofs.commit_signatures.apply_and_push_signatures.Goa
 pub returns-in-Err-NoSuchLeaf-clause-signatures : goal.returns-in-Err-NoSuchLeaf-clause-signatures
 returns-in-Err-NoSuchLeaf-clause-signatures c =
     let known = rw c.in-Err-NoSuchLeaf.field-0-is at c.in-Err-NoSuchLeaf.ensures in
-    rw (outcome_none c.args.items.now c.args.tree.now.tree (known.no_such_leaf refl)) (extends-none c.args.list.now.items)
+    rw (outcome_none c.args.items.now c.args.tree.now.tree (known.no_such_leaf refl)) (extends-none c.args.list.now)
 
 pub returns-in-Err-TooManyLeaves-clause-signatures : goal.returns-in-Err-TooManyLeaves-clause-signatures
 returns-in-Err-TooManyLeaves-clause-signatures c =
     let known = rw c.in-Err-TooManyLeaves.field-0-is at c.in-Err-TooManyLeaves.ensures in
-    rw ((known.too_many_leaves refl).1) (extends-none c.args.list.now.items)
+    rw ((known.too_many_leaves refl).1) (extends-none c.args.list.now)
 
 pub added_leaves-leaves-requires : goal.added_leaves-leaves-requires
 added_leaves-leaves-requires c =
@@ -39,7 +39,7 @@ returns-clause-signatures c =
     (subst
     (λ js.
     OnOk c.push_new_leaf_signatures-answer.result
-    (AppendsSignatures c.args.list.now.items
+    (AppendsSignatures c.args.list.now
     (signatures_at context.cipher_suite context.group_id o.tree (replaced_leaves items ++ js) ++ path_signatures context commit.committer commit.commit.now.path)
-    c.push_new_leaf_signatures-answer.new.list.items))
+    c.push_new_leaf_signatures-answer.new.list))
     node_indices (c.push_new_leaf_signatures-answer.ensures o.tree after))

@@ -4,5 +4,5 @@ use Rattle.mls_signatures.proofs.commit_signatures.push_entries_signatures.Given
 
 abbrev pub invariant-loop-entry : goal.invariant-loop-entry
 invariant-loop-entry l =
-    l.list.items ++ entries_signatures l.context l.committer (drop l.entry-index l.entries)
-    ≡ l.initial.list.items ++ entries_signatures l.context l.committer l.entries
+    l.list ++ entries_signatures l.context l.committer (drop l.entry-index l.entries)
+    ≡ l.initial.list ++ entries_signatures l.context l.committer l.entries

@@ -10,7 +10,7 @@ returns c = λ t after.
     on_ok_weaker c.push_path_signature.result
     (λ e.
     all_extends context.cipher_suite context.group_id t (replaced_leaves c.args.items.now) c.args.outline.now.leaves.now after.added
-    c.args.list.now.items c.push_update_leaf_signatures.new.list.items c.push_added_leaf_signatures.new.list.items c.push_path_signature.new.list.items
+    c.args.list.now c.push_update_leaf_signatures.new.list c.push_added_leaf_signatures.new.list c.push_path_signature.new.list
     (path_signatures context commit.committer commit.commit.now.path)
     (c.in_ok-push_update_leaf_signatures.ensures t after) c.in_ok-push_added_leaf_signatures.ensures e)
     c.push_path_signature.ensures

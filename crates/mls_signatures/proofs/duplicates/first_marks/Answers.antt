@@ -1,7 +1,7 @@
 use Rattle.std.proofs.Common.{◌≡◌, ◌∙◌, ◌+◌, List, [], ◌∷◌, ◌++◌, take, ap, sym, subst}
 use Rattle.std.proofs.lemmas.List.{take_more}
-use Rattle.mls_signatures.specs.declared.signature_to_verify.SignatureToVerify.{SignatureToVerify}
-use Rattle.mls_signatures.proofs.DuplicateMarks.{Parts, of_parts, HasMarks, marks-next}
+use Rattle.mls_signatures.specs.declared.shortened_signature.ShortenedSignature.{ShortenedSignature}
+use Rattle.mls_signatures.proofs.ShortenedMarks.{Parts, of_parts, HasMarks, marks-next}
 use Rattle.mls_signatures.proofs.duplicates.first_marks.Goals as goal
 
 pub loop-entry-preserved : goal.loop-entry-preserved
@@ -9,15 +9,15 @@ loop-entry-preserved c =
     let list = c.args.list.now in
     let at = c.loop-entry.entry-index in
     let w = c.entry-item.result in
-    let p : Parts = (w.suite, c.as_slice-key.result, c.as_slice-content.result, c.as_slice-signature.result) in
+    let p : Parts = (w.suite, w.content.is_shortened, c.as_slice-key.result, c.as_slice-signature.result, c.as_slice-bytes.result) in
     let is : of_parts p ≡ w = λ i. record {
       suite = w.suite;
       key = c.as_slice-key.ensures.bytes i;
-      content = c.as_slice-content.ensures i;
+      content = record { is_shortened = w.content.is_shortened; bytes = c.as_slice-bytes.ensures i };
       signature = c.as_slice-signature.ensures.bytes i;
     } in
     let next : take (at + 1) list ≡ take at list ++ w ∷ [] =
-    take_more list at w c.loop-entry-test.true ∙ ap (λ (x : SignatureToVerify). take at list ++ x ∷ []) (sym c.entry-item.is) in
-    subst (λ (ws : List SignatureToVerify). HasMarks ws c.push.new.self.items c.insert.new.self) (sym next)
+    take_more list at w c.loop-entry-test.true ∙ ap (λ (x : ShortenedSignature). take at list ++ x ∷ []) (sym c.entry-item.is) in
+    subst (λ (ws : List ShortenedSignature). HasMarks ws c.push.new.self.items c.insert.new.self) (sym next)
     (marks-next (take at list) c.loop-entry.marks.items c.loop-entry.seen c.loop-entry.invariant w p is
     c.in_ok-insert.field-0 c.in_ok-insert.ensures.added c.insert.new.self c.in_ok-insert.ensures.updates.0 c.push.new.self.items c.in_ok-push.ensures.items)

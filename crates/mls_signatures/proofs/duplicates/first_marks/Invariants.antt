@@ -1,5 +1,5 @@
 use Rattle.std.proofs.Common.{take}
-use Rattle.mls_signatures.proofs.DuplicateMarks.{HasMarks}
+use Rattle.mls_signatures.proofs.ShortenedMarks.{HasMarks}
 use Rattle.mls_signatures.proofs.duplicates.first_marks.Given as goal
 
 abbrev pub invariant-loop-entry : goal.invariant-loop-entry

@@ -6,4 +6,4 @@ use Rattle.mls_signatures.proofs.external_commit_signatures.apply_and_push_seate
 pub returns-in-Err-NoSuchLeaf-clause-signatures : goal.returns-in-Err-NoSuchLeaf-clause-signatures
 returns-in-Err-NoSuchLeaf-clause-signatures c =
     let known = rw c.in-Err-NoSuchLeaf.field-0-is at c.in-Err-NoSuchLeaf.ensures in
-    rw (outcome_none c.args.items.now c.args.tree.now.tree (known.no_such_leaf refl)) (sym (append-nil c.args.list.now.items))
+    rw (outcome_none c.args.items.now c.args.tree.now.tree (known.no_such_leaf refl)) (sym (append-nil c.args.list.now))

@@ -6,7 +6,7 @@ use Rattle.mls_signatures.proofs.new_leaf_signatures.push_added_leaf_signatures.
 use Rattle.mls_signatures.proofs.new_leaf_signatures.push_added_leaf_signatures.Goals as goal
 
 pub loop-leaf-init : goal.loop-leaf-init
-loop-leaf-init c = record { at = refl; walked = extends-none c.args.list.now.items }
+loop-leaf-init c = record { at = refl; walked = extends-none c.args.list.now }
 
 pub is_repeat-requires : goal.is_repeat-requires
 is_repeat-requires c = omega (arith, c.loop-leaf.invariant.at, c.loop-leaf-test.true)
@@ -14,7 +14,7 @@ is_repeat-requires c = omega (arith, c.loop-leaf.invariant.at, c.loop-leaf-test.
 pub loop-leaf-preserved : goal.loop-leaf-preserved
 loop-leaf-preserved c =
     let context = c.args.context.now in
-    let old = c.args.list.now.items in
+    let old = c.args.list.now in
     let xs = c.args.leaves.now in
     let i = c.loop-leaf.leaf-index in
     let known = c.loop-leaf.invariant.walked in
@@ -22,19 +22,19 @@ loop-leaf-preserved c =
       | then-not-is_repeat+in_ok-push_leaf_signature w ↦ record {
         at = ap (λ n. n + 1) c.loop-leaf.invariant.at;
         walked =
-            added-push context.cipher_suite context.group_id old xs i c.loop-leaf.list.items known c.leaf-item.result c.loop-leaf-test.true c.leaf-item.is
-            c.if-not-is_repeat.list.items ((λ k. (w.list-is k).items) ∙ w.in_ok-push_leaf_signature.ensures);
+            added-push context.cipher_suite context.group_id old xs i c.loop-leaf.list known c.leaf-item.result c.loop-leaf-test.true c.leaf-item.is
+            c.if-not-is_repeat.list (w.list-is ∙ w.in_ok-push_leaf_signature.ensures);
       }
       | else-not-is_repeat w ↦ record {
         at = ap (λ n. n + 1) c.loop-leaf.invariant.at;
         walked =
-            subst (λ l. AppendsSignatures old (added_signatures context.cipher_suite context.group_id (take (i + 1) xs)) l.items) (sym w.list-is)
-            (added-skip context.cipher_suite context.group_id old xs i c.loop-leaf.list.items known c.leaf-item.result c.loop-leaf-test.true c.leaf-item.is c.requires
+            subst (λ l. AppendsSignatures old (added_signatures context.cipher_suite context.group_id (take (i + 1) xs)) l) (sym w.list-is)
+            (added-skip context.cipher_suite context.group_id old xs i c.loop-leaf.list known c.leaf-item.result c.loop-leaf-test.true c.leaf-item.is c.requires
             (subst (λ n. IsRepeat xs n) c.loop-leaf.invariant.at (c.is_repeat.ensures w.if-not-is_repeat.false)));
       }
     ]
 
 pub returns : goal.returns
 returns c =
-    added-all c.args.context.now.cipher_suite c.args.context.now.group_id c.args.list.now.items c.args.leaves.now c.loop-leaf.leaf-index c.loop-leaf.list.items
+    added-all c.args.context.now.cipher_suite c.args.context.now.group_id c.args.list.now c.args.leaves.now c.loop-leaf.leaf-index c.loop-leaf.list
     c.loop-leaf.invariant.walked c.loop-leaf-test.false

@@ -5,5 +5,5 @@ use Rattle.mls_signatures.proofs.new_leaf_signatures.push_added_leaf_signatures.
 abbrev pub invariant-loop-leaf : goal.invariant-loop-leaf
 invariant-loop-leaf l = record {
   at : l.position ≡ l.leaf-index;
-  walked : AppendsSignatures l.initial.list.items (added_signatures l.context.cipher_suite l.context.group_id (take l.leaf-index l.leaves)) l.list.items;
+  walked : AppendsSignatures l.initial.list (added_signatures l.context.cipher_suite l.context.group_id (take l.leaf-index l.leaves)) l.list;
 }

@@ -11,29 +11,29 @@ held b false e f = absurd (false≢true (sym f ∙ e))
 
 pub loop-index-init : goal.loop-index-init
 loop-index-init c = λ t m.
-    walked-start c.args.context.now.cipher_suite c.args.context.now.group_id t c.args.list.now.items c.args.replaced.now c.new-seen.result c.new-seen.ensures.empty
+    walked-start c.args.context.now.cipher_suite c.args.context.now.group_id t c.args.list.now c.args.replaced.now c.new-seen.result c.new-seen.ensures.empty
 
 pub loop-index-preserved : goal.loop-index-preserved
 loop-index-preserved c = λ t m.
     let context = c.args.context.now in
-    let old = c.args.list.now.items in
+    let old = c.args.list.now in
     let js = c.args.replaced.now in
     let i = c.loop-index.index-index in
     let known = c.loop-index.invariant t m in
     elim c.if-is_new.branch [
       | then-is_new+in_ok-push_signature_after w ↦
-          walked-push context.cipher_suite context.group_id t old js i c.loop-index.list.items c.loop-index.seen known c.loop-index-test.true
-          c.insert.new.self c.in_ok-is_new.ensures.updates.0 c.if-is_new.list.items
-          ((λ k. (w.list-is k).items) ∙ w.in_ok-push_signature_after.ensures t m)
+          walked-push context.cipher_suite context.group_id t old js i c.loop-index.list c.loop-index.seen known c.loop-index-test.true
+          c.insert.new.self c.in_ok-is_new.ensures.updates.0 c.if-is_new.list
+          (w.list-is ∙ w.in_ok-push_signature_after.ensures t m)
       | else-is_new w ↦
           subst
-          (λ l. Walked context.cipher_suite context.group_id t old js (i + 1) l.items c.insert.new.self)
+          (λ l. Walked context.cipher_suite context.group_id t old js (i + 1) l c.insert.new.self)
           (sym w.list-is)
-          (walked-skip context.cipher_suite context.group_id t old js i c.loop-index.list.items c.loop-index.seen known c.loop-index-test.true
+          (walked-skip context.cipher_suite context.group_id t old js i c.loop-index.list c.loop-index.seen known c.loop-index-test.true
           c.insert.new.self c.in_ok-is_new.ensures.updates.0 (held _ _ c.in_ok-is_new.ensures.added w.if-is_new.false))
     ]
 
 pub returns : goal.returns
 returns c = λ t m.
-    walked-all c.args.context.now.cipher_suite c.args.context.now.group_id t c.args.list.now.items c.args.replaced.now c.loop-index.index-index
-    c.loop-index.list.items c.loop-index.seen (c.loop-index.invariant t m) c.loop-index-test.false
+    walked-all c.args.context.now.cipher_suite c.args.context.now.group_id t c.args.list.now c.args.replaced.now c.loop-index.index-index
+    c.loop-index.list c.loop-index.seen (c.loop-index.invariant t m) c.loop-index-test.false

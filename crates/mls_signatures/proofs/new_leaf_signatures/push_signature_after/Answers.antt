@@ -7,11 +7,11 @@ pub returns-in-Some : goal.returns-in-Some
 returns-in-Some c = λ t m.
     let context = c.args.context.now in
     subst
-    (λ o. OnOk c.push_leaf_signature.result (c.push_leaf_signature.new.list.items ≡ c.args.list.now.items ++ non_blank_leaf_signatures context.cipher_suite context.group_id c.args.index o))
+    (λ o. OnOk c.push_leaf_signature.result (c.push_leaf_signature.new.list ≡ c.args.list.now ++ non_blank_leaf_signatures context.cipher_suite context.group_id c.args.index o))
     (c.in-Some.ensures t m) c.push_leaf_signature.ensures
 
 pub returns-in-None : goal.returns-in-None
 returns-in-None c = λ t m.
     let context = c.args.context.now in
-    subst (λ o. c.args.list.now.items ≡ c.args.list.now.items ++ non_blank_leaf_signatures context.cipher_suite context.group_id c.args.index o)
-    (c.in-None.ensures t m) (sym (append-nil c.args.list.now.items))
+    subst (λ o. c.args.list.now ≡ c.args.list.now ++ non_blank_leaf_signatures context.cipher_suite context.group_id c.args.index o)
+    (c.in-None.ensures t m) (sym (append-nil c.args.list.now))

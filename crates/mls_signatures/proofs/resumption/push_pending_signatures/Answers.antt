@@ -7,12 +7,12 @@ use Rattle.mls_signatures.proofs.resumption.push_pending_signatures.Goals as goa
 pub loop-pending-preserved : goal.loop-pending-preserved
 loop-pending-preserved c =
     let f = pending_signatures c.args.context.now in
-    walked-next f (λ (k : KnownProposal). proposal_signatures c.args.context.now k.sender k.proposal) (λ x xs. refl) refl c.args.known.now (c.args.list.now.items ++ f c.args.known.now)
-    c.loop-pending.pending-index c.loop-pending.list.items c.loop-pending.invariant c.pending-item.result c.pending-item.result c.loop-pending-test.true c.pending-item.is
-    c.push_proposal_signatures.new.list.items c.in_ok-push_proposal_signatures.ensures
+    walked-next f (λ (k : KnownProposal). proposal_signatures c.args.context.now k.sender k.proposal) (λ x xs. refl) refl c.args.known.now (c.args.list.now ++ f c.args.known.now)
+    c.loop-pending.pending-index c.loop-pending.list c.loop-pending.invariant c.pending-item.result c.pending-item.result c.loop-pending-test.true c.pending-item.is
+    c.push_proposal_signatures.new.list c.in_ok-push_proposal_signatures.ensures
 
 pub returns : goal.returns
 returns c =
     let f = pending_signatures c.args.context.now in
-    walked-all f (λ (k : KnownProposal). proposal_signatures c.args.context.now k.sender k.proposal) (λ x xs. refl) refl c.args.known.now (c.args.list.now.items ++ f c.args.known.now)
-    c.loop-pending.pending-index c.loop-pending.list.items c.loop-pending.invariant c.loop-pending-test.false
+    walked-all f (λ (k : KnownProposal). proposal_signatures c.args.context.now k.sender k.proposal) (λ x xs. refl) refl c.args.known.now (c.args.list.now ++ f c.args.known.now)
+    c.loop-pending.pending-index c.loop-pending.list c.loop-pending.invariant c.loop-pending-test.false

@@ -4,5 +4,5 @@ use Rattle.mls_signatures.proofs.resumption.push_pending_signatures.Given as goa
 
 abbrev pub invariant-loop-pending : goal.invariant-loop-pending
 invariant-loop-pending l =
-    l.list.items ++ pending_signatures l.context (drop l.pending-index l.known)
-    ≡ l.initial.list.items ++ pending_signatures l.context l.known
+    l.list ++ pending_signatures l.context (drop l.pending-index l.known)
+    ≡ l.initial.list ++ pending_signatures l.context l.known

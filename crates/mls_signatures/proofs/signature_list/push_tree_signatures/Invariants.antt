@@ -1,7 +1,0 @@
-use Rattle.std.proofs.Common.{◌≡◌, ◌++◌}
-use Rattle.mls_signatures.proofs.LeafLists.{signatures_below}
-use Rattle.mls_signatures.proofs.signature_list.push_tree_signatures.Given as goal
-
-abbrev pub invariant-loop-index : goal.invariant-loop-index
-invariant-loop-index l =
-    l.list.items ≡ l.initial.list.items ++ signatures_below l.context.cipher_suite l.context.group_id l.tree.tree l.index

@@ -14,7 +14,7 @@ use crate::group::Group;
 use crate::refusal::Refusal;
 use mls_check::{OutOfMemory, SignatureCheck};
 use mls_msgs::Message;
-use mls_signatures::{GroupEpoch, SignatureToVerify, message_signatures};
+use mls_signatures::{GroupEpoch, SignatureList, message_signatures};
 use std::alloc::Global;
 use thiserror::Error;
 
@@ -31,17 +31,13 @@ pub enum SignatureListFault {
 
 impl Group {
     /// Returns the signatures of a message, without duplicates. The group is unchanged, whatever is returned.
-    fn signatures(
-        &mut self,
-        alloc: Global,
-        message: &Message,
-    ) -> Result<Vec<SignatureToVerify>, OutOfMemory>
-        ensures signatures { IfOk result (λ v.
-            v.items ≡ message_signatures_in_state (group_state self.old) message.now) }
+    fn signatures(&mut self, alloc: Global, message: &Message) -> Result<SignatureList, OutOfMemory>
+        ensures signatures { IfOk result (λ list.
+            list ≡ message_signatures_in_state (group_state self.old) message.now) }
         ensures state { group_state self.new ≡ group_state self.old }
     {
         if self.ended {
-            return Ok(Vec::new(alloc));
+            return Ok(SignatureList::new(alloc));
         }
         let epoch = GroupEpoch {
             profile: self.profile,
@@ -74,20 +70,20 @@ impl<C: SignatureCheck> Follower<C> {
     pub fn signatures_to_verify(
         &mut self,
         bytes: &[u8],
-    ) -> Result<Vec<SignatureToVerify>, SignatureListFault>
-        ensures needed { IfOk result (λ v. AreSignaturesOf (state_of self.old) bytes.now v.items) }
+    ) -> Result<SignatureList, SignatureListFault>
+        ensures needed { IfOk result (AreSignaturesOf (state_of self.old) bytes.now) }
         ensures malformed { IfErr result (λ e. e ≢ SignatureListFault.OutOfMemory
             → (e ≡ SignatureListFault.Malformed)
             × EncodesNoMessage (state_of self.old).profile bytes.now) }
         ensures too_long { input_limit < length bytes.now → result ≡ Err SignatureListFault.Malformed }
         ensures no_header { HasNoHeader bytes.now → result ≡ Err SignatureListFault.Malformed }
-        ensures unread { IsUnreadMessage bytes.now → IsOkAnd result (λ v. v.items ≡ []) }
+        ensures unread { IsUnreadMessage bytes.now → IsOkAnd result (λ list. list ≡ []) }
         ensures state { state_of self.new ≡ state_of self.old }
         ensures checker { checker_of self.new ≡ checker_of self.old }
     {
         let message = match read_message(self.alloc, self.group.profile, bytes) {
             Ok(message) => message,
-            Err(Refusal::NotPublic) => return Ok(Vec::new(self.alloc)),
+            Err(Refusal::NotPublic) => return Ok(SignatureList::new(self.alloc)),
             Err(Refusal::OutOfMemory) => return Err(SignatureListFault::OutOfMemory),
             Err(_) => return Err(SignatureListFault::Malformed),
         };

@@ -1,6 +1,6 @@
 -- What the messages of a log want, message by message.
-use Rattle.std.proofs.Common.{◌≡◌, ◌≢◌, ◌∙◌, ℕ, ◌+◌, ◌<◌, List, [], ◌∷◌, ◌++◌, length, Bool, true, false, Option, Result, refl, sym, ap, subst, append_assoc, append-nil, arith, inl, inr}
-use Rattle.std.specs.Prelude.{◌&&◌, codes, is_some}
+use Rattle.std.proofs.Common.{◌≡◌, ◌≢◌, ◌∙◌, ℕ, ◌+◌, ◌<◌, List, [], ◌∷◌, ◌++◌, length, Bool, true, false, Option, Some, None, Result, Ok, Err, refl, sym, ap, subst, append_assoc, append-nil, arith, inl, inr}
+use Rattle.std.specs.Prelude.{◌&&◌, codes, is_some, IfErr, OnErr}
 use Rattle.std.specs.Io.KnownBytes.{Appends, Consumes, IsAtEnd}
 use Rattle.mls_wire.specs.Devices.{AppendsPrefix}
 use Rattle.mls_wire.proofs.KnownBytes.{Appends-trans}
@@ -15,8 +15,8 @@ use Rattle.mls_signatures.specs.declared.signature_to_verify.SignatureToVerify.{
 use Rattle.mls_report.specs.Replay.{ProcessedMessage, Follows, IsLogEnd, message_limit, state_after, messages_to_come}
 use Rattle.mls_report.specs.ReplaySteps.{ReadsUndecided}
 use Rattle.mls_follow.specs.CoveredLogs.{all_good}
-use Rattle.mls_report.specs.SignaturesReport.{HasSignatures, LoggedMessage, turns_of, HaveSignatures, signature_lines, log_lines, all_read, break_line, log_verdict, ProcessesLog, ReportsSignatureLog, SignatureLogPart}
-use Rattle.mls_report.specs.SignaturesSteps.{WritesSignatures, StopsInMessage}
+use Rattle.mls_report.specs.SignaturesReport.{HasSignatures, LoggedMessage, turns_of, HaveSignatures, signature_lines, needed_lines, log_lines, all_read, break_line, log_verdict, ProcessesLog, ReportsSignatureLog, SignatureLogPart}
+use Rattle.mls_report.specs.SignaturesSteps.{WritesSignatures, StopsInLines, StopsInMessage, StopsInMessageLines}
 use Rattle.mls_report.specs.declared.verdict.RunFault.{RunFault}
 use Rattle.mls_report.specs.declared.verdict.RunFault.TheVariants.{Read, Write, Memory}
 use Rattle.mls_report.specs.declared.verdict.Verdict.{Verdict}
@@ -107,26 +107,63 @@ module _ (R : VerifyFn) (s : State) (l0 l1 l2 w0 w1 : Option (List ℕ)) (ms : L
         state = sym (state_after-snoc s (turns_of ms) a.turn) ∙ ap (state_after s) (sym (turns-snoc ms a));
       }
 
-  pub part-turn : (w2 : Option (List ℕ)) (e : RunFault) → StopsInMessage R now n body w1 w2 e → SignatureLogPart R s l0 l2 w0 w2 e
-  part-turn w2 Read stops = absurd stops
-  part-turn w2 Write stops =
-      let same : n ≡ length ms + 1 = omega arith in
-      inl (record {
-        logged = ms;
-        last = last stops.needed stops.answer stops.new;
-        processes = processes-snoc stops.needed stops.answer stops.new stops.has_signatures stops.is_answer;
-        part = stops.wrote.0;
-        more = stops.wrote.1;
-        lines_are = ap (λ k. signature_lines R k stops.needed) (sym same) ∙ stops.wrote.2;
-        wrote = Appends-trans w0 w1 w2 _ _ f.wrote stops.wrote.3;
-      })
-  part-turn w2 Memory stops = record {
+  -- memory ran out before the message was processed
+  before-message : (w2 : Option (List ℕ)) → Appends w1 w2 [] → SignatureLogPart R s l0 l2 w0 w2 Memory
+  before-message w2 none = inl (record {
     logged = ms;
     rest = read;
     processes = processes-read s l0 l1 l2 ms read f.processes taken;
     left_over = inr (inl (body, r));
-    wrote = subst (Appends w0 w2) (append-nil (log_lines R 1 ms)) (Appends-trans w0 w1 w2 _ _ f.wrote stops);
-  }
+    wrote = subst (Appends w0 w2) (append-nil (log_lines R 1 ms)) (Appends-trans w0 w1 w2 _ _ f.wrote none);
+  })
+
+  -- the lines of the message were not written whole
+  in-message :
+      (w2 : Option (List ℕ)) (needed : Option (List SignatureToVerify)) (answer : Result Taken Refusal) (new : State) → HasSignatures now body needed → IsAnswer all_good now body answer new
+      → (e : RunFault) → StopsInMessageLines R n needed w1 w2 e → SignatureLogPart R s l0 l2 w0 w2 e
+  in-message w2 needed answer new has is_answer Read stops = absurd stops
+  in-message w2 needed answer new has is_answer Write stops =
+      let same : n ≡ length ms + 1 = omega arith in
+      inl (record {
+        logged = ms;
+        last = last needed answer new;
+        processes = processes-snoc needed answer new has is_answer;
+        part = stops.0;
+        more = stops.1;
+        lines_are = ap (λ k. signature_lines R k needed) (sym same) ∙ stops.2;
+        wrote = Appends-trans w0 w1 w2 _ _ f.wrote stops.3;
+      })
+  in-message w2 None answer new has is_answer Memory stops = before-message w2 stops
+  in-message w2 (Some qs) answer new has is_answer Memory stops = inr (record {
+    logged = ms;
+    last = record { bytes = body; answer = answer; state = new };
+    front = stops.front;
+    rest = stops.rest;
+    processes =
+        processes-snoc (Some (stops.front ++ stops.rest)) answer new
+        (subst (λ (ws : List SignatureToVerify). HasSignatures now body (Some ws)) stops.split has) is_answer;
+    wrote = Appends-trans w0 w1 w2 _ _ f.wrote stops.wrote;
+  })
+
+  pub part-turn : (w2 : Option (List ℕ)) (e : RunFault) → StopsInMessage R now n body w1 w2 e → SignatureLogPart R s l0 l2 w0 w2 e
+  part-turn w2 e (inl before) = subst (SignatureLogPart R s l0 l2 w0 w2) (sym before.is_memory) (before-message w2 before.wrote)
+  part-turn w2 e (inr stops) = in-message w2 stops.needed stops.answer stops.new stops.has_signatures stops.is_answer e stops.stops
+
+-- ---- the lines of a message
+
+pub lines-of-message : (R : VerifyFn) (n : ℕ) (qs : List SignatureToVerify) (a b : Option (List ℕ)) (e : RunFault) → StopsInLines (needed_lines R) qs a b e
+    → StopsInMessageLines R n (Some qs) a b e
+lines-of-message R n qs a b Read stops = stops
+lines-of-message R n qs a b Write stops = stops
+lines-of-message R n qs a b Memory stops = stops
+
+pub line-of-message :
+    {T : Type 0} (r : Result T RunFault) (R : VerifyFn) (n : ℕ) (a b : Option (List ℕ)) → OnErr r (AppendsPrefix a b (signature_lines R n None)) → (r ≡ Err Memory → Appends a b [])
+    → IfErr r (λ e. e ≢ Read) → IfErr r (StopsInMessageLines R n None a b)
+line-of-message (Ok x) R n a b part memory own = tt
+line-of-message (Err Read) R n a b part memory own = absurd (own refl)
+line-of-message (Err Write) R n a b part memory own = part
+line-of-message (Err Memory) R n a b part memory own = memory refl
 
 -- ---- where it stops
 
@@ -143,13 +180,13 @@ module _ (R : VerifyFn) (s : State) (l0 l1 l2 w0 w1 : Option (List ℕ)) (ms : L
     wrote = f.wrote;
   }
   part-read most Write count u other = absurd (other refl)
-  part-read most Memory count u other = record {
+  part-read most Memory count u other = inl (record {
     logged = ms;
     rest = u.rest;
     processes = processes-read s l0 l1 l2 ms u.rest f.processes u.read;
     left_over = inl (subst (λ k. IsIncomplete k u.rest) (still ms most count) u.undecided);
     wrote = f.wrote;
-  }
+  })
 
   pub printed-end : (b : Bool) (verdict : Verdict) → b ≡ all_read ms → Consumes l1 l2 [] → IsAtEnd l2 → verdict ≡ log_verdict false b → ReportsSignatureLog R s l0 l2 w0 w1 verdict
   printed-end b verdict e read end v = record {
@@ -196,10 +233,10 @@ module _ (R : VerifyFn) (s : State) (l0 l1 l2 w0 w1 : Option (List ℕ)) (ms : L
     })
 
     pub before-break : Appends w1 w2 [] → SignatureLogPart R s l0 l2 w0 w2 Memory
-    before-break none = record {
+    before-break none = inl (record {
       logged = ms;
       rest = read;
       processes = processes-read s l0 l1 l2 ms read f.processes consumed;
       left_over = inr (inr (true, log_end-is));
       wrote = subst (Appends w0 w2) (append-nil (log_lines R 1 ms)) (Appends-trans w0 w1 w2 _ _ f.wrote none);
-    }
+    })

@@ -1,12 +1,14 @@
 -- Lines that are written one signature after the other.
-use Rattle.std.proofs.Common.{◌≡◌, ◌∙◌, ℕ, ◌+◌, ◌<◌, ◌≤◌, List, [], ◌∷◌, ◌++◌, length, take, drop, get_or, Option, Result, Ok, Err, refl, sym, ap, subst, arith, append_assoc, add-one}
-use Rattle.std.specs.Prelude.{OnErr, IfErr}
-use Rattle.std.proofs.lemmas.List.{take_more, take-append-drop, take_all}
+use Rattle.std.proofs.Common.{◌≡◌, ◌∙◌, ℕ, ◌+◌, ◌<◌, ◌≤◌, List, [], ◌∷◌, ◌++◌, length, take, drop, Option, Result, Ok, Err, refl, sym, ap, subst, arith, append_assoc, add-one}
+use Rattle.std.specs.Prelude.{OnErr, IfErr, slice_get}
+use Rattle.std.specs.Option.{option_to_list}
+use Rattle.std.proofs.lemmas.List.{take-append-drop, take_all}
 use Rattle.std.specs.Io.KnownBytes.{Appends}
 use Rattle.mls_wire.proofs.KnownBytes.{Appends-trans}
 use Rattle.mls_wire.specs.Devices.{AppendsPrefix}
 use Rattle.mls_tree.specs.Tree.{leaf_count}
 use Rattle.mls_check.specs.Signatures.{VerifyFn}
+use Rattle.mls_signatures.proofs.Fronts.{front-more}
 use Rattle.mls_signatures.proofs.LeafLists.{of_leaf_in, signatures_below, signatures_from, below-from, tree-joined}
 use Rattle.mls_signatures.specs.declared.signature_to_verify.SignatureToVerify.{SignatureToVerify}
 use Rattle.mls_follow.specs.MessageSignatures.{state_signatures}
@@ -88,19 +90,19 @@ module _ (lines : List SignatureToVerify → List ℕ) (both : (ws vs : List Sig
       (stops-behind a b c (leaves_below s n) (signatures_of_leaf s n) fault w p))
 
   -- of a list, from its first signature on
-  module _ (ws : List SignatureToVerify) (n : ℕ) (x : SignatureToVerify) (low : n < length ws) (is : x ≡ get_or ws n x) where
-    front-more : take (n + 1) ws ≡ take n ws ++ x ∷ []
-    front-more = take_more ws n x low ∙ ap (λ (y : SignatureToVerify). take n ws ++ y ∷ []) (sym is)
+  module _ (ws : List SignatureToVerify) (n : ℕ) where
+    pub wrote-at : (a b c : Option (List ℕ)) → Appends a b (lines (take n ws)) → Appends b c (lines (option_to_list (slice_get ws n))) → Appends a c (lines (take (n + 1) ws))
+    wrote-at a b c p q =
+        subst (λ (vs : List SignatureToVerify). Appends a c (lines vs)) (sym (front-more ws n)) (wrote-both a b c (take n ws) (option_to_list (slice_get ws n)) p q)
 
-    pub wrote-next : (a b c : Option (List ℕ)) → Appends a b (lines (take n ws)) → Appends b c (lines (x ∷ [])) → Appends a c (lines (take (n + 1) ws))
-    wrote-next a b c p q = subst (λ (vs : List SignatureToVerify). Appends a c (lines vs)) (sym front-more) (wrote-both a b c (take n ws) (x ∷ []) p q)
-
-    pub stops-next : (a b c : Option (List ℕ)) (fault : RunFault) → Appends a b (lines (take n ws)) → StopsInLines lines (x ∷ []) b c fault → StopsInLines lines ws a c fault
-    stops-next a b c fault w p =
-        let split : ws ≡ (take n ws ++ x ∷ []) ++ drop (n + 1) ws =
-        sym (take-append-drop (n + 1) ws) ∙ ap (λ (vs : List SignatureToVerify). vs ++ drop (n + 1) ws) front-more in
+    pub stops-at : (a b c : Option (List ℕ)) (fault : RunFault) → Appends a b (lines (take n ws)) → StopsInLines lines (option_to_list (slice_get ws n)) b c fault
+        → StopsInLines lines ws a c fault
+    stops-at a b c fault w p =
+        let x : List SignatureToVerify = option_to_list (slice_get ws n) in
+        let split : ws ≡ (take n ws ++ x) ++ drop (n + 1) ws =
+        sym (take-append-drop (n + 1) ws) ∙ ap (λ (vs : List SignatureToVerify). vs ++ drop (n + 1) ws) (front-more ws n) in
         subst (λ (vs : List SignatureToVerify). StopsInLines lines vs a c fault) (sym split)
-        (stops-before a c (take n ws ++ x ∷ []) (drop (n + 1) ws) fault (stops-behind a b c (take n ws) (x ∷ []) fault w p))
+        (stops-before a c (take n ws ++ x) (drop (n + 1) ws) fault (stops-behind a b c (take n ws) x fault w p))
 
   pub wrote-all : (ws : List SignatureToVerify) (n : ℕ) (a b : Option (List ℕ)) → length ws ≤ n → Appends a b (lines (take n ws)) → Appends a b (lines ws)
   wrote-all ws n a b end p = subst (λ (vs : List SignatureToVerify). Appends a b (lines vs)) (take_all n ws end) p

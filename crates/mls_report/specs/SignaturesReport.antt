@@ -171,6 +171,18 @@ pub record SignatureLogWithoutMemory (R : VerifyFn) (s : State) (log0 log1 writt
   pub left_over : IsLeftOver (messages_to_come (turns_of logged)) rest log1
   pub wrote : Appends written0 written1 (log_lines R 1 logged)
 
+-- `SignatureLogInSignatures R s log0 log1 written0 written1`: memory ran out in the lines of the last message that was
+-- read. The lines of the signatures before were written whole. Nothing was read after that message.
+pub record SignatureLogInSignatures (R : VerifyFn) (s : State) (log0 log1 written0 written1 : Option (List ℕ)) :
+    Type 0 where
+  pub logged : List LoggedMessage
+  pub last : ProcessedMessage
+  pub front : List SignatureToVerify
+  pub rest : List SignatureToVerify
+  pub processes : ProcessesLog s log0 log1
+      (logged ++ record { turn = last; needed = Some (front ++ rest) } ∷ []) []
+  pub wrote : Appends written0 written1 (log_lines R 1 logged ++ needed_lines R front)
+
 -- `SignatureLogPart R s log0 log1 written0 written1 fault`: what was written if the report of the log was not written
 -- whole, by the fault that is returned.
 abbrev pub SignatureLogPart : VerifyFn → State → Option (List ℕ) → Option (List ℕ) → Option (List ℕ)
@@ -180,6 +192,7 @@ SignatureLogPart R s log0 log1 written0 written1 Write =
     SignatureLogInLines R s log0 log1 written0 written1 ⊎ SignatureLogInBreak R s log0 log1 written0 written1
 SignatureLogPart R s log0 log1 written0 written1 Memory =
     SignatureLogWithoutMemory R s log0 log1 written0 written1
+    ⊎ SignatureLogInSignatures R s log0 log1 written0 written1
 
 -- `ReportsLogIf R s log0 log1 written0 written1 verdict`: the report of the log was written, or there is no log, and
 -- the verdict is Yes.

@@ -7,6 +7,7 @@ pub mod fault_text;
 pub mod finding;
 mod info_text;
 pub mod laws;
+mod list_lines;
 mod message_text;
 pub mod read_inputs;
 mod read_to_end;

@@ -1,77 +1,85 @@
 //! The signatures that the messages of a log need.
 
-ghost use Rattle.std.specs.Prelude.{◌≡◌, ◌≢◌, ◌↔◌, ◌++◌, [], codes, false, true, Err, string_bytes, IfOk, IfErr, OnErr};
+ghost use Rattle.std.specs.Prelude.{◌≡◌, ◌≢◌, ◌↔◌, ◌++◌, [], codes, false, true, Err, IfOk, IfErr, OnErr, OnOk};
 ghost use Rattle.std.specs.Fmt.{decimal};
 ghost use Rattle.std.specs.Io.KnownBytes.{Appends};
 ghost use Rattle.mls_wire.specs.Devices.{AppendsPrefix};
 ghost use Rattle.mls_follow.specs.FollowerModel.{state_of};
-ghost use Rattle.mls_report.specs.SignaturesReport as specs;
-ghost use Rattle.mls_report.specs.SignaturesReport.{log_verdict, ReportsSignatureLog, SignatureLogPart};
-ghost use Rattle.mls_report.specs.SignaturesSteps.{ReportsMessageSignatures, WritesSignatures, StopsInMessage};
+ghost use Rattle.mls_report.specs.SignaturesReport.{log_verdict, signature_lines, HasSignatures, ReportsSignatureLog, SignatureLogPart};
+ghost use Rattle.mls_report.specs.SignaturesSteps.{WritesSignatures, StopsInMessage, StopsInMessageLines};
 
+use crate::list_lines::write_each_line;
 use crate::replay::{MESSAGE_LIMIT, next_record};
 use crate::replay_text::{broken_line, processed_line};
-use crate::signature_text::needed_text;
 use crate::verdict::{RunFault, Verdict};
 use crate::write::write_text;
 use mls_check::{SignatureCheck, Trusting};
 use mls_follow::{Follower, Refusal, SignatureListFault};
-use mls_signatures::SignatureToVerify;
+use mls_signatures::SignatureList;
 use mls_wire::{LogStep, Records, Sink, Source};
 use std::alloc::Global;
 
-/// The lines of a message, and whether it is decodable.
-#[derive(Drop)]
-struct MessageLines {
-    text: String,
-    is_read: bool,
-}
-
-/// Returns the lines of a message that needs these signatures.
-fn needed_lines<R: SignatureCheck>(
-    alloc: Global,
-    needed: Vec<SignatureToVerify>,
-    receipts: &R,
-) -> Result<MessageLines, RunFault>
-    ensures lines { IfOk result (λ printed.
-        string_bytes printed.text ≡ specs.needed_lines (R.meaning receipts.now) needed.items) }
-    ensures read { IfOk result (λ printed. printed.is_read ≡ true) }
-    ensures memory { IfErr result (λ e. e ≡ RunFault.Memory) }
-{
-    let text = needed_text(alloc, needed.as_slice(), receipts);
-    drop(needed);
-    Ok(MessageLines {
-        text: text?,
-        is_read: true,
-    })
-}
-
-/// Returns the lines of message n, before it is processed.
-fn message_lines<R: SignatureCheck>(
-    alloc: Global,
-    n: u32,
-    body: &[u8],
+/// Returns the signatures of a message, before it is processed. `None` if the bytes are no message.
+fn message_signatures(
     follower: &mut Follower<Trusting>,
-    receipts: &R,
-) -> Result<MessageLines, RunFault>
-    ensures printed { IfOk result (λ printed. ReportsMessageSignatures (R.meaning receipts.now)
-        (state_of follower.old) n body.now (string_bytes printed.text) printed.is_read) }
+    body: &[u8],
+) -> Result<Option<SignatureList>, RunFault>
+    ensures needed { IfOk result (HasSignatures (state_of follower.old) body.now) }
     ensures memory { IfErr result (λ e. e ≡ RunFault.Memory) }
     ensures state { state_of follower.new ≡ state_of follower.old }
 {
     match follower.signatures_to_verify(body) {
-        Ok(needed) => needed_lines(alloc, needed, receipts),
-        Err(SignatureListFault::Malformed) => Ok(MessageLines {
-            text: processed_line(alloc, n, &Err(Refusal::Malformed), follower)?,
-            is_read: false,
-        }),
+        Ok(needed) => Ok(Some(needed)),
+        Err(SignatureListFault::Malformed) => Ok(None),
         Err(SignatureListFault::OutOfMemory) => Err(RunFault::Memory),
     }
 }
 
-/// Processes message n, accepting every signature, and writes the lines of the signatures it needs. Returns whether it
-/// is decodable.
-#[tactic(auto, using(crate::proofs::Answered::answered))]
+/// Writes the line of message n, which is not decodable.
+fn write_malformed_line<K: Sink>(
+    alloc: Global,
+    n: u32,
+    follower: &Follower<Trusting>,
+    out: &mut K,
+) -> Result<(), RunFault>
+    requires { K.is_failed out.old ≡ false }
+    ensures all { OnOk result
+        (Appends (K.written out.old) (K.written out.new) (decimal n ++ codes " refused 1\n")) }
+    ensures effect_on_error { OnErr result
+        (AppendsPrefix (K.written out.old) (K.written out.new) (decimal n ++ codes " refused 1\n")) }
+    ensures memory { result ≡ Err RunFault.Memory
+        → Appends (K.written out.old) (K.written out.new) [] }
+    ensures write { (result ≡ Err RunFault.Write) ↔ (K.is_failed out.new ≡ true) }
+    ensures fault { IfErr result (λ e. e ≢ RunFault.Read) }
+{
+    let line = processed_line(alloc, n, &Err(Refusal::Malformed), follower)?;
+    write_text(out, line.as_str())
+}
+
+/// Writes the lines of message n. `needed` are its signatures, `None` if it is not decodable.
+fn write_message_lines<R: SignatureCheck, K: Sink>(
+    alloc: Global,
+    n: u32,
+    needed: &Option<SignatureList>,
+    follower: &Follower<Trusting>,
+    receipts: &R,
+    out: &mut K,
+) -> Result<(), RunFault>
+    requires { K.is_failed out.old ≡ false }
+    ensures all { OnOk result (Appends (K.written out.old) (K.written out.new)
+        (signature_lines (R.meaning receipts.now) n needed.now)) }
+    ensures effect_on_error { IfErr result (StopsInMessageLines (R.meaning receipts.now) n needed.now
+        (K.written out.old) (K.written out.new)) }
+    ensures write { (result ≡ Err RunFault.Write) ↔ (K.is_failed out.new ≡ true) }
+{
+    match needed {
+        Some(needed) => write_each_line(alloc, needed, receipts, out),
+        None => write_malformed_line(alloc, n, follower, out),
+    }
+}
+
+/// Processes message n, accepting every signature, and writes the lines of the signatures it needs. Each line is written
+/// before the next signature is made. Returns whether the message is decodable.
 fn write_signatures<R: SignatureCheck, K: Sink>(
     alloc: Global,
     n: u32,
@@ -87,13 +95,17 @@ fn write_signatures<R: SignatureCheck, K: Sink>(
         body.now (K.written out.old) (K.written out.new)) }
     ensures write { (result ≡ Err RunFault.Write) ↔ (K.is_failed out.new ≡ true) }
 {
-    let printed = message_lines(alloc, n, body, follower, receipts)?;
+    let needed = message_signatures(follower, body)?;
     let answer = follower.take(body);
     if let Err(Refusal::OutOfMemory) = answer {
+        drop(needed);
         return Err(RunFault::Memory);
     }
-    write_text(out, printed.text.as_str())?;
-    Ok(printed.is_read)
+    let written = write_message_lines(alloc, n, &needed, follower, receipts, out);
+    let is_read = needed.is_some();
+    drop(needed);
+    written?;
+    Ok(is_read)
 }
 
 /// Writes the line of a broken log. The next message is n.

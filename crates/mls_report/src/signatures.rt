@@ -96,15 +96,16 @@ fn report_resumed<L: Source, R: SignatureCheck, K: Sink>(
 ///
 /// Then it reads the log, if there is one: at most 1,000,000 records, each a message as a variable-length vector
 /// (2.1.2). It reads a record, processes the message accepting every signature, writes the lines of the signatures that
-/// the message needed ([`Follower::signatures_to_verify`]) in one piece, and only then reads on. A message that is not
-/// decodable needs no signature; it has the line of [`run_replay`](crate::run_replay), and so has a broken log. The
-/// verdict is `Yes` if each message is decodable and the log is not broken.
+/// the message needed ([`Follower::signatures_to_verify`]), each before it makes the next signature, and only then reads
+/// on. A message that is not decodable needs no signature; it has the line of [`run_replay`](crate::run_replay), and so
+/// has a broken log. The verdict is `Yes` if each message is decodable and the log is not broken.
 ///
 /// # Errors
 ///
 /// - `Read` if an input fails: exactly the messages that were read whole have their lines.
 /// - `Write` if the output fails: nothing was read after the message in whose lines it failed.
-/// - `Memory`: the lines of the signatures of the start before, or of the messages before, are written whole.
+/// - `Memory`: the lines of the signatures before are written whole: those of the start, or of the messages and of the
+///   last message.
 pub fn run_signatures_in<I: Source, T: Source, L: Source, R: SignatureCheck, K: Sink>(
     alloc: Global,
     profile: Profile,

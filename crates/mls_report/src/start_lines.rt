@@ -1,13 +1,14 @@
 //! The lines of the signatures of a start and of a resumption, written one after the other.
 
-ghost use Rattle.std.specs.Prelude.{◌≡◌, ◌++◌, ◌↔◌, [], ◌∷◌, true, false, Err, IfErr, OnOk};
+ghost use Rattle.std.specs.Prelude.{◌≡◌, ◌++◌, ◌↔◌, true, false, Err, IfErr, OnOk};
 ghost use Rattle.std.specs.Io.KnownBytes.{Appends};
 ghost use Rattle.mls_follow.specs.FollowerModel.{state_of};
 ghost use Rattle.mls_follow.specs.MessageSignatures.{state_signatures};
 ghost use Rattle.mls_report.specs.SignaturesReport.{needed_lines};
 ghost use Rattle.mls_report.specs.SignaturesSteps.{signatures_of_leaf, signatures_of_state, StopsInLines};
 
-use crate::signature_text::{needed_text, put_line};
+use crate::list_lines::write_each_line;
+use crate::signature_text::needed_text;
 use crate::verdict::RunFault;
 use crate::write::write_text;
 use mls_check::{SignatureCheck, Trusting};
@@ -102,47 +103,8 @@ pub(crate) fn write_start_lines<R: SignatureCheck, K: Sink>(
     write_tree_lines(alloc, follower, receipts, out)
 }
 
-/// Writes the line of a signature, if `receipts` don't cover it.
-fn write_line<R: SignatureCheck, K: Sink>(
-    alloc: Global,
-    signature: &SignatureToVerify,
-    receipts: &R,
-    out: &mut K,
-) -> Result<(), RunFault>
-    requires { K.is_failed out.old ≡ false }
-    ensures all { OnOk result (Appends (K.written out.old) (K.written out.new)
-        (needed_lines (R.meaning receipts.now) (signature.now ∷ []))) }
-    ensures effect_on_error { IfErr result (StopsInLines (needed_lines (R.meaning receipts.now))
-        (signature.now ∷ []) (K.written out.old) (K.written out.new)) }
-    ensures write { (result ≡ Err RunFault.Write) ↔ (K.is_failed out.new ≡ true) }
-{
-    let mut text = String::new(alloc);
-    put_line(alloc, &mut text, signature, receipts)?;
-    write_text(out, text.as_str())
-}
-
-/// Writes the lines of signatures. Each line is written before the next one is made.
-fn write_each_line<R: SignatureCheck, K: Sink>(
-    alloc: Global,
-    signatures: &[SignatureToVerify],
-    receipts: &R,
-    out: &mut K,
-) -> Result<(), RunFault>
-    requires { K.is_failed out.old ≡ false }
-    ensures all { OnOk result (Appends (K.written out.old) (K.written out.new)
-        (needed_lines (R.meaning receipts.now) signatures.now)) }
-    ensures effect_on_error { IfErr result (StopsInLines (needed_lines (R.meaning receipts.now)) signatures.now
-        (K.written out.old) (K.written out.new)) }
-    ensures write { (result ≡ Err RunFault.Write) ↔ (K.is_failed out.new ≡ true) }
-{
-    for signature in signatures {
-        write_line(alloc, signature, receipts, out)?;
-    }
-    Ok(())
-}
-
 /// Writes the lines of the signatures of a resumption in the follower's state. The list of the signatures is held
-/// meanwhile.
+/// meanwhile, but each line is written before the next signature is made.
 pub(crate) fn write_resumption_lines<R: SignatureCheck, K: Sink>(
     alloc: Global,
     follower: &Follower<Trusting>,
@@ -160,7 +122,7 @@ pub(crate) fn write_resumption_lines<R: SignatureCheck, K: Sink>(
     let Ok(signatures) = resumption_signatures(alloc, context, tree, known) else {
         return Err(RunFault::Memory);
     };
-    let written = write_each_line(alloc, signatures.as_slice(), receipts, out);
+    let written = write_each_line(alloc, &signatures, receipts, out);
     drop(signatures);
     written
 }

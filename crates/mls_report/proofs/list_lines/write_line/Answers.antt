@@ -1,7 +1,7 @@
 use Rattle.std.proofs.Common.{List, ℕ, ◌++◌, ◌∷◌, [], ◌∙◌, sym, ap, append-nil}
 use Rattle.mls_report.specs.SignaturesReport.{line_unless, needed_lines}
 use Rattle.mls_report.proofs.StartLines.{stops-writing}
-use Rattle.mls_report.proofs.start_lines.write_line.Goals as goal
+use Rattle.mls_report.proofs.list_lines.write_line.Goals as goal
 
 pub returns-clause-effect_on_error : goal.returns-clause-effect_on_error
 returns-clause-effect_on_error g c =

@@ -1,10 +1,11 @@
 pub mod Learnt
 pub mod Starting
 pub mod OpeningLines
-pub mod StateLines
+pub mod QueryLines
 pub mod FirstStates
 pub mod Answering
 pub mod Replying
+pub mod Querying
 pub mod Serving
 pub mod Rising
 pub mod AnswersOnce

@@ -12,7 +12,9 @@ use Rattle.mls_report.specs.declared.verdict.Verdict.{Verdict}
 use Rattle.mls_report.specs.declared.verdict.Verdict.TheVariants.{No}
 use Rattle.mls_report.proofs.Replaying.{Consumes-nil, Appends-nil}
 use Rattle.mls_report.specs.ReplaySteps.{ReadsUndecided}
-use Rattle.mls_gate.specs.Answers.{Outcome, Goes, Ends, Answers, broken_line}
+use Rattle.mls_check.specs.Signatures.{VerifyFn}
+use Rattle.mls_signatures.specs.declared.signature_to_verify.SignatureToVerify.{SignatureToVerify}
+use Rattle.mls_gate.specs.Answers.{Outcome, Goes, Ends, Answers, verify_lines, query_text, broken_line}
 use Rattle.mls_gate.specs.GateReport.{Turn, AreAnswered, phase_after, answers, records_to_come, record_limit, Serves, IsEnding, ReportsRecords, RecordsPart}
 use Rattle.mls_gate.specs.GateSteps.{IsReady, verdict_at, IsOutcome, Replies, AnswersIn, AnswersRecord, StopsAtRecord}
 use Rattle.mls_gate.specs.Phases.{Phase}
@@ -147,18 +149,40 @@ module _ (p : Phase) (r0 r1 r2 w0 w1 : Option (List ℕ)) (now : Option Phase) (
     wrote = Appends-trans w0 w1 w2 _ _ f.wrote part.3;
   })
 
+  -- memory ran out in the lines of a query
+  in-query :
+      (known : VerifyFn) (front rest : List SignatureToVerify) → Replies (AnswersIn (Some here) body) (query_text known (front ++ rest)) false after
+      → Appends w1 w2 (verify_lines known front) → RecordsPart p r0 r2 w0 w2 Memory
+  in-query known front rest r wrote =
+      let text = query_text known (front ++ rest) in
+      let g = goes-on here body text false after refl r in
+      let t : Turn = record { body = body; text = text; phase = g.new } in
+      inr (record {
+        turns = f.turns;
+        last = t;
+        serves = serves-snoc p r0 r1 r2 f.turns t read f.serves fewer is_record taken g.answers;
+        known = known;
+        front = front;
+        rest = rest;
+        text_is = refl;
+        wrote = Appends-trans w0 w1 w2 _ _ f.wrote wrote;
+      })
+
   pub part-record : (e : RunFault) → StopsAtRecord now body after w1 w2 e → RecordsPart p r0 r2 w0 w2 e
   part-record Read stops = absurd stops
   part-record Write stops =
       let r = subst (λ (o : Option Phase). Replies (AnswersIn o body) stops.text stops.last after) f.is stops.replies in
       in-answer stops.text r.outcome stops.last r.meets r.is stops.wrote
-  part-record Memory stops = record {
+  part-record Memory (inl stops) = inl (record {
     turns = f.turns;
     rest = read;
     serves = serves-read p r0 r1 r2 f.turns read f.serves taken;
     left_over = inr (inl (body, is_record));
     wrote = subst (Appends w0 w2) (append-nil (answers f.turns)) (Appends-trans w0 w1 w2 _ _ f.wrote stops);
-  }
+  })
+  part-record Memory (inr stops) =
+      let r = subst (λ (o : Option Phase). Replies (AnswersIn o body) (query_text stops.known (stops.front ++ stops.rest)) false after) f.is stops.replies in
+      in-query stops.known stops.front stops.rest r stops.wrote
 
 -- ---- where it stops
 
@@ -176,13 +200,13 @@ module _ (p : Phase) (r0 r1 r2 w0 w1 : Option (List ℕ)) (now : Option Phase) (
     wrote = f.wrote;
   }
   part-read Write u other = absurd (other refl)
-  part-read Memory u other = record {
+  part-read Memory u other = inl (record {
     turns = f.turns;
     rest = u.rest;
     serves = serves-read p r0 r1 r2 f.turns u.rest f.serves u.read;
     left_over = inl (subst (λ k. IsIncomplete k u.rest) (still f.turns most n all f.count) u.undecided);
     wrote = f.wrote;
-  }
+  })
 
   pub printed-end : (verdict : Verdict) → verdict ≡ verdict_at now → Consumes r1 r2 [] → IsAtEnd r2 → ReportsRecords p r0 r2 w0 w1 verdict
   printed-end verdict v read end = record {

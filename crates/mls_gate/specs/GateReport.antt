@@ -148,6 +148,18 @@ pub record GateStopsWithoutMemory (phase : Phase) (records0 records1 written0 wr
   pub left_over : IsLeftOver (records_to_come turns) rest records1
   pub wrote : Appends written0 written1 (answers turns)
 
+-- `GateStopsInQuery phase records0 records1 written0 written1`: memory ran out in the answer to the last record that was
+-- read, a query. The lines of the signatures before were written whole. Nothing was read after that record.
+pub record GateStopsInQuery (phase : Phase) (records0 records1 written0 written1 : Option (List ℕ)) : Type 0 where
+  pub turns : List Turn
+  pub last : Turn
+  pub serves : Serves phase records0 records1 (turns ++ last ∷ []) []
+  pub known : VerifyFn
+  pub front : List SignatureToVerify
+  pub rest : List SignatureToVerify
+  pub text_is : last.text ≡ query_text known (front ++ rest)
+  pub wrote : Appends written0 written1 (answers turns ++ verify_lines known front)
+
 -- `RecordsPart phase records0 records1 written0 written1 fault`: what was written if not each record was answered, by
 -- the fault that is returned.
 abbrev pub RecordsPart : Phase → Option (List ℕ) → Option (List ℕ) → Option (List ℕ) → Option (List ℕ) → RunFault
@@ -157,6 +169,7 @@ RecordsPart phase records0 records1 written0 written1 Write =
     StopsInAnswer phase records0 records1 written0 written1 ⊎ GateStopsInEnding phase records0 records1 written0 written1
 RecordsPart phase records0 records1 written0 written1 Memory =
     GateStopsWithoutMemory phase records0 records1 written0 written1
+    ⊎ GateStopsInQuery phase records0 records1 written0 written1
 
 -- ---- the whole report. `Reads i`: the inputs were read to their ends, and `i` is their bytes
 

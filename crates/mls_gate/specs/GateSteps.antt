@@ -1,6 +1,6 @@
 -- The contracts of the steps of the gate. `meaning` is the verification function of a checker. Internal: no public
 -- contract uses this.
-use Rattle.std.specs.Prelude.{◌≡◌, ℕ, List, [], drop, Bool, true, false, Option, Some, None, option_map}
+use Rattle.std.specs.Prelude.{◌≡◌, ◌⊎◌, ℕ, List, [], ◌++◌, drop, Bool, true, false, Option, Some, None, option_map}
 use Rattle.std.specs.Io.KnownBytes.{Appends}
 use Rattle.mls_wire.specs.Devices.{AppendsPrefix}
 use Rattle.mls_tree.specs.RatchetTree.{RatchetTree}
@@ -12,13 +12,14 @@ use Rattle.mls_follow.specs.CoveredLogs.{all_good}
 use Rattle.mls_follow.specs.FollowerModel.{checker_of, state_of}
 use Rattle.mls_follow.specs.Resumption.{IsResumed}
 use Rattle.mls_follow.specs.State.{State}
+use Rattle.mls_report.specs.SignaturesReport.{HasSignatures}
 use Rattle.mls_report.specs.SignaturesSteps.{LinesWithoutMemory}
 use Rattle.mls_report.specs.StartInputs.{IsReadAs}
 use Rattle.mls_report.specs.declared.verdict.RunFault.{RunFault}
 use Rattle.mls_report.specs.declared.verdict.RunFault.TheVariants.{Read, Write, Memory}
 use Rattle.mls_report.specs.declared.verdict.Verdict.{Verdict}
 use Rattle.mls_report.specs.declared.verdict.Verdict.TheVariants.{No}
-use Rattle.mls_gate.specs.Answers.{Outcome, Goes, Ends, Responds, verify_lines, query_text, broken_line}
+use Rattle.mls_gate.specs.Answers.{Outcome, Goes, Ends, Responds, verify_lines, query_text, message_query, broken_line}
 use Rattle.mls_gate.specs.Phases.{GroupFiles, Inputs, OfGroup, OfState, Phase, Opening, Following, end_verdict}
 use Rattle.mls_gate.specs.Requests.{request_of}
 use Rattle.mls_gate.specs.declared.gate_inputs.GateInputs.{GateInputs}
@@ -93,26 +94,50 @@ pub record Replies (Meets : Outcome → Type 0) (text : List ℕ) (last : Bool) 
   pub meets : Meets outcome
   pub is : IsOutcome outcome text last after
 
--- A record was answered.
-pub record AnswersRecord (phase : Option Phase) (body : List ℕ) (after : Option Phase)
-    (written0 written1 : Option (List ℕ)) (last : Bool) : Type 0 where
+-- An answer that is such an outcome was written.
+pub record Answered (Meets : Outcome → Type 0) (after : Option Phase) (written0 written1 : Option (List ℕ)) (last : Bool)
+    : Type 0 where
   pub text : List ℕ
-  pub replies : Replies (AnswersIn phase body) text last after
+  pub replies : Replies Meets text last after
   pub wrote : Appends written0 written1 text
 
--- The output failed in the answer to a record.
-pub record StopsInText (phase : Option Phase) (body : List ℕ) (after : Option Phase)
-    (written0 written1 : Option (List ℕ)) : Type 0 where
+-- The output failed in such an answer.
+pub record StopsInText (Meets : Outcome → Type 0) (after : Option Phase) (written0 written1 : Option (List ℕ))
+    : Type 0 where
   pub text : List ℕ
   pub last : Bool
-  pub replies : Replies (AnswersIn phase body) text last after
+  pub replies : Replies Meets text last after
   pub wrote : AppendsPrefix written0 written1 text
+
+-- Memory ran out in the lines of such an answer, to a query. The lines of the signatures before were written whole.
+pub record StopsInQuery (Meets : Outcome → Type 0) (after : Option Phase) (written0 written1 : Option (List ℕ))
+    : Type 0 where
+  pub known : VerifyFn
+  pub front : List SignatureToVerify
+  pub rest : List SignatureToVerify
+  pub replies : Replies Meets (query_text known (front ++ rest)) false after
+  pub wrote : Appends written0 written1 (verify_lines known front)
+
+-- No such answer was written whole, with this fault.
+abbrev pub StopsAnswering : (Outcome → Type 0) → Option Phase → Option (List ℕ) → Option (List ℕ) → RunFault → Type 0
+StopsAnswering Meets after written0 written1 Read = ⊥
+StopsAnswering Meets after written0 written1 Write = StopsInText Meets after written0 written1
+StopsAnswering Meets after written0 written1 Memory =
+    Appends written0 written1 [] ⊎ StopsInQuery Meets after written0 written1
+
+-- A record was answered.
+abbrev pub AnswersRecord : Option Phase → List ℕ → Option Phase → Option (List ℕ) → Option (List ℕ) → Bool → Type 0
+AnswersRecord phase body after written0 written1 last = Answered (AnswersIn phase body) after written0 written1 last
 
 -- A record was not answered, with this fault.
 abbrev pub StopsAtRecord : Option Phase → List ℕ → Option Phase → Option (List ℕ) → Option (List ℕ) → RunFault → Type 0
-StopsAtRecord phase body after written0 written1 Read = ⊥
-StopsAtRecord phase body after written0 written1 Write = StopsInText phase body after written0 written1
-StopsAtRecord phase body after written0 written1 Memory = Appends written0 written1 []
+StopsAtRecord phase body after written0 written1 fault = StopsAnswering (AnswersIn phase body) after written0 written1 fault
+
+-- The list is that of a query of a message in a state.
+pub record IsQueried (s : State) (message : List ℕ) (needed : List SignatureToVerify) : Type 0 where
+  pub signatures : Option (List SignatureToVerify)
+  pub has_signatures : HasSignatures s message signatures
+  pub same : (G : VerifyFn) → query_text G needed ≡ message_query G signatures
 
 -- ---- the start
 

@@ -19,6 +19,7 @@ use crate::gate_inputs::{GateInputs, GroupBytes};
 use crate::opening::opening_start;
 use crate::opening_lines::write_start_query;
 use crate::phase::GatePhase;
+use crate::request::is_query;
 use mls_check::LearningCheck;
 use mls_msgs::Profile;
 use mls_report::finding::report_finding;
@@ -63,6 +64,9 @@ fn answer_record<C: LearningCheck, K: Sink>(
     ensures write { (result ≡ Err RunFault.Write) ↔ (K.is_failed out.new ≡ true) }
     ensures fault { IfErr result (λ e. e ≢ RunFault.Read) }
 {
+    if is_query(body) {
+        return phase.query(alloc, &body[1..], out);
+    }
     let answer = phase.answer(alloc, body)?;
     write_text(out, answer.text.as_str())?;
     Ok(answer.is_last)
@@ -203,7 +207,8 @@ fn gate_from<R: Source, C: LearningCheck, K: Sink>(
 /// - `b`: the follower starts by the signatures that it has learnt to be good by then. The line has the epoch, the number of members and the
 ///   tree hash; or it is that of `run_validate_in`, and the gate ends with `No`.
 /// - `q` and a message: a line for each signature of the message that is not known to be good
-///   ([`mls_follow::Follower::signatures_to_verify`]), and one with their number.
+///   ([`mls_follow::Follower::signatures_to_verify`]), and one with their number. Each line is written before the next
+///   signature is made.
 /// - `m` and a message: the message is processed ([`mls_follow::Follower::take`]). The line says that it was accepted
 ///   and what it led to, with `ended` if the group is over (11.2); or the number and the name of the refusal.
 /// - `s`: the line has the file of the follower's state ([`mls_follow::Follower::encode_state`]), or says that it has
@@ -218,7 +223,8 @@ fn gate_from<R: Source, C: LearningCheck, K: Sink>(
 /// - `Read` if an input fails: exactly the records that were read whole are answered.
 /// - `Write` if the output fails: nothing was read after the record in whose answer it failed.
 /// - `Memory`: the lines of the signatures of the start before are written whole; or each record that was read is
-///   answered, except the one at which memory ran out.
+///   answered, except the one at which memory ran out. If that is a query, the lines of the signatures before are written
+///   whole.
 pub fn run_gate_in<I: Source, T: Source, R: Source, C: LearningCheck, K: Sink>(
     alloc: Global,
     profile: Profile,

@@ -13,6 +13,7 @@ mod lines;
 mod opening;
 mod opening_lines;
 mod phase;
+mod query_lines;
 mod request;
 mod state_gate;
 mod state_lines;

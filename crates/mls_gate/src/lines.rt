@@ -84,22 +84,6 @@ pub(crate) fn query_count_line(alloc: Global, count: usize) -> Result<String, Al
     format!(in alloc; "queried {count}\n")
 }
 
-/// Returns the lines of the signatures that the checker does not accept, and a last one with their number.
-pub(crate) fn query_text<C: SignatureCheck>(
-    alloc: Global,
-    signatures: &[SignatureToVerify],
-    checker: &C,
-) -> Result<String, AllocError>
-    ensures { IfOk result
-        (λ text. string_bytes text ≡ answers.query_text (C.meaning checker.now) signatures.now) }
-{
-    let lines = verify_lines(alloc, signatures, checker)?;
-    let last = query_count_line(alloc, lines.count)?;
-    let mut text = lines.text;
-    text.push_str(last.as_str())?;
-    Ok(text)
-}
-
 /// Returns the line of a follower that has started.
 pub(crate) fn ready_line<C: SignatureCheck>(
     alloc: Global,

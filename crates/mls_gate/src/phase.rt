@@ -1,24 +1,28 @@
 //! What the gate is at between two records, and how it answers one.
 
-ghost use Rattle.std.specs.Prelude.{◌≡◌, ℕ, List, Some, [], false, true, IfOk, IfErr, string_bytes};
+ghost use Rattle.std.specs.Prelude.{◌≡◌, ◌≢◌, ◌↔◌, ℕ, List, Some, [], false, true, Err, IfOk, IfErr, OnErr, OnOk, string_bytes};
 ghost use Rattle.mls_follow.specs.FollowerModel.{checker_of, state_of};
 ghost use Rattle.mls_report.specs.Finding.{finding_line};
 ghost use Rattle.mls_gate.specs.Answers as answers;
 ghost use Rattle.mls_gate.specs.Answers.{broken_line, Begins, Processes, Queries, StoresState};
-ghost use Rattle.mls_gate.specs.GateSteps.{inputs_of, phase_of, AreReadableInputs, verdict_at, IsReady, RespondsIn, AnswersIn, Replies};
+ghost use Rattle.mls_gate.specs.GateSteps.{inputs_of, phase_of, AreReadableInputs, verdict_at, Answered, IsQueried, IsReady, RespondsIn, AnswersIn, Replies, StopsAnswering};
 ghost use Rattle.mls_gate.specs.Phases.{Following};
+ghost use Rattle.mls_gate.specs.Requests.{request_of};
+ghost use Rattle.std.specs.Io.KnownBytes.{Appends};
+ghost use Rattle.mls_wire.specs.Devices.{AppendsPrefix};
 
 use crate::gate_inputs::{GateInputs, first_follower};
 use crate::learning::{learn_in_follower, learn_receipts};
-use crate::lines::{message_answer_line, query_text, ready_line, stored_line};
+use crate::lines::{message_answer_line, ready_line, stored_line};
+use crate::query_lines::write_query;
 use crate::request::{Request, request_of};
 use mls_check::{LearningCheck, OutOfMemory, SignatureCheck};
 use mls_follow::{Follower, Refusal, SignatureListFault};
 use mls_report::finding::Finding;
 use mls_report::read_inputs::StartFailure;
-use mls_report::{RunFault, Verdict};
-use mls_signatures::SignatureToVerify;
-use mls_wire::CodecFault;
+use mls_report::{RunFault, Verdict, write_text};
+use mls_signatures::SignatureList;
+use mls_wire::{CodecFault, Sink};
 use std::alloc::Global;
 use std::mem;
 
@@ -52,6 +56,20 @@ fn broken(alloc: Global) -> Result<Answer, RunFault>
     })
 }
 
+/// Writes the answer to a record that has none in the phase. It ends the gate.
+fn write_broken<K: Sink>(out: &mut K) -> Result<bool, RunFault>
+    requires { K.is_failed out.old ≡ false }
+    ensures all { OnOk result (Appends (K.written out.old) (K.written out.new) broken_line) }
+    ensures last { IfOk result (λ is_last. is_last ≡ true) }
+    ensures effect_on_error { OnErr result
+        (AppendsPrefix (K.written out.old) (K.written out.new) broken_line) }
+    ensures write { (result ≡ Err RunFault.Write) ↔ (K.is_failed out.new ≡ true) }
+    ensures fault { IfErr result (λ e. e ≡ RunFault.Write) }
+{
+    write_text(out, "broken\n")?;
+    Ok(true)
+}
+
 /// Returns the answer that has no lines.
 fn silence(alloc: Global) -> Answer
     ensures text { string_bytes result.text ≡ [] }
@@ -75,44 +93,51 @@ fn declined(alloc: Global, finding: &Finding) -> Result<Answer, RunFault>
     })
 }
 
-/// Returns the answer to a query of a message with these signatures.
-fn queried<C: SignatureCheck>(
-    alloc: Global,
-    needed: &[SignatureToVerify],
-    checker: &C,
-) -> Result<Answer, RunFault>
-    ensures text { IfOk result
-        (λ a. string_bytes a.text ≡ answers.query_text (C.meaning checker.now) needed.now) }
-    ensures last { IfOk result (λ a. a.is_last ≡ false) }
-    ensures memory { IfErr result (λ e. e ≡ RunFault.Memory) }
-{
-    Ok(Answer {
-        text: query_text(alloc, needed, checker)?,
-        is_last: false,
-    })
-}
-
-/// Returns the answer to a query: the signatures of the message that the checker does not accept.
-fn query_message<C: SignatureCheck>(
+/// Returns the signatures that a query lists, apart from those that the checker accepts: those of the message. Bytes that are
+/// no message have none.
+fn queried_signatures<C: SignatureCheck>(
     alloc: Global,
     follower: &mut Follower<C>,
     message: &[u8],
-) -> Result<Answer, RunFault>
-    ensures replied { IfOk result (λ a. Replies
-        (Queries (C.meaning (checker_of follower.old)) (state_of follower.old) message.now)
-        (string_bytes a.text) a.is_last
-        (Some (Following (C.meaning (checker_of follower.new)) (state_of follower.new)))) }
+) -> Result<SignatureList, RunFault>
+    ensures signatures { IfOk result (IsQueried (state_of follower.old) message.now) }
     ensures memory { IfErr result (λ e. e ≡ RunFault.Memory) }
+    ensures state { state_of follower.new ≡ state_of follower.old }
+    ensures checker { checker_of follower.new ≡ checker_of follower.old }
 {
     match follower.signatures_to_verify(message) {
-        Ok(needed) => {
-            let answer = queried(alloc, needed.as_slice(), follower.checker());
-            drop(needed);
-            answer
-        }
-        Err(SignatureListFault::Malformed) => queried(alloc, &[], follower.checker()),
+        Ok(signatures) => Ok(signatures),
+        Err(SignatureListFault::Malformed) => Ok(SignatureList::new(alloc)),
         Err(SignatureListFault::OutOfMemory) => Err(RunFault::Memory),
     }
+}
+
+/// Writes the answer to a query: a line for each signature of the message that the checker does not accept, and one with
+/// their number.
+fn query_message<C: SignatureCheck, K: Sink>(
+    alloc: Global,
+    follower: &mut Follower<C>,
+    message: &[u8],
+    out: &mut K,
+) -> Result<(), RunFault>
+    requires { K.is_failed out.old ≡ false }
+    ensures answered { let phase =
+        Some (Following (C.meaning (checker_of follower.new)) (state_of follower.new)) in
+        OnOk result (Answered
+        (Queries (C.meaning (checker_of follower.old)) (state_of follower.old) message.now)
+        phase (K.written out.old) (K.written out.new) false) }
+    ensures effect_on_error { let phase =
+        Some (Following (C.meaning (checker_of follower.new)) (state_of follower.new)) in
+        IfErr result (StopsAnswering
+        (Queries (C.meaning (checker_of follower.old)) (state_of follower.old) message.now)
+        phase (K.written out.old) (K.written out.new)) }
+    ensures write { (result ≡ Err RunFault.Write) ↔ (K.is_failed out.new ≡ true) }
+    ensures fault { IfErr result (λ e. e ≢ RunFault.Read) }
+{
+    let signatures = queried_signatures(alloc, follower, message)?;
+    let written = write_query(alloc, &signatures, follower.checker(), out);
+    drop(signatures);
+    written
 }
 
 /// Processes a message, and returns the answer to it.
@@ -245,20 +270,6 @@ impl<C: LearningCheck> GatePhase<C> {
         }
     }
 
-    /// Answers which signatures of a message are not known to be good.
-    fn query(&mut self, alloc: Global, message: &[u8]) -> Result<Answer, RunFault>
-        ensures answered { IfOk result (λ a. Replies
-            (RespondsIn (phase_of C.meaning self.old) (Some Request.Query) message.now)
-            (string_bytes a.text) a.is_last (phase_of C.meaning self.new)) }
-        ensures memory { IfErr result (λ e. e ≡ RunFault.Memory) }
-    {
-        match self {
-            GatePhase::Following(follower) => query_message(alloc, follower, message),
-            GatePhase::Opening { .. } => broken(alloc),
-            GatePhase::Over => broken(alloc),
-        }
-    }
-
     /// Answers what came of a message.
     fn process(&mut self, alloc: Global, message: &[u8]) -> Result<Answer, RunFault>
         ensures answered { IfOk result (λ a. Replies
@@ -287,9 +298,10 @@ impl<C: LearningCheck> GatePhase<C> {
         }
     }
 
-    /// Answers a request. `rest` is the record's body after its letter.
+    /// Answers a request that is no query. `rest` is the record's body after its letter.
     fn respond(&mut self, alloc: Global, request: Request, rest: &[u8]) -> Result<Answer, RunFault>
-        requires { IsReady (phase_of C.meaning self.old) }
+        requires ready { IsReady (phase_of C.meaning self.old) }
+        requires other { request ≢ Request.Query }
         ensures answered { IfOk result (λ a. Replies
             (RespondsIn (phase_of C.meaning self.old) (Some request) rest.now)
             (string_bytes a.text) a.is_last (phase_of C.meaning self.new)) }
@@ -298,15 +310,16 @@ impl<C: LearningCheck> GatePhase<C> {
         match request {
             Request::Learn => self.learn(alloc, rest),
             Request::Begin => self.begin(alloc),
-            Request::Query => self.query(alloc, rest),
+            Request::Query => unreachable!(),
             Request::Process => self.process(alloc, rest),
             Request::Store => self.store(alloc),
         }
     }
 
-    /// Answers a record with this body.
+    /// Answers a record with this body, which is no query.
     pub(crate) fn answer(&mut self, alloc: Global, body: &[u8]) -> Result<Answer, RunFault>
-        requires { IsReady (phase_of C.meaning self.old) }
+        requires ready { IsReady (phase_of C.meaning self.old) }
+        requires other { request_of body.now ≢ Some Request.Query }
         ensures answered { IfOk result (λ a. Replies
             (AnswersIn (phase_of C.meaning self.old) body.now)
             (string_bytes a.text) a.is_last (phase_of C.meaning self.new)) }
@@ -315,6 +328,33 @@ impl<C: LearningCheck> GatePhase<C> {
         match request_of(body) {
             Some(request) => self.respond(alloc, request, &body[1..]),
             None => broken(alloc),
+        }
+    }
+
+    /// Writes the answer to a query of a message. Returns whether it ends the gate.
+    pub(crate) fn query<K: Sink>(
+        &mut self,
+        alloc: Global,
+        message: &[u8],
+        out: &mut K,
+    ) -> Result<bool, RunFault>
+        requires { K.is_failed out.old ≡ false }
+        ensures answered { IfOk result (Answered
+            (RespondsIn (phase_of C.meaning self.old) (Some Request.Query) message.now)
+            (phase_of C.meaning self.new) (K.written out.old) (K.written out.new)) }
+        ensures effect_on_error { IfErr result (StopsAnswering
+            (RespondsIn (phase_of C.meaning self.old) (Some Request.Query) message.now)
+            (phase_of C.meaning self.new) (K.written out.old) (K.written out.new)) }
+        ensures write { (result ≡ Err RunFault.Write) ↔ (K.is_failed out.new ≡ true) }
+        ensures fault { IfErr result (λ e. e ≢ RunFault.Read) }
+    {
+        match self {
+            GatePhase::Following(follower) => {
+                query_message(alloc, follower, message, out)?;
+                Ok(false)
+            }
+            GatePhase::Opening { .. } => write_broken(out),
+            GatePhase::Over => write_broken(out),
         }
     }
 

@@ -1,30 +1,28 @@
-use Rattle.std.proofs.Common.{◌∙◌, [], Some, None, false, ap, refl}
-use Rattle.std.specs.Prelude.{string_bytes}
-use Rattle.std.proofs.lemmas.Result.{IfOk-weaker}
-use Rattle.mls_follow.specs.FollowerModel.{checker_of}
-use Rattle.mls_gate.specs.Answers.{message_query, query_text}
-use Rattle.mls_gate.proofs.Answering.{queried}
-use Rattle.mls_gate.proofs.Replying.{replies-of}
+use Rattle.std.proofs.Common.{rules, ap}
+use Rattle.mls_report.specs.declared.verdict.RunFault.TheVariants.{Memory}
+use Rattle.mls_report.proofs.Outcomes.{IfErr-is}
+use Rattle.mls_gate.proofs.Querying.{listed, unlisted, before-listing, not-read}
 use Rattle.mls_gate.proofs.phase.query_message.Goals as goal
 
-pub returns-in-Ok-clause-replied : goal.returns-in-Ok-clause-replied
-returns-in-Ok-clause-replied g c =
-    let m = g.C.SignatureCheck.meaning in
-    let needed = c.in-Ok.needed.items in
-    let same = ap m c.signatures_to_verify.ensures.checker in
-    let checked = ap m c.checker.ensures ∙ same in
-    replies-of (λ a. string_bytes a.text) (λ a. a.is_last) c.queried-answer.result _ (message_query (m (checker_of c.args.follower.now)) (Some needed)) false _
-    (queried _ _ _ _ _ (Some needed) _ c.in-Ok.ensures.needed refl same c.signatures_to_verify.ensures.state)
-    (IfOk-weaker c.queried-answer.result _ _ (λ a printed. printed ∙ (λ i. query_text (checked i) (c.as_slice.ensures.value i))) c.queried-answer.ensures.text)
-    c.queried-answer.ensures.last
+pub returns-in_err-signatures-clause-effect_on_error : goal.returns-in_err-signatures-clause-effect_on_error
+returns-in_err-signatures-clause-effect_on_error g c =
+    IfErr-is c.from_residual.result _ Memory (search rules) (before-listing _ _ _)
 
-pub returns-in-Err-Malformed-clause-replied : goal.returns-in-Err-Malformed-clause-replied
-returns-in-Err-Malformed-clause-replied g c =
+pub returns-clause-answered : goal.returns-clause-answered
+returns-clause-answered g c =
     let m = g.C.SignatureCheck.meaning in
-    let same = ap m c.signatures_to_verify.ensures.checker in
-    let checked = ap m c.checker-in-Err-Malformed.ensures ∙ same in
-    let refused = rw c.in-Err-Malformed.field-0-is at c.in-Err-Malformed.ensures.malformed in
-    replies-of (λ a. string_bytes a.text) (λ a. a.is_last) c.queried.result _ (message_query (m (checker_of c.args.follower.now)) None) false _
-    (queried _ _ _ _ _ None _ (refused (λ e. cc)).1 refl same c.signatures_to_verify.ensures.state)
-    (IfOk-weaker c.queried.result _ _ (λ a printed. printed ∙ (λ i. query_text (checked i) [])) c.queried.ensures.text)
-    c.queried.ensures.last
+    listed _ _ _ _ _ _ _ _ _ c.in_ok-signatures.ensures.signatures (ap m c.checker.ensures) (ap m c.in_ok-signatures.ensures.checker) c.in_ok-signatures.ensures.state
+    c.write_query-written.result c.write_query-written.ensures.all
+
+pub returns-clause-effect_on_error : goal.returns-clause-effect_on_error
+returns-clause-effect_on_error g c =
+    let m = g.C.SignatureCheck.meaning in
+    unlisted _ _ _ _ _ _ _ _ _ c.in_ok-signatures.ensures.signatures (ap m c.checker.ensures) (ap m c.in_ok-signatures.ensures.checker) c.in_ok-signatures.ensures.state
+    c.write_query-written.result c.write_query-written.ensures.effect_on_error
+
+pub returns-clause-fault : goal.returns-clause-fault
+returns-clause-fault g c =
+    let m = g.C.SignatureCheck.meaning in
+    not-read c.write_query-written.result _ _ _ _
+    (unlisted _ _ _ _ _ _ _ _ _ c.in_ok-signatures.ensures.signatures (ap m c.checker.ensures) (ap m c.in_ok-signatures.ensures.checker) c.in_ok-signatures.ensures.state
+    c.write_query-written.result c.write_query-written.ensures.effect_on_error)

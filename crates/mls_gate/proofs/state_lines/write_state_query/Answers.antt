@@ -1,48 +1,17 @@
-use Rattle.std.proofs.Common.{rules, ◌∙◌, ap, subst}
-use Rattle.std.specs.Io.KnownBytes.{Appends}
-use Rattle.std.proofs.lemmas.Result.{on_ok_weaker}
-use Rattle.mls_wire.proofs.KnownBytes.{Appends-trans}
-use Rattle.mls_wire.specs.Devices.{AppendsPrefix}
+use Rattle.std.proofs.Common.{rules}
 use Rattle.mls_report.specs.declared.verdict.RunFault.TheVariants.{Memory}
 use Rattle.mls_report.proofs.Outcomes.{IfErr-is}
 use Rattle.mls_follow.specs.FollowerModel.{state_of}
-use Rattle.mls_gate.specs.Answers.{query_count_line}
 use Rattle.mls_gate.specs.GateSteps.{signatures_of}
-use Rattle.mls_gate.proofs.OpeningLines.{in-lines, before-count, in-count}
-use Rattle.mls_gate.proofs.Serving.{write-part}
-use Rattle.mls_gate.proofs.StateLines.{before-lines, moved, moved-count, moved-stops}
+use Rattle.mls_gate.proofs.QueryLines.{before-lines}
 use Rattle.mls_gate.proofs.state_lines.write_state_query.Goals as goal
 
 pub returns-in_err-signatures-clause-effect_on_error : goal.returns-in_err-signatures-clause-effect_on_error
 returns-in_err-signatures-clause-effect_on_error g c =
     IfErr-is c.from_residual.result _ Memory (search rules) (before-lines (g.C.SignatureCheck.meaning c.args.checker.now) (signatures_of (state_of c.args.follower)) _)
 
-pub returns-in_err-count-clause-effect_on_error : goal.returns-in_err-count-clause-effect_on_error
-returns-in_err-count-clause-effect_on_error g c =
-    let G = g.C.SignatureCheck.meaning c.args.checker.now in
-    let same = c.as_slice.ensures.value ∙ c.in_ok-signatures.ensures.signatures in
-    IfErr-is c.from_residual-in_err-count.result _ c.in_err-count.field-0.0 (search rules)
-    (in-lines G (signatures_of (state_of c.args.follower)) _ _ c.in_err-count.field-0.0 (moved-stops G _ _ same _ _ c.in_err-count.field-0.0 c.in_err-count.ensures.effect_on_error))
-
-pub returns-in_err-line-clause-effect_on_error : goal.returns-in_err-line-clause-effect_on_error
-returns-in_err-line-clause-effect_on_error g c =
-    let G = g.C.SignatureCheck.meaning c.args.checker.now in
-    let same = c.as_slice.ensures.value ∙ c.in_ok-signatures.ensures.signatures in
-    IfErr-is c.from_residual-in_err-line.result _ Memory (search rules)
-    (before-count G (signatures_of (state_of c.args.follower)) _ _ (moved G _ _ same _ _ c.in_ok-count.ensures.all))
-
 pub returns-clause-all : goal.returns-clause-all
-returns-clause-all g c =
-    let G = g.C.SignatureCheck.meaning c.args.checker.now in
-    let same = c.as_slice.ensures.value ∙ c.in_ok-signatures.ensures.signatures in
-    let line = c.as_str.ensures.value ∙ c.in_ok-line.ensures ∙ ap query_count_line (moved-count G _ _ same _ c.in_ok-count.ensures.count) in
-    on_ok_weaker c.write_text.result (λ more. Appends-trans _ _ _ _ _ (moved G _ _ same _ _ c.in_ok-count.ensures.all) (subst (Appends _ _) line more)) c.write_text.ensures.all
+returns-clause-all g c = rw c.in_ok-signatures.ensures.signatures at c.write_query-written.ensures.all
 
 pub returns-clause-effect_on_error : goal.returns-clause-effect_on_error
-returns-clause-effect_on_error g c =
-    let G = g.C.SignatureCheck.meaning c.args.checker.now in
-    let same = c.as_slice.ensures.value ∙ c.in_ok-signatures.ensures.signatures in
-    let line = c.as_str.ensures.value ∙ c.in_ok-line.ensures ∙ ap query_count_line (moved-count G _ _ same _ c.in_ok-count.ensures.count) in
-    write-part c.write_text.result _ c.write_text.ensures.effect_on_error
-    (λ more. in-count G (signatures_of (state_of c.args.follower)) _ _ _ (moved G _ _ same _ _ c.in_ok-count.ensures.all) (subst (AppendsPrefix _ _) line more))
-    c.write_text.ensures.fault
+returns-clause-effect_on_error g c = rw c.in_ok-signatures.ensures.signatures at c.write_query-written.ensures.effect_on_error

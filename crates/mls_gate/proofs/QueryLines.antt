@@ -1,37 +1,33 @@
 -- The lines of the signatures of a list, written one signature after the other.
-use Rattle.std.proofs.Common.{◌≡◌, ◌∙◌, ℕ, ◌+◌, ◌<◌, ◌≤◌, List, [], ◌∷◌, ◌++◌, length, take, drop, get_or, Option, refl, sym, ap, subst}
-use Rattle.std.proofs.lemmas.List.{take_more, take-append-drop, take_all}
+use Rattle.std.proofs.Common.{◌≡◌, ◌∙◌, ℕ, ◌+◌, ◌≤◌, List, [], length, take, Option, refl, sym, ap, subst}
+use Rattle.std.specs.Prelude.{slice_get}
+use Rattle.std.specs.Option.{option_to_list}
+use Rattle.std.proofs.lemmas.List.{take_all}
 use Rattle.std.specs.Io.KnownBytes.{Appends}
 use Rattle.mls_check.specs.Signatures.{VerifyFn}
+use Rattle.mls_signatures.proofs.Fronts.{front-more}
 use Rattle.mls_signatures.specs.declared.signature_to_verify.SignatureToVerify.{SignatureToVerify}
 use Rattle.mls_report.specs.SignaturesSteps.{LinesWithoutMemory, StopsInLines}
 use Rattle.mls_report.specs.declared.verdict.RunFault.{RunFault}
 use Rattle.mls_report.proofs.Replaying.{Appends-nil}
-use Rattle.mls_report.proofs.StartLines.{wrote-both, stops-before, stops-behind}
+use Rattle.mls_report.proofs.StartLines.{wrote-at, stops-at}
 use Rattle.mls_gate.specs.Answers.{verify_lines, unknown_count}
 use Rattle.mls_gate.proofs.OpeningLines.{verify_lines-both, unknown_count-both}
 
-module _ (G : VerifyFn) (ws : List SignatureToVerify) (n : ℕ) (x : SignatureToVerify) (low : n < length ws) (is : x ≡ get_or ws n x) where
-  front-more : take (n + 1) ws ≡ take n ws ++ x ∷ []
-  front-more = take_more ws n x low ∙ ap (λ (y : SignatureToVerify). take n ws ++ y ∷ []) (sym is)
+module _ (G : VerifyFn) (ws : List SignatureToVerify) (n : ℕ) where
+  abbrev one_at : List SignatureToVerify
+  one_at = option_to_list (slice_get ws n)
 
-  pub wrote-next : (a b c : Option (List ℕ)) → Appends a b (verify_lines G (take n ws)) → Appends b c (verify_lines G (x ∷ [])) → Appends a c (verify_lines G (take (n + 1) ws))
-  wrote-next a b c p q =
-      subst (λ (vs : List SignatureToVerify). Appends a c (verify_lines G vs)) (sym front-more)
-      (wrote-both (verify_lines G) (verify_lines-both G) a b c (take n ws) (x ∷ []) p q)
+  pub wrote-next : (a b c : Option (List ℕ)) → Appends a b (verify_lines G (take n ws)) → Appends b c (verify_lines G one_at) → Appends a c (verify_lines G (take (n + 1) ws))
+  wrote-next = wrote-at (verify_lines G) (verify_lines-both G) ws n
 
-  pub count-next : (count one : ℕ) → count ≡ unknown_count G (take n ws) → one ≡ unknown_count G (x ∷ []) → count + one ≡ unknown_count G (take (n + 1) ws)
+  pub count-next : (count one : ℕ) → count ≡ unknown_count G (take n ws) → one ≡ unknown_count G one_at → count + one ≡ unknown_count G (take (n + 1) ws)
   count-next count one p q =
-      (λ i. p i + q i) ∙ sym (unknown_count-both G (take n ws) (x ∷ [])) ∙ ap (unknown_count G) (sym front-more)
+      (λ i. p i + q i) ∙ sym (unknown_count-both G (take n ws) one_at) ∙ ap (unknown_count G) (sym (front-more ws n))
 
-  pub stops-next : (a b c : Option (List ℕ)) (fault : RunFault) → Appends a b (verify_lines G (take n ws)) → StopsInLines (verify_lines G) (x ∷ []) b c fault
+  pub stops-next : (a b c : Option (List ℕ)) (fault : RunFault) → Appends a b (verify_lines G (take n ws)) → StopsInLines (verify_lines G) one_at b c fault
       → StopsInLines (verify_lines G) ws a c fault
-  stops-next a b c fault w p =
-      let split : ws ≡ (take n ws ++ x ∷ []) ++ drop (n + 1) ws =
-      sym (take-append-drop (n + 1) ws) ∙ ap (λ (vs : List SignatureToVerify). vs ++ drop (n + 1) ws) front-more in
-      subst (λ (vs : List SignatureToVerify). StopsInLines (verify_lines G) vs a c fault) (sym split)
-      (stops-before (verify_lines G) (verify_lines-both G) a c (take n ws ++ x ∷ []) (drop (n + 1) ws) fault
-      (stops-behind (verify_lines G) (verify_lines-both G) a b c (take n ws) (x ∷ []) fault w p))
+  stops-next = stops-at (verify_lines G) (verify_lines-both G) ws n
 
 -- the lines of all
 pub wrote-all : (G : VerifyFn) (ws : List SignatureToVerify) (n : ℕ) (a b : Option (List ℕ)) → length ws ≤ n → Appends a b (verify_lines G (take n ws)) → Appends a b (verify_lines G ws)

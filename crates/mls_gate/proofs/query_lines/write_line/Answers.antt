@@ -3,7 +3,7 @@ use Rattle.mls_wire.specs.Devices.{AppendsPrefix}
 use Rattle.mls_report.specs.declared.verdict.RunFault.TheVariants.{Write}
 use Rattle.mls_report.proofs.Outcomes.{IfErr-is}
 use Rattle.mls_gate.specs.Answers.{verify_line}
-use Rattle.mls_gate.proofs.state_lines.write_line.Goals as goal
+use Rattle.mls_gate.proofs.query_lines.write_line.Goals as goal
 
 pub returns-in_err-write_text-clause-effect_on_error : goal.returns-in_err-write_text-clause-effect_on_error
 returns-in_err-write_text-clause-effect_on_error g c =

@@ -1,26 +1,23 @@
 -- The machine values of a handle and of its loose box.
 use Rattle.std.proofs.Common.{◌≡◌, ℕ, List, [], ◌∷◌, ◌++◌, refl, subst}
-use mathlib.Core.Bool.{Bool, true, false, ◌&&◌}
-use lib.Dec.{T, lit<}
+use lib.Dec.{lit<}
 use seplogic.Ra.Ura.{Ura}
 use mir.Syntax.{impl, tnil, dnil}
 use mir.Raw.{raw as bare}
-use mir.Val.{Val, vptr, vnull, vstruct, vcons, vnil, of_list, has_ty, WT}
+use mir.Val.{Val, vptr, vnull, vstruct, vcons, vnil, of_list, has_ty}
 use base.Logic.{never, never_e, via, fst∗, snd∗, guard_i}
 use contract.Monad.{fact_use}
 use base.Fml.{ftrue}
 use types.Logic.{Logic, sem}
-use types.Kit.{Item, Goal, Seq, Step, step, ‵, given, learn, use1, ◌$◌, move, drop, fsplit, fsplit3, fjoin, fjoin3, fpick, fpack, rewrite, feq_i, feq_l}
+use types.Kit.{Item, Goal, Seq, Step, step, ‵, given, learn, use1, ◌$◌, move, drop, fsplit, fjoin, fpick, fpack, feq_i, feq_l}
 use denote.RattleType.{RattleType, Valss}
 use denote.Builtin.{RawPtr}
-use denote.Laws.{Is, Lawful, Typed, shows}
 use denote.Memory.{lone}
 use base.Fraction.{full_share}
 use denote.RawPtr.{Ptr, Testable, lies_at, block_ptr, null_ptr, ptr_val, in_a_block}
-use denote.Steps.{nothing, peeks}
+use denote.Steps.{nothing}
 use denote.Param.{layout}
-use denote.Param.Laws.{Laws}
-use denote.Struct.Struct.{Struct, within}
+use denote.Struct.Struct.{within}
 use denote.Struct.Owning.{shape, to, fields}
 use Rattle.std.specs.Prelude.{Option, Some, None}
 use Rattle.std.specs.Global.{Global}
@@ -30,7 +27,7 @@ use Rattle.std.proofs.alloc.Global.TheLaws as heap_laws
 use Rattle.std.specs.contracts.impls.GlobalAllocator.TheImpl.{ghosts}
 use Rattle.std.proofs.GlobalToken.{dealloc_token-Testable}
 use Rattle.std.proofs.alloc.Calls.{Al, handle_tells}
-use Rattle.std.proofs.cell.Inside.{Good, one}
+use Rattle.std.proofs.cell.Inside.{Good}
 use Rattle.std_alloc.proofs.ResultValues.{and_tt}
 use Rattle.mls_c.specs.contracts.group_follower.GroupFollower.{the_row}
 use Rattle.mls_c.specs.declared.group_follower.GroupFollower.{GroupFollower}

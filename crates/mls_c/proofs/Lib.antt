@@ -3,4 +3,5 @@ mod Moving
 mod Learning
 mod Starting
 mod Judging
+mod Records
 mod Verdicts

@@ -50,7 +50,7 @@ impl GroupFollower {
             Err(SignatureListFault::Malformed) => return MALFORMED,
             Err(SignatureListFault::OutOfMemory) => return OUT_OF_MEMORY,
         };
-        let records = query_records(alloc, signatures.as_slice(), self.follower.checker());
+        let records = query_records(alloc, &signatures, self.follower.checker());
         drop(signatures);
         match records {
             Ok(records) => put_sized(records.as_slice(), buffer, needed),

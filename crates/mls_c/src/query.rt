@@ -1,6 +1,7 @@
 //! The records of the signatures that have to be verified.
 
-ghost use Rattle.std.specs.Prelude.{◌≡◌, ◌++◌, IfOk, OnOk};
+ghost use Rattle.std.specs.Prelude.{◌≡◌, ◌<◌, ◌++◌, IfOk, OnOk, length, slice_get};
+ghost use Rattle.std.specs.Option.{option_to_list};
 ghost use Rattle.mls_wire.specs.Encoding.{vector};
 ghost use Rattle.mls_wire.specs.ReadContracts.{seen};
 ghost use Rattle.mls_wire.specs.WriteContracts.{Makes};
@@ -8,7 +9,7 @@ ghost use Rattle.mls_check.specs.Receipts.{receipt_input};
 ghost use Rattle.mls_c.specs.Queries.{bytes_or_none, signature_record, record_unless, query_records};
 
 use mls_check::{SignatureCheck, receipt};
-use mls_signatures::SignatureToVerify;
+use mls_signatures::{SignatureList, SignatureToVerify};
 use mls_wire::{CodecFault, Draft, Writer};
 use std::alloc::{AllocError, Global};
 
@@ -96,18 +97,38 @@ fn push_record_unless<C: SignatureCheck>(
     push_record(alloc, needed, records)
 }
 
+/// Appends the record of the signature at an index of a list, unless the checker accepts it.
+fn push_record_at<C: SignatureCheck>(
+    alloc: Global,
+    needed: &SignatureList,
+    index: usize,
+    checker: &C,
+    records: &mut Vec<u8>,
+) -> Result<(), AllocError>
+    requires { index < length needed.now }
+    ensures { OnOk result (records.new.items ≡ records.old.items
+        ++ query_records (C.meaning checker.now) (option_to_list (slice_get needed.now index))) }
+{
+    let Ok(signature) = needed.get(alloc, index) else {
+        return Err(AllocError);
+    };
+    let pushed = push_record_unless(alloc, &signature, checker, records);
+    drop(signature);
+    pushed
+}
+
 /// Returns the records of the signatures that the checker does not accept.
 pub(crate) fn query_records<C: SignatureCheck>(
     alloc: Global,
-    needed: &[SignatureToVerify],
+    needed: &SignatureList,
     checker: &C,
 ) -> Result<Vec<u8>, AllocError>
     ensures { IfOk result
         (λ records. records.items ≡ query_records (C.meaning checker.now) needed.now) }
 {
     let mut records = Vec::new(alloc);
-    for signature in needed {
-        push_record_unless(alloc, signature, checker, &mut records)?;
+    for index in 0..needed.len() {
+        push_record_at(alloc, needed, index, checker, &mut records)?;
     }
     Ok(records)
 }

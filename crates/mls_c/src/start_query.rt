@@ -37,7 +37,7 @@ fn records_by<C: SignatureCheck>(
     let Ok(signatures) = start_signatures(alloc, info, tree) else {
         return Err(RunFault::Memory);
     };
-    let records = query_records(alloc, signatures.as_slice(), checker);
+    let records = query_records(alloc, &signatures, checker);
     drop(signatures);
     Ok(records?)
 }

@@ -93,8 +93,7 @@ fn declined(alloc: Global, finding: &Finding) -> Result<Answer, RunFault>
     })
 }
 
-/// Returns the signatures that a query lists, apart from those that the checker accepts: those of the message. Bytes that are
-/// no message have none.
+/// Returns the signatures of a message that is queried. Bytes that are no message have none.
 fn queried_signatures<C: SignatureCheck>(
     alloc: Global,
     follower: &mut Follower<C>,

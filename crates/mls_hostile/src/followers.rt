@@ -187,7 +187,7 @@ fn push_wanted(
         }
     }
     match answer {
-        Ok(signatures) => add_receipts(alloc, signatures.as_slice(), receipts)?,
+        Ok(signatures) => add_receipts(alloc, &signatures, receipts)?,
         Err(SignatureListFault::Malformed) => {}
         Err(SignatureListFault::OutOfMemory) => return Err(Stop::OtherSignatures),
     }

@@ -5,7 +5,7 @@ use crate::output::{Output, Stop, have};
 use mls_check::receipt;
 use mls_msgs::{GroupInfo, Message, decode_message};
 use mls_nodes::encode_ratchet_tree;
-use mls_signatures::{SignatureToVerify, start_signatures};
+use mls_signatures::{SignatureList, SignatureToVerify, start_signatures};
 use mls_tree::PublicTree;
 use mls_wire::bytes_of;
 use std::alloc::Global;
@@ -35,11 +35,12 @@ fn receipt_text(alloc: Global, signature: &SignatureToVerify) -> Result<String, 
 /// Appends the receipts of signatures to those before.
 pub(crate) fn add_receipts(
     alloc: Global,
-    signatures: &[SignatureToVerify],
+    signatures: &SignatureList,
     receipts: &mut String,
 ) -> Result<(), Stop> {
-    for signature in signatures {
-        let text = receipt_text(alloc, signature)?;
+    for index in 0..signatures.len() {
+        let signature = have(signatures.get(alloc, index))?;
+        let text = receipt_text(alloc, &signature)?;
         if !receipts.is_empty() {
             have(receipts.push_str(" "))?;
         }
@@ -62,7 +63,7 @@ fn signatures_again(
     alloc: Global,
     info: &GroupInfo,
     tree: &PublicTree,
-) -> Result<(bool, Vec<SignatureToVerify>), Stop> {
+) -> Result<(bool, SignatureList), Stop> {
     let before = bytes_of_both(alloc, info, tree)?;
     if let Ok(signatures) = start_signatures(alloc, info, tree) {
         return Ok((false, signatures));
@@ -87,6 +88,6 @@ pub(crate) fn write_start_signatures(alloc: Global) -> Result<Output, Stop> {
     };
     let (was_refused, signatures) = signatures_again(alloc, &info, &tree)?;
     let mut text = String::new(alloc);
-    add_receipts(alloc, signatures.as_slice(), &mut text)?;
+    add_receipts(alloc, &signatures, &mut text)?;
     Ok(Output { was_refused, text })
 }

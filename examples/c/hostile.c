@@ -8,6 +8,7 @@
 #define _DEFAULT_SOURCE
 #include "../../include/mls_check.h"
 #include "support.h"
+#include <malloc.h>
 #include <sys/mman.h>
 
 /* ---- the allocator */
@@ -22,6 +23,8 @@ void __wrap_free(void *at);
 static long blocks;       /* that are allocated now */
 static long until_refused; /* the allocation with this number from now on fails; 0: none */
 static int refused;
+static int keeps_blocks; /* whether no block can be made smaller */
+static long kept_blocks; /* that could not be made smaller */
 
 static int refuses(void) {
     if (until_refused > 0 && --until_refused == 0)
@@ -35,8 +38,15 @@ void *__wrap_malloc(size_t len) {
     return at;
 }
 
+/* A block is made smaller to save memory. If that can't be had, the library goes on with the block that it has. */
+static int is_kept(void) {
+    kept_blocks += keeps_blocks;
+    return keeps_blocks;
+}
+
 void *__wrap_realloc(void *old, size_t len) {
-    void *at = refuses() ? NULL : __real_realloc(old, len);
+    int is_smaller = old != NULL && len <= malloc_usable_size(old);
+    void *at = (is_smaller ? is_kept() : refuses()) ? NULL : __real_realloc(old, len);
     blocks += old == NULL && at != NULL;
     return at;
 }
@@ -413,6 +423,36 @@ static void refused_memory(void) {
     printf("memory was refused %ld times\n", total);
 }
 
+/* ---- blocks that can't be made smaller: each answer is the same */
+
+static void kept_as_they_are(void) {
+    mls_follower group = MLS_NO_FOLLOWER_YET, other = MLS_NO_FOLLOWER_YET;
+    uint8_t reference[MLS_REFERENCE_SIZE], other_reference[MLS_REFERENCE_SIZE];
+    struct bytes rest = log_bytes, state, other_state;
+    EXPECT(is(start(&other, receipts), MLS_OK, 0, 0));
+    keeps_blocks = 1;
+    EXPECT(is(start(&group, receipts), MLS_OK, 0, 0));
+    keeps_blocks = 0;
+    while (rest.len > 0) {
+        struct bytes message = take_vector(&rest);
+        mls_judgement judgement, expected;
+        keeps_blocks = 1;
+        judgement = mls_follower_judge(&group, message.at, message.len, reference, sizeof reference);
+        keeps_blocks = 0;
+        expected = mls_follower_judge(&other, message.at, message.len, other_reference, sizeof other_reference);
+        EXPECT(judgement.number == expected.number && judgement.kind == expected.kind && judgement.epoch == expected.epoch);
+    }
+    EXPECT(kept_blocks > 0);
+    state = state_of(&group);
+    other_state = state_of(&other);
+    EXPECT(state.len == other_state.len && memcmp(state.at, other_state.at, state.len) == 0);
+    free(state.at);
+    free(other_state.at);
+    mls_follower_free(&group);
+    mls_follower_free(&other);
+    printf("%ld blocks could not be made smaller\n", kept_blocks);
+}
+
 /* ---- many handles */
 
 static void many_handles(void) {
@@ -443,6 +483,7 @@ int main(int count, char **words) {
     stored_states();
     trees();
     refused_memory();
+    kept_as_they_are();
     many_handles();
     EXPECT(blocks == before);
     printf("%ld checks hold, no block is left\n", checks);

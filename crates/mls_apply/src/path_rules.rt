@@ -122,7 +122,7 @@ pub(crate) fn have_counts(
 {
     let added = node_indices_of(alloc, added)?;
     for (index, node) in nodes.iter().enumerate() {
-        let count = node.ciphertexts.as_slice().len();
+        let count = node.ciphertexts.len();
         if !has_recipients(tree, above.leaf, above.node_indices[index], &added, count) {
             return Ok(false);
         }

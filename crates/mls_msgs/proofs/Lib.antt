@@ -1,3 +1,4 @@
+pub mod StoredCiphertexts
 pub mod PartLemmas
 pub mod Rooms
 pub mod Unsigned

@@ -16,7 +16,7 @@ use Rattle.mls_msgs.specs.declared.pre_shared_key.PreSharedKeyId.{PreSharedKeyId
 use Rattle.mls_msgs.specs.declared.reinit.ReInit.{ReInit}
 use Rattle.mls_msgs.specs.declared.proposal.ProposalOrRef.{ProposalOrRef}
 use Rattle.mls_msgs.specs.declared.proposal.ProposalOrRef.TheVariants as entries
-use Rattle.mls_msgs.specs.declared.commit.Ciphertext.{Ciphertext}
+use Rattle.mls_msgs.specs.declared.ciphertexts.Ciphertext.{Ciphertext}
 use Rattle.mls_msgs.specs.declared.commit.PathNode.{PathNode}
 use Rattle.mls_msgs.specs.declared.commit.UpdatePath.{UpdatePath}
 use Rattle.mls_msgs.specs.declared.commit.Commit.{Commit}

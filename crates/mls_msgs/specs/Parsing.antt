@@ -6,6 +6,7 @@ use Rattle.mls_wire.specs.Input.{Input}
 use Rattle.mls_wire.specs.Parsing.{◌>>=◌, number_at, vector_at, list_at}
 use Rattle.mls_wire.specs.ParsingInternal.{optional_at}
 use Rattle.mls_nodes.specs.ParsingInternal.{extension_at, leaf_node_at, group_context_at}
+use Rattle.mls_msgs.specs.Ciphertexts.{ciphertext_at}
 use Rattle.mls_msgs.specs.declared.key_package.KeyPackage.{KeyPackage}
 use Rattle.mls_msgs.specs.declared.proposal.Proposal.{Proposal}
 use Rattle.mls_msgs.specs.declared.proposal.Proposal.TheVariants as proposals
@@ -17,7 +18,6 @@ use Rattle.mls_msgs.specs.declared.pre_shared_key.PreSharedKeyId.{PreSharedKeyId
 use Rattle.mls_msgs.specs.declared.reinit.ReInit.{ReInit}
 use Rattle.mls_msgs.specs.declared.proposal.ProposalOrRef.{ProposalOrRef}
 use Rattle.mls_msgs.specs.declared.proposal.ProposalOrRef.TheVariants as entries
-use Rattle.mls_msgs.specs.declared.commit.Ciphertext.{Ciphertext}
 use Rattle.mls_msgs.specs.declared.commit.PathNode.{PathNode}
 use Rattle.mls_msgs.specs.declared.commit.UpdatePath.{UpdatePath}
 use Rattle.mls_msgs.specs.declared.commit.Commit.{Commit}
@@ -118,13 +118,6 @@ proposal_or_ref_at i = do
   if nat_eq kind.0 1 then (proposal_at kind.1 >>= λ x. Some (entries.Proposal x.0, x.1))
       else if nat_eq kind.0 2 then (vector_at kind.1 >>= λ x. Some (entries.Reference x.0, x.1))
       else None
-
--- An HPKECiphertext.
-unfoldable pub ciphertext_at : Input → Option (Ciphertext × Input)
-ciphertext_at i = do
-  kem_output ← vector_at i
-  ciphertext ← vector_at kem_output.1
-  Some (record { kem_output = kem_output.0; ciphertext = ciphertext.0 }, ciphertext.1)
 
 -- An UpdatePathNode.
 unfoldable pub path_node_at : Input → Option (PathNode × Input)

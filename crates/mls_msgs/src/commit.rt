@@ -1,23 +1,12 @@
 //! Commit and UpdatePath.
 
+use crate::ciphertexts::Ciphertexts;
 use crate::proposal::ProposalOrRef;
 use mls_nodes::LeafNode;
 use mls_wire::{
     BoxedOpaque, CodecFault, Decode, Draft, Encode, Reader, Sequence, Shared, add_sizes,
 };
 use std::alloc::Global;
-
-/// An HPKECiphertext: a path secret encrypted to one node of a resolution (RFC 9420, 7.6).
-#[derive(Debug, Drop)]
-pub struct Ciphertext {
-    /// The KEM output.
-    pub kem_output: BoxedOpaque,
-    /// The encrypted path secret.
-    pub ciphertext: BoxedOpaque,
-}
-
-/// One ciphertext per node of a resolution.
-pub type Ciphertexts = Sequence<Ciphertext>;
 
 /// An UpdatePathNode (RFC 9420, 7.6).
 #[derive(Debug, Drop)]
@@ -50,45 +39,6 @@ pub struct Commit {
     pub proposals: Proposals,
     /// The UpdatePath, if there is one.
     pub path: Option<UpdatePath>,
-}
-
-impl Decode for Ciphertext {
-    ghost use Rattle.mls_msgs.specs.Layout.{ciphertext};
-    ghost use Rattle.mls_msgs.specs.Parsing.{ciphertext_at};
-    ghost use Rattle.mls_msgs.specs.CommitExact.{ciphertext_exact, ciphertext_long};
-
-    ghost encoding = { ciphertext };
-
-    ghost reading = { ciphertext_at };
-
-    #[tactic(auto, unfolding(crate::specs::Parsing::ciphertext_at))]
-    fn read(alloc: Global, reader: &mut Reader<'_>) -> Result<Ciphertext, CodecFault> {
-        let mut ahead = reader.fork();
-        let kem_output = BoxedOpaque::read(alloc, &mut ahead)?;
-        let ciphertext = BoxedOpaque::read(alloc, &mut ahead)?;
-        *reader = ahead;
-        Ok(Ciphertext {
-            kem_output,
-            ciphertext,
-        })
-    }
-
-    ghost exact = { ciphertext_exact };
-
-    ghost long = { ciphertext_long };
-}
-
-impl Encode for Ciphertext {
-    #[tactic(auto, using(mls_nodes::specs::TagSizes::tag_sizes), unfolding(crate::specs::Layout::ciphertext))]
-    fn size(&self) -> Option<usize> {
-        add_sizes(self.kem_output.size(), self.ciphertext.size())
-    }
-
-    #[tactic(auto, using(mls_wire::specs::WriteSequences::written), unfolding(crate::specs::Layout::ciphertext))]
-    fn put(&self, alloc: Global, draft: &mut Draft) -> Result<(), CodecFault> {
-        self.kem_output.put(alloc, draft)?;
-        self.ciphertext.put(alloc, draft)
-    }
 }
 
 impl Decode for PathNode {

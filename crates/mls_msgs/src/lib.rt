@@ -5,6 +5,7 @@
 mod authenticated;
 mod bad_tag;
 mod boxed;
+mod ciphertexts;
 mod commit;
 mod framed_content;
 mod group_info;
@@ -24,7 +25,8 @@ pub use authenticated::{
     encode_authenticated,
 };
 pub use boxed::Boxed;
-pub use commit::{Ciphertext, Ciphertexts, Commit, PathNode, PathNodes, Proposals, UpdatePath};
+pub use ciphertexts::{Ciphertext, Ciphertexts};
+pub use commit::{Commit, PathNode, PathNodes, Proposals, UpdatePath};
 pub use framed_content::{Content, FramedContent, Sender};
 pub use group_info::GroupInfo;
 pub use key_package::KeyPackage;

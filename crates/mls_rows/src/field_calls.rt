@@ -162,7 +162,7 @@ fn put_entry(alloc: Global, out: &mut String, entry: &ProposalOrRef) -> Result<(
 /// Adds the fields of a node of an UpdatePath.
 fn put_node(alloc: Global, out: &mut String, node: &PathNode) -> Result<(), RowFault> {
     put_bytes(alloc, out, "node", node.encryption_key.as_slice())?;
-    for sealed in node.ciphertexts.as_slice() {
+    for sealed in node.ciphertexts.to_vec(alloc)?.as_slice() {
         put_bytes(alloc, out, "kem", sealed.kem_output.as_slice())?;
         put_bytes(alloc, out, "ciphertext", sealed.ciphertext.as_slice())?;
     }

@@ -34,10 +34,11 @@ runs() {
     grep -c "^case=[0-9]* run=ended status=$1 " "$made/notes" || true
 }
 
-if [ "$(runs 0)" -ne 1 ] || [ "$((1 + $(runs 2) + $(runs 3)))" -ne "$((count + 1))" ]; then
-    grep -v ' status=[23] ' "$made/notes" >&2
+# A run in which no call fails ends with 0: the first one, and those in which a list that was read can't be made smaller.
+if [ "$(runs 0)" -lt 1 ] || [ "$(($(runs 0) + $(runs 2) + $(runs 3)))" -ne "$((count + 1))" ]; then
+    grep -v ' status=[023] ' "$made/notes" >&2
     grep wrong "$made/out" >&2 || true
     echo "of $((count + 1)) runs not all are as they have to be" >&2
     exit 1
 fi
-echo "$count allocations refused: $(runs 3) in the calls, and $(runs 2) around them"
+echo "$count allocations refused: $(runs 3) in the calls, $(runs 2) around them, and $(($(runs 0) - 1)) without effect"

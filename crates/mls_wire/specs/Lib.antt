@@ -20,6 +20,8 @@ pub mod VectorsExact
 pub mod OptionalsExact
 pub mod ListsExact
 pub mod ListLoops
+pub mod EncodedItems
+pub mod StoredItems
 pub mod ExactReads
 pub mod ExactTheorems
 pub mod WriteSequences

@@ -1,6 +1,6 @@
 //! The body of a vector, as a value of 16 bytes.
 
-ghost use Rattle.std.specs.Prelude.{◌≡◌, ◌<◌, ◌≤◌, Err, IfOk, MatchResult, length};
+ghost use Rattle.std.specs.Prelude.{◌≡◌, ◌<◌, ◌≤◌, [], Err, IfOk, MatchResult, length};
 ghost use Rattle.mls_wire.specs.Encoding.{vector};
 ghost use Rattle.mls_wire.specs.Faults.{too_long_at};
 ghost use Rattle.mls_wire.specs.Limits.{vector_limit};
@@ -67,6 +67,15 @@ impl Model for BoxedOpaque {
 }
 
 impl BoxedOpaque {
+    /// Returns the empty body. Does not allocate.
+    pub fn empty() -> BoxedOpaque
+        ensures { result ≡ [] }
+    {
+        BoxedOpaque {
+            body: Body::InPlace(ShortBytes::of(&[])),
+        }
+    }
+
     /// Returns this body. Allocates only if it has more than 14 bytes.
     pub fn new(alloc: Global, body: Opaque) -> Result<BoxedOpaque, AllocError>
         ensures { IfOk result (λ made. made ≡ body) }

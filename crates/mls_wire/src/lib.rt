@@ -5,14 +5,15 @@
 //! - A type that implements [`Decode`] and [`Encode`] states its encoding. It is then decoded by [`read_value`],
 //!   [`read_all_of`] and [`read_input`], and encoded by [`bytes_of`] and [`Writer::write`].
 //! - [`Opaque`] is the body of a vector, [`BoxedOpaque`] a smaller form for long lists, [`Items`] a list that fits into
-//!   one, [`Codes`] such a list of `uint16`, [`Sequence`] a list of any length.
+//!   one, [`EncodedItems`] such a list stored as its encoding, [`Codes`] such a list of `uint16`, [`Sequence`] a list of
+//!   any length.
 //! - [`Shared`] holds a value with several owners, so that a copy of it allocates nothing.
 //! - A [`Source`] gives bytes and a [`Sink`] takes them, in pieces of any size; each over std or over memory.
 //! - A [`RecordReader`] reads the records of a log from its source. [`Records`] takes the source in each call.
 //!
 //! Contracts name encodings (`specs/Encoding.antt`). A read returns the value that is encoded at the front, and fails
-//! if and only if there is none. A write appends exactly the encoding, or nothing. Only [`Decode::read`], for
-//! implementors, also names the reading function.
+//! if and only if there is none. A write appends exactly the encoding, or nothing. Only what implementors of [`Decode`]
+//! and [`Skip`] need also names the reading function.
 #![tactic(auto)]
 
 mod boxed_opaque;
@@ -20,6 +21,7 @@ mod codes;
 mod decode;
 mod draft;
 mod encode;
+mod encoded_items;
 mod fault;
 mod integers;
 mod items;
@@ -45,6 +47,7 @@ pub use codes::Codes;
 pub use decode::{Decode, MAX_INPUT, read_all_of, read_input, read_value};
 pub use draft::Draft;
 pub use encode::{Encode, bytes_of, put_list};
+pub use encoded_items::{EncodedItems, Skip};
 pub use fault::{CodecFault, DeviceFault, WireFault, WireFaultKind};
 pub use items::{Items, fits};
 pub use log::{LogStep, RecordFault, Records};

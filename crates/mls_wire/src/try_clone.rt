@@ -6,6 +6,7 @@ use crate::boxed_opaque::BoxedOpaque;
 use crate::codes::Codes;
 use crate::decode::Decode;
 use crate::encode::Encode;
+use crate::encoded_items::{EncodedItems, Skip};
 use crate::fault::CodecFault;
 use crate::items::Items;
 use crate::opaque::Opaque;
@@ -85,6 +86,12 @@ fn copies_of<T: TryClone>(alloc: Global, values: &[T]) -> Result<Vec<T>, CodecFa
 impl<T: Encode + TryClone> TryClone for Items<T> {
     fn try_clone(&self, alloc: Global) -> Result<Items<T>, CodecFault> {
         Ok(Items::of_fitting(copies_of(alloc, self.as_slice())?))
+    }
+}
+
+impl<T: Skip> TryClone for EncodedItems<T> {
+    fn try_clone(&self, alloc: Global) -> Result<EncodedItems<T>, CodecFault> {
+        self.copied(alloc)
     }
 }
 

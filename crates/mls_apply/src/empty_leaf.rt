@@ -12,14 +12,6 @@ fn no_bytes(alloc: Global) -> Opaque {
     }
 }
 
-/// Returns the empty list of extensions.
-fn no_extensions(alloc: Global) -> Extensions {
-    match Extensions::new(Vec::new(alloc)) {
-        Ok(extensions) => extensions,
-        Err(_) => unreachable!(),
-    }
-}
-
 /// Returns a leaf node whose fields are empty. Does not allocate.
 pub(crate) fn empty_leaf(alloc: Global) -> LeafNode {
     LeafNode {
@@ -34,7 +26,7 @@ pub(crate) fn empty_leaf(alloc: Global) -> LeafNode {
             credentials: Codes::empty(),
         },
         source: LeafSource::Update,
-        extensions: no_extensions(alloc),
+        extensions: Extensions::empty(),
         signature: no_bytes(alloc),
     }
 }

@@ -11,9 +11,8 @@ use crate::list_item::ListItem;
 use crate::proposal_rules::EpochState;
 use crate::psk_list::{have_distinct_psks, is_valid_psk};
 use mls_msgs::{Commit, Proposal, ProposalOrRef, Sender};
-use mls_nodes::{Credential, GroupContext, LeafNode};
+use mls_nodes::{CertChain, Credential, GroupContext, LeafNode};
 use mls_tree::PublicTree;
-use mls_wire::BoxedOpaque;
 use std::alloc::{AllocError, Global};
 
 /// Checks the rules for an external commit before its list is applied: there is a path, and the proposal list satisfies its
@@ -242,23 +241,10 @@ fn are_valid_psks(context: &GroupContext, items: &[ListItem<'_>]) -> bool
 }
 
 /// Returns whether two chains have equal certificates, in one order.
-#[tactic(auto, using(crate::proofs::Certificates::same_more, crate::proofs::Certificates::same_other, crate::proofs::Certificates::same_longer))]
-fn are_same_certificates(chain: &[BoxedOpaque], other: &[BoxedOpaque]) -> bool
+fn are_same_certificates(chain: &CertChain, other: &CertChain) -> bool
     ensures { result ≡ are_same_certificates chain.now other.now }
 {
-    let mut rest = chain;
-    let mut other_rest = other;
-    while let Some((one, tail)) = rest.split_first() {
-        let Some((other_one, other_tail)) = other_rest.split_first() else {
-            return false;
-        };
-        if one.as_slice() != other_one.as_slice() {
-            return false;
-        }
-        rest = tail;
-        other_rest = other_tail;
-    }
-    other_rest.is_empty()
+    chain.is_same(other)
 }
 
 /// Returns whether two credentials are equal.
@@ -270,7 +256,7 @@ fn is_same_credential(credential: &Credential, other: &Credential) -> bool
             identity.as_slice() == other.as_slice()
         }
         (Credential::X509(chain), Credential::X509(other)) => {
-            are_same_certificates(chain.as_slice(), other.as_slice())
+            are_same_certificates(chain, other)
         }
         _ => false,
     }

@@ -9,7 +9,7 @@ ghost use Rattle.mls_check.specs.SortedRequirements.{requirements_of};
 use crate::signatures::OutOfMemory;
 use crate::sorted_codes::{has_code, sorted_codes};
 use crate::sorted_requirements::SortedRequirements;
-use mls_nodes::LeafNode;
+use mls_nodes::{Extensions, ExtensionsLeft, LeafNode};
 use std::alloc::Global;
 
 /// Returns whether an extension type is supported if these are listed. The types 1 to 5 need not be listed.
@@ -37,6 +37,21 @@ pub(crate) fn supports_credential(leaf: &LeafNode, kind: u16) -> bool
     leaf.capabilities.credentials.as_slice().contains(&kind)
 }
 
+/// Returns whether the type of each of these extensions is supported if these types are listed.
+fn are_all_supported(listed: &[u16], extensions: &Extensions) -> bool
+    requires { IsStrictlyIncreasing listed.now }
+    ensures { result ≡ list_all
+        (λ e. is_default_extension e.kind || contains_code listed.now e.kind) extensions.now }
+{
+    let mut left = ExtensionsLeft::of(extensions);
+    while let Some(extension) = left.next() {
+        if !supports_extension(listed, extension.kind) {
+            return false;
+        }
+    }
+    true
+}
+
 /// Returns whether a leaf supports the types of its own extensions (RFC 9420, 7.2 and 7.3): its capabilities list each
 /// of them, or it is one of the types 1 to 5. Allocates only for a leaf with extensions.
 ///
@@ -47,13 +62,11 @@ pub(crate) fn supports_credential(leaf: &LeafNode, kind: u16) -> bool
 pub fn supports_own_extensions(alloc: Global, leaf: &LeafNode) -> Result<bool, OutOfMemory>
     ensures { IfOk result (λ all. all ≡ supports_own_extensions leaf.now) }
 {
-    if leaf.extensions.as_slice().is_empty() {
+    if leaf.extensions.is_empty() {
         return Ok(true);
     }
     let codes = sorted_codes(alloc, leaf.capabilities.extensions.as_slice())?;
-    let listed = codes.as_slice();
-    let mut extensions = leaf.extensions.as_slice().iter();
-    Ok(extensions.all(|extension| supports_extension(listed, extension.kind)))
+    Ok(are_all_supported(codes.as_slice(), &leaf.extensions))
 }
 
 /// Returns whether a leaf supports these extension types.

@@ -81,10 +81,10 @@ pub fn tree_in(alloc: Global, info: &GroupInfo) -> Result<PublicTree, StartFault
     ensures no_extension { extension_of 2 info.now.extensions ≡ None
         → result ≡ Err StartFault.NoTree }
 {
-    let Some(body) = find_extension(info.extensions.as_slice(), RATCHET_TREE) else {
+    let Some(body) = find_extension(&info.extensions, RATCHET_TREE) else {
         return Err(StartFault::NoTree);
     };
-    match PublicTree::decode(alloc, body.as_slice()) {
+    match PublicTree::decode(alloc, body) {
         Ok(tree) => Ok(tree),
         Err(NodeFault::OutOfMemory) => Err(StartFault::OutOfMemory),
         Err(_) => Err(StartFault::NoTree),

@@ -1,4 +1,4 @@
-pub mod StoredCiphertexts
+mod SkippedCiphertexts
 pub mod PartLemmas
 pub mod Rooms
 pub mod Unsigned

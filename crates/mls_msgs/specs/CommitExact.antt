@@ -13,7 +13,7 @@ use Rattle.mls_nodes.specs.Layout.{leaf}
 use Rattle.mls_nodes.specs.ParsingInternal.{leaf_node_at}
 use Rattle.mls_nodes.specs.NodesExact.{leaf_exact, leaf_long}
 use Rattle.mls_msgs.specs.Layout.{proposal_or_ref, ciphertext, path_node, update_path, commit}
-use Rattle.mls_msgs.specs.Ciphertexts.{ciphertext_at}
+use Rattle.mls_msgs.specs.Ciphertext.{ciphertext_at}
 use Rattle.mls_msgs.specs.Parsing.{proposal_or_ref_at, path_node_at, update_path_at, commit_at}
 use Rattle.mls_msgs.specs.ProposalExact.{proposal_or_ref_exact, proposal_or_ref_long}
 

@@ -5,7 +5,7 @@ pub mod Message
 pub mod Profile
 pub mod Tbs
 pub mod ReservedWrite
-pub mod Ciphertexts
+pub mod Ciphertext
 pub mod Parsing
 pub mod FrameParsing
 pub mod MessageParsing

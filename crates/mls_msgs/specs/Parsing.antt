@@ -6,7 +6,7 @@ use Rattle.mls_wire.specs.Input.{Input}
 use Rattle.mls_wire.specs.Parsing.{◌>>=◌, number_at, vector_at, list_at}
 use Rattle.mls_wire.specs.ParsingInternal.{optional_at}
 use Rattle.mls_nodes.specs.ParsingInternal.{extension_at, leaf_node_at, group_context_at}
-use Rattle.mls_msgs.specs.Ciphertexts.{ciphertext_at}
+use Rattle.mls_msgs.specs.Ciphertext.{ciphertext_at}
 use Rattle.mls_msgs.specs.declared.key_package.KeyPackage.{KeyPackage}
 use Rattle.mls_msgs.specs.declared.proposal.Proposal.{Proposal}
 use Rattle.mls_msgs.specs.declared.proposal.Proposal.TheVariants as proposals

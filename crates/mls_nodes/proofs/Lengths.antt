@@ -1,14 +1,13 @@
 -- How many bytes the parts of nodes take.
-use Rattle.std.proofs.Common.{◌≡◌, ℕ, suc, ◌+◌, ◌*◌, ◌^◌, ◌<◌, ◌≤◌, List, [], ◌∷◌, length, take, get_or, Option, Some, None, refl, sym, ap, subst, ◌∙◌, inl, inr, arith}
-use Rattle.std.proofs.lemmas.Bool.{cases_lt, le-leb}
+use Rattle.std.proofs.Common.{◌≡◌, ℕ, suc, ◌+◌, ◌*◌, ◌^◌, ◌<◌, ◌≤◌, List, [], ◌∷◌, length, take, get_or, Option, Some, refl, sym, ap, ◌∙◌, arith}
+use Rattle.std.proofs.lemmas.Bool.{le-leb}
 use Rattle.std.specs.Prelude.{option_map, IsSome}
 use Rattle.std.specs.Int.{w8, w16, w32, w64}
 use Rattle.mls_wire.specs.Encoding.{◌⊕◌, number, length_form, vector, sized, items, list}
 use Rattle.mls_wire.specs.OptionBind.{some_is}
 use Rattle.mls_wire.specs.IntegersExact.{wide8, wide16, wide32, wide64}
 use Rattle.mls_wire.specs.LengthsExact.{form_1, form_2, form_4}
-use Rattle.mls_wire.specs.SaturatingSizes.{size}
-use Rattle.mls_wire.specs.EncodedSizes.{list_some, some_size, number_size, size_push, fits_not, fits_none, sized_text, sized_none_text}
+use Rattle.mls_wire.specs.EncodedSizes.{list_some, some_size, number_size}
 use Rattle.mls_wire.specs.WriteSequences.{size_then, sized_makes}
 use Rattle.mls_nodes.specs.declared.credential.Credential.TheVariants.{Basic, X509}
 use Rattle.mls_nodes.specs.declared.leaf_source.LeafSource.TheVariants.{KeyPackage, Update, Commit}
@@ -173,23 +172,3 @@ prefix_2 n le lt = ap (option_map length) (form_2 n (n + 16384) le lt refl)
 
 pub prefix_4 : (n : ℕ) → 16384 ≤ n → n < 1073741824 → HasLength (length_form n) 4
 prefix_4 n le lt = ap (option_map length) (form_4 n (n + 2147483648) le lt refl)
-
--- the items of a list that has a spelling
-module _ {A : Type 0} (s : A → Option (List ℕ)) (xs : List A) (h : IsSome (list s xs)) where
-  pub item_there : (ys : List A) (i : ℕ) (x : A) (o : Option ℕ) → ys ≡ xs → i < length ys → x ≡ get_or ys i x → o ≡ size (s x) → IsSome o
-  item_there ys i x None same lt is e =
-      let none : None ≡ option_map length (s x) = ap (option_map length) (sym (sized_none_text (s x) e)) in
-      absurd (fits_none s ys i x lt is none (subst (λ (zs : List A). IsSome (list s zs)) (sym same) h))
-  item_there ys i x (Some n) same lt is e = refl
-
-  pub items_step : (ys : List A) (i : ℕ) (x : A) (m n : ℕ) → ys ≡ xs → i < length ys → x ≡ get_or ys i x → HasLength (items s (take i xs)) m → Some n ≡ size (s x)
-      → HasLength (items s (take (i + 1) xs)) (m + n) × (m + n ≤ 1073741823)
-  items_step ys i x m n same lt is e f =
-      let a : HasLength (items s (take i ys)) m = subst (λ (zs : List A). HasLength (items s (take i zs)) m) (sym same) e in
-      let t = sized_text (s x) n f in
-      let k = length t.0 in
-      let b = size_push s ys i x m k lt is a (sym (ap (option_map length) t.1)) in
-      let c : HasLength (items s (take (i + 1) xs)) (m + k) = subst (λ (zs : List A). HasLength (items s (take (i + 1) zs)) (m + k)) same b in
-      let within : m + k ≤ 1073741823 = elim (cases_lt 1073741823 (m + k)) [ inl more ↦ absurd (fits_not s xs (i + 1) (m + k) c more h) | inr le ↦ le ] in
-      let exact : m + k ≡ m + n = omega (arith, t.2) in
-      (c ∙ ap (λ (l : ℕ). Some l) exact, omega arith)

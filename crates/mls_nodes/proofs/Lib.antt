@@ -8,3 +8,4 @@ pub mod Lengths
 pub mod Drafted
 pub mod RequiredOnce
 pub mod SendersOnce
+mod ExtensionsInInput

@@ -1,6 +1,7 @@
 pub mod Limits
 pub mod TagSizes
 pub mod Extension
+pub mod ExtensionsLeft
 pub mod NodeModel
 pub mod Layout
 pub mod RatchetTreeEncoding

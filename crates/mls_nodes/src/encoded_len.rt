@@ -4,7 +4,7 @@
 ghost use Rattle.std.specs.Prelude.{◌≡◌, ◌≤◌, ◌+◌, ◌*◌, ◌^◌, IsSome, Some, length, option_map};
 ghost use Rattle.std.specs.Int.{w16};
 ghost use Rattle.mls_wire.specs.Limits.{vector_limit};
-ghost use Rattle.mls_wire.specs.Encoding.{length_form, items, list, number, vector};
+ghost use Rattle.mls_wire.specs.Encoding.{length_form, list, number, vector};
 ghost use Rattle.mls_nodes.specs.Limits.{leaf_limit};
 ghost use Rattle.mls_nodes.specs.Layout.{capabilities, credential, group_context, leaf, parent, source, unmerged};
 ghost use Rattle.mls_nodes.specs.LeafNodeTBS.{tbs_suffix, leaf_tbs};
@@ -16,7 +16,7 @@ use crate::leaf::LeafNode;
 use crate::leaf_source::LeafSource;
 use crate::lists::Codes;
 use crate::parent::ParentNode;
-use mls_wire::{BoxedOpaque, Encode, Items, Opaque};
+use mls_wire::{BoxedOpaque, EncodedItems, Opaque, Skip};
 
 /// Returns the number of bytes of the length of a vector.
 fn length_of_prefix(body: u64) -> u64
@@ -59,25 +59,12 @@ fn length_of_boxed(bytes: &BoxedOpaque) -> u64
     length_of_body(bytes.as_slice())
 }
 
-/// Returns the length of the items of a list.
-fn length_of_items<T: Encode>(values: &Items<T>) -> u64
-    ensures length { option_map length (items T.encoding values.now) ≡ Some result }
-    ensures small { result ≤ vector_limit }
-{
-    let mut total = 0;
-    for value in values.as_slice() {
-        total += value.size().unwrap() as u64;
-    }
-    total
-}
-
-/// Returns the length of the encoding of a list.
-fn length_of_list<T: Encode>(values: &Items<T>) -> u64
+/// Returns the length of the encoding of a list that is stored as its encoding.
+fn length_of_list<T: Skip>(values: &EncodedItems<T>) -> u64
     ensures length { option_map length (list T.encoding values.now) ≡ Some result }
     ensures small { result ≤ vector_limit + 4 }
 {
-    let body = length_of_items(values);
-    length_of_prefix(body) + body
+    length_of_body(values.encoded())
 }
 
 /// Returns the length of the encoding of a list of numbers of two bytes.

@@ -1,15 +1,15 @@
 //! Extensions of leaf nodes and groups (RFC 9420, 7.2 and 13).
 
+ghost use Rattle.std.specs.Prelude.{◌≡◌, ◌∷◌, [], MatchOption};
 ghost use Rattle.mls_wire.specs.Encoding.{list};
 ghost use Rattle.mls_wire.specs.ReadContracts.{Decodes};
 ghost use Rattle.mls_wire.specs.WriteContracts.{WritesPiece};
 ghost use Rattle.mls_nodes.specs.Extension.{extension};
 
 use crate::lists::Extensions;
-use mls_wire::{
-    CodecFault, Decode, Draft, Encode, Opaque, Reader, TryClone, Writer, add_sizes, read_value,
-};
+use mls_wire::{CodecFault, Decode, Opaque, Reader, Skip, WireFault, Writer, read_value};
 use std::alloc::Global;
+use std::marker::Model;
 
 /// An extension of any type: application_id 1, ratchet_tree 2, required_capabilities 3, external_pub 4,
 /// external_senders 5, and others.
@@ -43,25 +43,67 @@ impl Decode for Extension {
     ghost long = { extension_long };
 }
 
-impl Encode for Extension {
-    #[tactic(auto, using(crate::specs::TagSizes::tag_sizes), unfolding(crate::specs::Extension::extension))]
-    fn size(&self) -> Option<usize> {
-        add_sizes(self.kind.size(), self.body.size())
-    }
-
-    #[tactic(auto, using(mls_wire::specs::WriteSequences::written), unfolding(crate::specs::Extension::extension))]
-    fn put(&self, alloc: Global, draft: &mut Draft) -> Result<(), CodecFault> {
-        draft.put_u16(self.kind)?;
-        self.body.put(alloc, draft)
+impl Skip for Extension {
+    #[tactic(auto, unfolding(crate::specs::ParsingInternal::extension_at))]
+    fn skip(reader: &mut Reader<'_>) -> Result<(), WireFault> {
+        u16::skip(reader)?;
+        Opaque::skip(reader)
     }
 }
 
-impl TryClone for Extension {
-    fn try_clone(&self, alloc: Global) -> Result<Extension, CodecFault> {
-        Ok(Extension {
-            kind: self.kind,
-            body: self.body.try_clone(alloc)?,
-        })
+/// An extension whose data is borrowed from the list that it is in.
+#[derive(Debug, Clone, Copy)]
+pub struct ExtensionRef<'a> {
+    /// Its type.
+    pub kind: u16,
+    /// Its data, which is not read any further.
+    pub body: &'a [u8],
+}
+
+/// Those extensions of a list that [`ExtensionsLeft::next`] has not returned yet. The model is the list of them.
+#[derive(Drop)]
+pub struct ExtensionsLeft<'a> {
+    left: Reader<'a>,
+}
+
+impl<'a> Model for ExtensionsLeft<'a> {
+    ghost use Rattle.std.specs.Prelude.{List, IsSome};
+    ghost use Rattle.mls_nodes.specs.ExtensionsLeft.{extensions_left, extensions_in};
+    ghost use Rattle.mls_nodes.specs.declared.extension.Extension.{Extension};
+
+    ghost Value = { List Extension };
+
+    ghost view = { λ s. extensions_in s.left };
+
+    ghost invariant = { λ s. IsSome (extensions_left s.left) };
+}
+
+impl<'a> ExtensionsLeft<'a> {
+    /// Returns all extensions of a list.
+    pub fn of(extensions: &'a Extensions) -> ExtensionsLeft<'a>
+        ensures { result ≡ extensions.now }
+    {
+        ExtensionsLeft {
+            left: extensions.reader(),
+        }
+    }
+
+    /// Returns the first extension that is left, which is then left no more. `None` if none is left.
+    pub fn next(&mut self) -> Option<ExtensionRef<'a>>
+        ensures { MatchOption result
+            ((self.old ≡ []) × (self.new ≡ []))
+            (λ first. self.old ≡ record { kind = first.kind; body = first.body.now } ∷ self.new) }
+    {
+        if self.left.at_end() {
+            return None;
+        }
+        let Ok(kind) = self.left.read_u16() else {
+            unreachable!();
+        };
+        let Ok(body) = self.left.read_vec() else {
+            unreachable!();
+        };
+        Some(ExtensionRef { kind, body })
     }
 }
 

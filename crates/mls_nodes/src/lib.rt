@@ -26,7 +26,7 @@ pub use capabilities::Capabilities;
 pub use context::{GroupContext, decode_context, encode_context, read_context, write_context};
 pub use credential::Credential;
 pub use encoded_len::leaf_tbs_len;
-pub use extension::{Extension, read_extensions, write_extensions};
+pub use extension::{Extension, ExtensionRef, ExtensionsLeft, read_extensions, write_extensions};
 pub use fault::NodeFault;
 pub use leaf::{LeafNode, decode_leaf, encode_leaf, read_leaf, write_leaf};
 pub use leaf_source::{LeafSource, Lifetime};

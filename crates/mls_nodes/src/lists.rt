@@ -3,17 +3,17 @@
 
 use crate::extension::Extension;
 use crate::senders::ExternalSender;
-use mls_wire::{BoxedOpaque, Items};
+use mls_wire::{EncodedItems, Items, Opaque};
 
 /// Protocol versions, cipher suites, or types of extensions, proposals and credentials. Any `u16` is stored, known or
 /// not. A list of at most 6 codes is stored in place.
 pub type Codes = mls_wire::Codes;
 
 /// A chain of certificates, the member's own first (RFC 9420, 5.3).
-pub type CertChain = Items<BoxedOpaque>;
+pub type CertChain = EncodedItems<Opaque>;
 
 /// Extensions of a leaf node or a group, in their order.
-pub type Extensions = Items<Extension>;
+pub type Extensions = EncodedItems<Extension>;
 
 /// External senders, in the order in which `sender_index` numbers them.
 pub type ExternalSenders = Items<ExternalSender>;

@@ -4,11 +4,9 @@ ghost use Rattle.std.specs.Prelude.{◌≡◌, None, Some, MatchOption};
 ghost use Rattle.mls_nodes.specs.Requirements.{extension_of, FindsRequirements};
 
 use crate::context::GroupContext;
-use crate::extension::Extension;
+use crate::extension::ExtensionsLeft;
 use crate::lists::{Codes, Extensions};
-use mls_wire::{
-    CodecFault, Decode, Draft, Encode, Opaque, Reader, TryClone, add_sizes, read_all_of,
-};
+use mls_wire::{CodecFault, Decode, Draft, Encode, Reader, TryClone, add_sizes, read_all_of};
 use std::alloc::Global;
 
 /// The extension type of required capabilities.
@@ -92,14 +90,15 @@ impl TryClone for RequiredCapabilities {
 }
 
 /// Returns the data of the first extension of a type.
-pub fn find_extension(extensions: &[Extension], kind: u16) -> Option<&Opaque>
+pub fn find_extension(extensions: &Extensions, kind: u16) -> Option<&[u8]>
     ensures { MatchOption result
         (extension_of kind extensions.now ≡ None)
         (λ body. extension_of kind extensions.now ≡ Some body.now) }
 {
-    for extension in extensions {
+    let mut left = ExtensionsLeft::of(extensions);
+    while let Some(extension) = left.next() {
         if extension.kind == kind {
-            return Some(&extension.body);
+            return Some(extension.body);
         }
     }
     None
@@ -117,8 +116,8 @@ pub fn requirements_of(
 ) -> Result<RequiredCapabilities, CodecFault>
     ensures { FindsRequirements (extension_of 3 extensions.now) result }
 {
-    match find_extension(extensions.as_slice(), REQUIRED_CAPABILITIES) {
-        Some(body) => read_all_of(alloc, body.as_slice()),
+    match find_extension(extensions, REQUIRED_CAPABILITIES) {
+        Some(body) => read_all_of(alloc, body),
         None => Ok(RequiredCapabilities {
             extensions: Codes::empty(),
             proposals: Codes::empty(),

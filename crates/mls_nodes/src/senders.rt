@@ -104,8 +104,8 @@ pub fn external_senders(
 ) -> Result<ExternalSenders, CodecFault>
     ensures { FindsSenders (extension_of 5 extensions.now) result }
 {
-    match find_extension(extensions.as_slice(), EXTERNAL_SENDERS) {
-        Some(body) => read_all_of(alloc, body.as_slice()),
+    match find_extension(extensions, EXTERNAL_SENDERS) {
+        Some(body) => read_all_of(alloc, body),
         None => Ok(no_senders(alloc)),
     }
 }

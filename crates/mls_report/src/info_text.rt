@@ -5,22 +5,23 @@ ghost use Rattle.mls_report.specs.InfoText as lines;
 
 use crate::value_text::{hex_of, numbers_of};
 use mls_msgs::GroupInfo;
-use mls_nodes::{Extension, GroupContext};
+use mls_nodes::{Extensions, ExtensionsLeft, GroupContext};
 use std::alloc::{AllocError, Global};
 
 /// Returns the types of extensions.
-fn types_of(alloc: Global, extensions: &[Extension]) -> Result<Vec<u32>, AllocError>
+fn types_of(alloc: Global, extensions: &Extensions) -> Result<Vec<u32>, AllocError>
     ensures { IfOk result (λ types. types.items ≡ map (λ e. e.kind) extensions.now) }
 {
     let mut types = Vec::new(alloc);
-    for extension in extensions {
+    let mut left = ExtensionsLeft::of(extensions);
+    while let Some(extension) = left.next() {
         types.push(u32::from(extension.kind))?;
     }
     Ok(types)
 }
 
 /// Returns the types of extensions as text.
-pub(crate) fn types_text(alloc: Global, extensions: &[Extension]) -> Result<String, AllocError>
+pub(crate) fn types_text(alloc: Global, extensions: &Extensions) -> Result<String, AllocError>
     ensures { IfOk result (λ text. string_bytes text ≡ lines.types_text extensions.now) }
 {
     let types = types_of(alloc, extensions)?;
@@ -50,8 +51,8 @@ fn hash_lines(alloc: Global, context: &GroupContext) -> Result<String, AllocErro
 fn extension_lines(alloc: Global, info: &GroupInfo) -> Result<String, AllocError>
     ensures { IfOk result (λ text. string_bytes text ≡ lines.extension_lines info.now) }
 {
-    let group = types_text(alloc, info.context.extensions.as_slice())?;
-    let own = types_text(alloc, info.extensions.as_slice())?;
+    let group = types_text(alloc, &info.context.extensions)?;
+    let own = types_text(alloc, &info.extensions)?;
     format!(in alloc; "extensions {group}\ninfo-extensions {own}\n")
 }
 

@@ -82,7 +82,7 @@ fn proposal_text(alloc: Global, proposal: &Proposal) -> Result<String, AllocErro
             format!(in alloc; "proposal external_init {length}")
         }
         Proposal::ContextExtensions(extensions) => {
-            let types = types_text(alloc, extensions.as_slice())?;
+            let types = types_text(alloc, extensions)?;
             format!(in alloc; "proposal extensions {types}")
         }
     }

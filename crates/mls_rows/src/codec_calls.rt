@@ -446,8 +446,8 @@ pub(crate) fn extension(row: &Row) -> Result<CallResult, RowFault> {
     let Ok(extensions) = read_extensions(row.alloc, &mut Reader::new(bytes.as_slice())) else {
         return Err(RowFault::Field(1, "extensions"));
     };
-    match find_extension(extensions.as_slice(), kind) {
-        Some(body) => CallResult::bytes(row.alloc, body.as_slice()),
+    match find_extension(&extensions, kind) {
+        Some(body) => CallResult::bytes(row.alloc, body),
         None => CallResult::word(row.alloc, "none"),
     }
 }

@@ -9,8 +9,8 @@ use mls_msgs::{
     decode_message,
 };
 use mls_nodes::{
-    Capabilities, Credential, Extensions, GroupContext, LeafNode, LeafSource, ParentNode,
-    RequiredCapabilities,
+    Capabilities, Credential, Extensions, ExtensionsLeft, GroupContext, LeafNode, LeafSource,
+    ParentNode, RequiredCapabilities,
 };
 use std::alloc::Global;
 
@@ -36,9 +36,10 @@ fn put_extensions(
     out: &mut String,
     extensions: &Extensions,
 ) -> Result<(), RowFault> {
-    for extension in extensions.as_slice() {
+    let mut left = ExtensionsLeft::of(extensions);
+    while let Some(extension) = left.next() {
         put_number(out, "extension", u64::from(extension.kind))?;
-        put_bytes(alloc, out, "data", extension.body.as_slice())?;
+        put_bytes(alloc, out, "data", extension.body)?;
     }
     Ok(())
 }
@@ -52,7 +53,7 @@ fn put_credential(
     match credential {
         Credential::Basic(identity) => put_bytes(alloc, out, "basic", identity.as_slice()),
         Credential::X509(chain) => {
-            for certificate in chain.as_slice() {
+            for certificate in chain.to_vec(alloc)?.as_slice() {
                 put_bytes(alloc, out, "certificate", certificate.as_slice())?;
             }
             Ok(())

@@ -177,14 +177,6 @@ fn has_tree_hashes(
     has_kept_hashes(alloc, tree.leaf_count(), &hashes, vector)
 }
 
-/// Creates an empty list of extensions.
-fn no_extensions(alloc: Global) -> Extensions {
-    match Extensions::new(Vec::new(alloc)) {
-        Ok(extensions) => extensions,
-        Err(_) => unreachable!(),
-    }
-}
-
 /// Creates a GroupContext with a tree hash. Its other fields don't matter for the validity of a tree.
 fn context_of(alloc: Global, suite: Suite, hash: &HashValue) -> Result<GroupContext, AllocError>
     ensures suite { IfOk result (λ c. c.cipher_suite ≡ suite) }
@@ -197,7 +189,7 @@ fn context_of(alloc: Global, suite: Suite, hash: &HashValue) -> Result<GroupCont
         epoch: 0,
         tree_hash: hash.to_opaque(alloc)?,
         confirmed: Opaque::new(Vec::new(alloc)).ok().unwrap(),
-        extensions: no_extensions(alloc),
+        extensions: Extensions::empty(),
     })
 }
 

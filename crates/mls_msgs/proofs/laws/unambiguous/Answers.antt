@@ -7,7 +7,7 @@ use Rattle.mls_msgs.specs.Layout.{key_package, psk_usage, psk_kind, psk_id, rein
 use Rattle.mls_msgs.specs.Authenticated.{authenticated_content}
 use Rattle.mls_msgs.specs.PublicMessage.{public_message}
 use Rattle.mls_msgs.specs.Parsing.{key_package_at, psk_usage_at, psk_kind_at, psk_id_at, reinit_at, proposal_at, proposal_or_ref_at, path_node_at, update_path_at, commit_at, sender_at, content_at, framed_content_at, group_info_at}
-use Rattle.mls_msgs.specs.Ciphertexts.{ciphertext_at}
+use Rattle.mls_msgs.specs.Ciphertext.{ciphertext_at}
 use Rattle.mls_msgs.specs.FrameParsing.{authenticated_content_at, public_message_at}
 use Rattle.mls_msgs.specs.PskExact.{psk_usage_exact, psk_kind_exact, psk_id_exact, reinit_exact}
 use Rattle.mls_msgs.specs.ProposalExact.{key_package_exact, proposal_exact, proposal_or_ref_exact}

@@ -1,6 +1,9 @@
-use Rattle.std.proofs.Common.{◌≡◌, drop}
+use Rattle.std.proofs.Common.{◌≡◌, length}
 use Rattle.mls_nodes.specs.Requirements.{extension_of}
 use Rattle.mls_nodes.proofs.required_capabilities.find_extension.Given as goal
 
 abbrev pub invariant-loop-extension : goal.invariant-loop-extension
-invariant-loop-extension l = extension_of l.kind (drop l.extension-index l.extensions) ≡ extension_of l.kind l.extensions
+invariant-loop-extension l = extension_of l.kind l.left ≡ extension_of l.kind l.extensions
+
+abbrev pub decreases-loop-extension : goal.decreases-loop-extension
+decreases-loop-extension l = length l.left

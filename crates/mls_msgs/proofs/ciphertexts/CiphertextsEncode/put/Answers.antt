@@ -1,6 +1,0 @@
-use Rattle.mls_msgs.proofs.StoredCiphertexts.{stored_vector}
-use Rattle.mls_msgs.proofs.ciphertexts.CiphertextsEncode.put.Goals as goal
-
-pub returns : goal.returns
-returns c =
-    rw (← c.self.view_is, stored_vector c.self.inside.body c.self.invariant) c.put.ensures

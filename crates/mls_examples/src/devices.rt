@@ -1,12 +1,12 @@
 //! Sources and sinks over readers and writers of std that fail: any error, and a write that takes nothing, is a failure
 //! for good, even if the reader or writer would go on.
 
-use crate::support::{GROUP_INFO, bytes, expect_text};
-use mls_cli::{ShowKind, run_show};
-use mls_wire::{DeviceFault, MemorySink, MemorySource, Sink, Source, StdSink, StdSource};
+use crate::support::{GROUP_INFO, bytes, expect_text, have, sink};
+use mls_cli::{RunFault, ShowKind, Verdict, run_show};
+use mls_wire::{DeviceFault, MemorySource, Sink, Source, StdSink, StdSource};
 use std::alloc::Global;
 use std::io::{self, ErrorKind, Read, Write};
-use std::test::Fail;
+use std::process::Abort;
 
 /// A reader or writer of one byte a call. After this many calls one fails with an error of this kind, or without one
 /// moves nothing; then it goes on.
@@ -52,20 +52,21 @@ impl Write for Flaky {
     }
 }
 
-/// What a call answered, and whether the device says then that it has failed.
+/// Returns what a call returned, and whether the device has failed then.
 fn answer(
+    rt: &impl Abort,
     alloc: Global,
     answered: Result<usize, DeviceFault>,
     has_failed: bool,
-) -> Result<String, Fail> {
+) -> String {
     match answered {
-        Ok(count) => Ok(format!(in alloc; "{count} {has_failed}")?),
-        Err(_) => Ok(format!(in alloc; "fault {has_failed}")?),
+        Ok(count) => have(rt, format!(in alloc; "{count} {has_failed}")),
+        Err(_) => have(rt, format!(in alloc; "fault {has_failed}")),
     }
 }
 
-/// What five calls of a source answer, over a reader whose third one fails so.
-fn pulled(alloc: Global, error: ErrorKind) -> Result<String, Fail> {
+/// Returns what five calls of a source return, over a reader whose third call fails so.
+fn pulled(rt: &impl Abort, alloc: Global, error: ErrorKind) -> String {
     let mut source = StdSource::new(Flaky {
         good_calls: 2,
         error: Some(error),
@@ -73,14 +74,14 @@ fn pulled(alloc: Global, error: ErrorKind) -> Result<String, Fail> {
     let mut said = String::new(alloc);
     for _ in 0..5 {
         let answered = source.pull(&mut [0u8; 4]);
-        let one = answer(alloc, answered, source.failed())?;
-        said = format!(in alloc; "{said}{one}, ")?;
+        let one = answer(rt, alloc, answered, source.failed());
+        said = have(rt, format!(in alloc; "{said}{one}, "));
     }
-    Ok(said)
+    said
 }
 
 #[test]
-fn sources_fail_at_any_error(rt: HostRuntime) -> Result<(), Fail> {
+fn sources_fail_at_any_error(rt: HostRuntime) {
     let alloc = rt.alloc();
     const EXPECTED: &str = "1 false, 1 false, fault true, fault true, fault true, ";
     const ERRORS: &[(ErrorKind, &str)] = &[
@@ -90,13 +91,12 @@ fn sources_fail_at_any_error(rt: HostRuntime) -> Result<(), Fail> {
         (ErrorKind::OutOfMemory, EXPECTED),
     ];
     for (input, expected) in ERRORS {
-        expect_text(&rt, pulled(alloc, *input)?, expected);
+        expect_text(&rt, pulled(&rt, alloc, *input), expected);
     }
-    Ok(())
 }
 
-/// What five calls of a sink answer, over a writer whose third one fails so, or takes nothing.
-fn pushed(alloc: Global, error: Option<ErrorKind>) -> Result<String, Fail> {
+/// Returns what five calls of a sink return, over a writer whose third call fails so, or takes nothing.
+fn pushed(rt: &impl Abort, alloc: Global, error: Option<ErrorKind>) -> String {
     let mut sink = StdSink::new(Flaky {
         good_calls: 2,
         error,
@@ -104,14 +104,14 @@ fn pushed(alloc: Global, error: Option<ErrorKind>) -> Result<String, Fail> {
     let mut said = String::new(alloc);
     for _ in 0..5 {
         let answered = sink.push(b"mls");
-        let one = answer(alloc, answered, sink.failed())?;
-        said = format!(in alloc; "{said}{one}, ")?;
+        let one = answer(rt, alloc, answered, sink.failed());
+        said = have(rt, format!(in alloc; "{said}{one}, "));
     }
-    Ok(said)
+    said
 }
 
 #[test]
-fn sinks_fail_at_any_error(rt: HostRuntime) -> Result<(), Fail> {
+fn sinks_fail_at_any_error(rt: HostRuntime) {
     let alloc = rt.alloc();
     const EXPECTED: &str = "1 false, 1 false, fault true, fault true, fault true, ";
     const ERRORS: &[(Option<ErrorKind>, &str)] = &[
@@ -121,64 +121,69 @@ fn sinks_fail_at_any_error(rt: HostRuntime) -> Result<(), Fail> {
         (None, EXPECTED),
     ];
     for (input, expected) in ERRORS {
-        expect_text(&rt, pushed(alloc, *input)?, expected);
+        expect_text(&rt, pushed(&rt, alloc, *input), expected);
     }
-    Ok(())
+}
+
+/// Returns what a sink returns for these bytes, over a writer that takes none.
+fn taken(rt: &impl Abort, alloc: Global, bytes: &[u8]) -> String {
+    let mut sink = StdSink::new(Flaky {
+        good_calls: 0,
+        error: None,
+    });
+    let answered = sink.push(bytes);
+    answer(rt, alloc, answered, sink.failed())
 }
 
 #[test]
-fn nothing_of_nothing_is_taken(rt: HostRuntime) -> Result<(), Fail> {
+fn nothing_of_nothing_is_taken(rt: HostRuntime) {
     let alloc = rt.alloc();
     const ROWS: &[(&[u8], &str)] = &[(b"", "0 false"), (b"m", "fault true")];
-    // What a sink answers to no bytes, over a writer that takes none.
     for (bytes, expected) in ROWS {
-        let bytes = *bytes;
-        let mut sink = StdSink::new(Flaky {
-            good_calls: 0,
-            error: None,
-        });
-        let answered = sink.push(bytes);
-        let found = answer(alloc, answered, sink.failed())?;
-        expect_text(&rt, found, expected);
+        expect_text(&rt, taken(&rt, alloc, bytes), expected);
     }
-    Ok(())
+}
+
+/// Returns how a report ended, as text.
+fn end_text(rt: &impl Abort, alloc: Global, outcome: Result<Verdict, RunFault>) -> String {
+    match outcome {
+        Ok(_) => have(rt, String::from_str(alloc, "written")),
+        Err(fault) => have(rt, format!(in alloc; "{fault}")),
+    }
+}
+
+/// Returns how a report ends over a reader that fails after this many calls.
+fn shown_of_reader(rt: &impl Abort, alloc: Global, good_calls: u32) -> String {
+    let mut source = StdSource::new(Flaky {
+        good_calls,
+        error: Some(ErrorKind::Other),
+    });
+    let mut out = sink(rt, alloc, 300, 300, None);
+    let outcome = run_show(alloc, ShowKind::Info, &mut source, &mut out);
+    end_text(rt, alloc, outcome)
+}
+
+/// Returns how a report ends over a writer that fails after this many calls.
+fn shown_to_writer(rt: &impl Abort, alloc: Global, good_calls: u32) -> String {
+    let info = bytes(rt, alloc, GROUP_INFO);
+    let mut source = MemorySource::new(info.as_slice(), 7, None);
+    let mut out = StdSink::new(Flaky {
+        good_calls,
+        error: None,
+    });
+    let outcome = run_show(alloc, ShowKind::Info, &mut source, &mut out);
+    end_text(rt, alloc, outcome)
 }
 
 #[test]
-fn reports_over_what_fails(rt: HostRuntime) -> Result<(), Fail> {
+fn reports_over_what_fails(rt: HostRuntime) {
     let alloc = rt.alloc();
-    const CALLS: &[((u32, u32), &str)] = &[
-        ((0, 1_000), "read"),
-        ((20, 1_000), "read"),
-        ((1_000, 0), "write"),
-        ((1_000, 20), "write"),
-        ((1_000, 999), "written"),
-    ];
-    // How a report ends over a reader and a writer that fail after this many calls.
-    for (good_calls, expected) in CALLS {
-        let good_calls = *good_calls;
-        let (reads, writes) = good_calls;
-        let info = bytes(alloc, GROUP_INFO)?;
-        let outcome = if reads < 1_000 {
-            let mut source = StdSource::new(Flaky {
-                good_calls: reads,
-                error: Some(ErrorKind::Other),
-            });
-            let mut sink = MemorySink::new(alloc, 300, 300, None)?;
-            run_show(alloc, ShowKind::Info, &mut source, &mut sink)
-        } else {
-            let mut source = MemorySource::new(info.as_slice(), 7, None);
-            let mut sink = StdSink::new(Flaky {
-                good_calls: writes,
-                error: None,
-            });
-            run_show(alloc, ShowKind::Info, &mut source, &mut sink)
-        };
-        let found = match outcome {
-            Ok(_) => String::from_str(alloc, "written")?,
-            Err(fault) => format!(in alloc; "{fault}")?,
-        };
-        expect_text(&rt, found, expected);
+    const READS: &[(u32, &str)] = &[(0, "read"), (20, "read")];
+    for (good_calls, expected) in READS {
+        expect_text(&rt, shown_of_reader(&rt, alloc, *good_calls), expected);
     }
-    Ok(())
+    const WRITES: &[(u32, &str)] = &[(0, "write"), (20, "write"), (999, "written")];
+    for (good_calls, expected) in WRITES {
+        expect_text(&rt, shown_to_writer(&rt, alloc, *good_calls), expected);
+    }
 }

@@ -10,6 +10,8 @@
 #[cfg(test)]
 mod devices;
 #[cfg(test)]
+mod failing_runs;
+#[cfg(test)]
 mod gate_devices;
 #[cfg(test)]
 mod journals;

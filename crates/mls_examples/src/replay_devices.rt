@@ -1,75 +1,28 @@
-//! A replay whose devices fail: each pull of its inputs and each push of its output in turn. What was written then is
-//! the part of the report that is decided by what was read, or the front of the report that the output took.
+//! A replay whose devices fail: each pull of its inputs and each push of its output in turn.
 
 ghost use Rattle.std.specs.Prelude.{◌≡◌, false};
 
-use crate::support::{GROUP_INFO, bytes, expect_text};
+use crate::failing_runs::{Device, Ended, Failing, Report, fault_of};
+use crate::support::{GROUP_INFO, LOG, bytes, have, sink, source};
 use mls_check::Trusting;
 use mls_cli::{RunFault, Verdict, run_replay};
-use mls_wire::{MemorySink, MemorySource, Sink, StdSink};
+use mls_wire::{MemorySource, Sink, StdSink};
 use std::alloc::Global;
 use std::io::{self, ErrorKind, Write};
-use std::test::Fail;
+use std::process::Abort;
 
-/// The example log, of 151 bytes: a proposal, its commit, a private message, and a record that the log ends in.
-pub(crate) const LOG: &str =
-    "404b00010001014700000000000000000100000000000200010001000101f101a101b100010141020001\
-    0200010000020001010000000000000000ffffffffffffffff0001c10001c901c801c73f000100010147000000000000\
-    000001000000000003220220419afc0a88fe171b793b00410d11c8121fb96fdfde7b5ced43d5912144a3a9f90001c601\
-    e101c50600010002abcd050001";
-
-/// What is reported of it.
-const TOLD: &str = "no: \
+/// The report, with the verdict No. A line is written for each record. The last two lines are decided by the end of the log.
+const REPORT: Report = Report {
+    text: "\
     1 accepted proposal 419afc0a88fe171b793b00410d11c8121fb96fdfde7b5ced43d5912144a3a9f9\n\
     2 accepted commit 1 3dd545ada09b9e9be453de8b5c20702e810685eca3710882583a67d8a3eddd8b \
     3b3fe4cf185f12883575d4bc9a402561feafe917dc05379ecd9f3f0abe6607e5\n\
-    3 refused 2\n4 broken\naccepted 2 refused 1 broken 1 epoch 1\n";
+    3 refused 2\n4 broken\naccepted 2 refused 1 broken 1 epoch 1\n",
+    ends: &[77, 141, 148, 151],
+};
 
 /// How many bytes a device moves at a call.
 const PIECE: usize = 13;
-
-/// Where the records of the log end: the proposal, its commit, the private message, and the log in the last one.
-const ENDS: &[usize] = &[77, 141, 148, 151];
-
-/// The report, without the verdict before it.
-fn report() -> Option<&'static str> {
-    TOLD.strip_prefix("no: ")
-}
-
-/// How a replay ended: the fault if there was one, what was written, and how many bytes of the log were read.
-#[derive(Drop)]
-struct Ended {
-    fault: Option<RunFault>,
-    written: Vec<u8>,
-    read: usize,
-}
-
-/// A device of a replay: the writer is one of std, below the output.
-#[derive(Clone, Copy, PartialEq, Eq)]
-enum Device {
-    Info,
-    Log,
-    Out,
-    Writer,
-}
-
-/// Which device fails, and at which of its calls.
-#[derive(Clone, Copy)]
-struct Failing {
-    device: Device,
-    call: usize,
-}
-
-impl Failing {
-    /// The call at which a device fails, if it is this one.
-    fn call_of(self, device: Device) -> Option<usize> {
-        if self.device == device {
-            Some(self.call)
-        } else {
-            None
-        }
-    }
-}
 
 /// A writer into memory that takes nothing at one of its calls.
 #[derive(Drop)]
@@ -96,117 +49,98 @@ impl Write for Halting<'_> {
     }
 }
 
-/// Replays the example log into an output, and answers the fault and how many bytes of the log were read.
-fn replay_into<K: Sink>(
+/// How the inputs of a replay are read: in pieces of a size, while each fails at a call.
+#[derive(Clone, Copy)]
+pub(crate) struct Inputs {
+    pub(crate) piece: usize,
+    pub(crate) info_fails: Option<usize>,
+    pub(crate) log_fails: Option<usize>,
+}
+
+/// Replays the example log into an output. Returns the outcome, and how many bytes of the log are left.
+pub(crate) fn replay_into<K: Sink>(
+    rt: &impl Abort,
     alloc: Global,
-    failing: Failing,
+    inputs: Inputs,
     out: &mut K,
-) -> Result<(Option<RunFault>, usize), Fail>
+) -> (Result<Verdict, RunFault>, usize)
     requires { K.is_failed out.old ≡ false }
 {
-    let info_fails = failing.call_of(Device::Info);
-    let log_fails = failing.call_of(Device::Log);
-    let info = bytes(alloc, GROUP_INFO)?;
-    let log = bytes(alloc, LOG)?;
-    let mut info = MemorySource::new(info.as_slice(), PIECE, info_fails);
+    let info = bytes(rt, alloc, GROUP_INFO);
+    let log = bytes(rt, alloc, LOG);
+    let mut info = source(info.as_slice(), inputs.piece, inputs.info_fails);
     let mut tree: Option<MemorySource> = None;
-    let mut log_source = MemorySource::new(log.as_slice(), PIECE, log_fails);
-    let outcome = run_replay(alloc, &mut info, &mut tree, &mut log_source, Trusting, out);
-    let read = log.len().saturating_sub(log_source.left().len());
-    match outcome {
-        Ok(Verdict::No) => Ok((None, read)),
-        Ok(Verdict::Yes) => Err(Fail::from("a refused message")),
-        Err(fault) => Ok((Some(fault), read)),
+    let mut log = source(log.as_slice(), inputs.piece, inputs.log_fails);
+    let outcome = run_replay(alloc, &mut info, &mut tree, &mut log, Trusting, out);
+    (outcome, log.left().len())
+}
+
+/// Returns how a replay ended, by its outcome and how many bytes of the log are left.
+fn ended(rt: &impl Abort, outcome: (Result<Verdict, RunFault>, usize), written: Vec<u8>) -> Ended {
+    let (outcome, left) = outcome;
+    Ended {
+        fault: fault_of(rt, outcome),
+        written,
+        read: (LOG.len() / 2).saturating_sub(left),
     }
 }
 
 /// Replays the example log with a device that fails.
-fn replayed(alloc: Global, failing: Failing) -> Result<Ended, Fail> {
-    if let Some(call) = failing.call_of(Device::Writer) {
-        let mut written = Vec::new(alloc);
-        let mut out = StdSink::new(Halting {
-            held: &mut written,
-            good_calls: call.saturating_sub(1),
-        });
-        let (fault, read) = replay_into(alloc, failing, &mut out)?;
-        drop(out);
-        return Ok(Ended {
-            fault,
-            written,
-            read,
-        });
-    }
-    let mut out = MemorySink::new(alloc, 1000, PIECE, failing.call_of(Device::Out))?;
-    let (fault, read) = replay_into(alloc, failing, &mut out)?;
-    let written = Vec::from_slice(alloc, out.bytes())?;
-    Ok(Ended {
-        fault,
-        written,
-        read,
-    })
+fn replayed(rt: &impl Abort, alloc: Global, failing: Failing) -> Ended {
+    let inputs = Inputs {
+        piece: PIECE,
+        info_fails: failing.call_of(Device::Info),
+        log_fails: failing.call_of(Device::Records),
+    };
+    let mut out = sink(rt, alloc, 1000, PIECE, failing.call_of(Device::Out));
+    let outcome = replay_into(rt, alloc, inputs, &mut out);
+    ended(rt, outcome, have(rt, Vec::from_slice(alloc, out.bytes())))
 }
 
-/// The front of the report that has this many lines: line 4 and the last one are decided together, by the log's end.
-fn first_lines(count: usize) -> Option<&'static str> {
-    let all = report()?;
-    let mut end = 0;
-    for _ in 0..count {
-        let rest = all.get(end..)?;
-        end = end.saturating_add(rest.find('\n')?).saturating_add(1);
-    }
-    all.get(..end)
-}
-
-/// Whether a replay ended as its devices make it: by their fault, with what it has to have written, and having read no
-/// more than that.
-fn is_as_expected(device: Device, ended: &Ended) -> Option<bool> {
-    let written = ended.written.as_slice();
-    match device {
-        Device::Info => {
-            Some(ended.fault == Some(RunFault::Read) && written.is_empty() && ended.read == 0)
-        }
-        Device::Log => {
-            let whole = ENDS[..3].iter().filter(|&&end| end <= ended.read).count();
-            let expected = first_lines(whole)?.as_bytes();
-            Some(ended.fault == Some(RunFault::Read) && written == expected)
-        }
-        Device::Out | Device::Writer => {
-            let whole = written.iter().filter(|&&byte| byte == b'\n').count().min(3);
-            let is_front = report()?.as_bytes().starts_with(written);
-            let read = ended.read == *ENDS.get(whole)?;
-            Some(ended.fault == Some(RunFault::Write) && is_front && read)
-        }
-    }
+/// Replays the example log into a writer of std that takes nothing at a call.
+fn replayed_to_writer(rt: &impl Abort, alloc: Global, call: usize) -> Ended {
+    let inputs = Inputs {
+        piece: PIECE,
+        info_fails: None,
+        log_fails: None,
+    };
+    let mut written = Vec::new(alloc);
+    let mut out = StdSink::new(Halting {
+        held: &mut written,
+        good_calls: call.saturating_sub(1),
+    });
+    let outcome = replay_into(rt, alloc, inputs, &mut out);
+    drop(out);
+    ended(rt, outcome, written)
 }
 
 /// Whether a device is called at least so often in a replay, and each of these calls has failed in turn.
-fn each_call_fails(alloc: Global, calls: (Device, usize)) -> Result<String, Fail> {
+fn each_call_fails(rt: &impl Abort, alloc: Global, calls: (Device, usize)) -> bool {
     let (device, least) = calls;
     for call in 1..100usize {
-        let ended = replayed(alloc, Failing { device, call })?;
+        let ended = match device {
+            Device::Writer => replayed_to_writer(rt, alloc, call),
+            _ => replayed(rt, alloc, Failing { device, call }),
+        };
         if ended.fault.is_none() {
-            return Ok(format!(in alloc; "{}", call > least)?);
+            return call > least;
         }
-        if is_as_expected(device, &ended) != Some(true) {
-            return Err(Fail::from("what the devices want"));
-        }
+        assert!(rt; ended.is_cut_by(device, REPORT));
     }
-    Err(Fail::from("a last call"))
+    false
 }
 
 /// The info has 107 bytes and the log 151, and then comes the end. The report has lines of 85, 150 and 12 bytes, and 47
 /// after them.
 #[test]
-fn each_call_of_a_device_fails(rt: HostRuntime) -> Result<(), Fail> {
+fn each_call_of_a_device_fails(rt: HostRuntime) {
     let alloc = rt.alloc();
-    const CALLS: &[((Device, usize), &str)] = &[
-        ((Device::Info, 10), "true"),
-        ((Device::Log, 13), "true"),
-        ((Device::Out, 24), "true"),
-        ((Device::Writer, 24), "true"),
-    ];
-    for (input, expected) in CALLS {
-        expect_text(&rt, each_call_fails(alloc, *input)?, expected);
+    for calls in [
+        (Device::Info, 10),
+        (Device::Records, 13),
+        (Device::Out, 24),
+        (Device::Writer, 24),
+    ] {
+        assert!(rt; each_call_fails(&rt, alloc, calls));
     }
-    Ok(())
 }

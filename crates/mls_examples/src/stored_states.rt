@@ -1,31 +1,20 @@
 //! States of followers, stored and resumed (docs/FORMATS.md).
 
-use crate::replay_devices::LOG;
-use crate::support::{GROUP_INFO, bytes, expect_text, text};
+use crate::support::{GROUP_INFO, LOG, bytes, expect_text, group_info, have, text};
 use mls_check::Trusting;
 use mls_follow::Follower;
-use mls_msgs::{Message, decode_message};
 use std::alloc::Global;
-use std::test::Fail;
+use std::process::Abort;
 
 /// The first fields of the state after both messages: the version, the checksum, the profile, and that the group goes on.
 const FRONT: &str = "000120dd4c26f628da2c75e811ee76aa96cd1d98312f4150a8bf24d96682b42ef31b8f0100";
 
 /// A follower of the group of member 0 alone.
-fn new_follower(alloc: Global) -> Result<Follower<Trusting>, Fail> {
-    let info = bytes(alloc, GROUP_INFO)?;
-    match decode_message(alloc, info.as_slice())? {
-        Message::GroupInfo(info) => match Follower::start(alloc, info, None, Trusting) {
-            Ok(follower) => Ok(follower),
-            Err(refused) => {
-                drop(refused);
-                Err(Fail::from("a start"))
-            }
-        },
-        other => {
-            drop(other);
-            Err(Fail::from("another message"))
-        }
+fn new_follower(rt: &impl Abort, alloc: Global) -> Follower<Trusting> {
+    let info = group_info(rt, alloc, GROUP_INFO);
+    match Follower::start(alloc, info, None, Trusting) {
+        Ok(follower) => follower,
+        Err(_) => panic!(rt; "a start"),
     }
 }
 
@@ -39,98 +28,92 @@ fn commit() -> Option<&'static str> {
     LOG.get(156..282)
 }
 
-/// Processes messages, each of which is accepted. An empty one is left out.
-fn take_all(
+/// Has a follower process messages, each of which is accepted. An empty one is left out. Returns the state after them.
+fn state_with(
+    rt: &impl Abort,
     alloc: Global,
-    follower: &mut Follower<Trusting>,
+    mut follower: Follower<Trusting>,
     messages: &[&str],
-) -> Result<(), Fail> {
+) -> Vec<u8> {
     for message in messages {
-        let message = bytes(alloc, message)?;
+        let message = bytes(rt, alloc, message);
         if !message.is_empty() {
-            follower.take(message.as_slice())?;
+            have(rt, follower.take(message.as_slice()));
         }
     }
-    Ok(())
+    let state = have(rt, follower.encode_state());
+    drop(follower);
+    state
 }
 
 /// The state after the first messages of the log.
-fn state_after(alloc: Global, count: usize) -> Result<Vec<u8>, Fail> {
-    let first = proposal().ok_or("a proposal")?;
+fn state_after(rt: &impl Abort, alloc: Global, count: usize) -> Vec<u8> {
+    let first = proposal().expect(rt, "a proposal");
     let second = if count == 1 {
         ""
     } else {
-        commit().ok_or("a commit")?
+        commit().expect(rt, "a commit")
     };
-    let mut follower = new_follower(alloc)?;
-    let taken = take_all(alloc, &mut follower, &[first, second]);
-    let state = follower.encode_state();
-    drop(follower);
-    taken?;
-    Ok(state?)
+    let follower = new_follower(rt, alloc);
+    state_with(rt, alloc, follower, &[first, second])
 }
 
 /// What a resumed follower stores, or why none is resumed.
-fn stored_again(alloc: Global, state: &[u8]) -> Result<String, Fail> {
+fn stored_again(rt: &impl Abort, alloc: Global, state: &[u8]) -> String {
     match Follower::resume(alloc, state, Trusting) {
         Ok(follower) => {
-            let again = follower.encode_state();
+            let again = have(rt, follower.encode_state());
             drop(follower);
-            text(alloc, again?.as_slice())
+            text(rt, alloc, again.as_slice())
         }
         Err(refused) => {
             let fault = refused.fault;
             drop(refused);
-            Ok(format!(in alloc; "{fault}")?)
+            have(rt, format!(in alloc; "{fault}"))
         }
     }
 }
 
 /// Whether a follower that is resumed after the proposal accepts its commit, and so reaches the state after both.
-fn goes_on(alloc: Global) -> Result<bool, Fail> {
-    let commit = commit().ok_or("a commit")?;
-    let state = state_after(alloc, 1)?;
-    let Ok(mut follower) = Follower::resume(alloc, state.as_slice(), Trusting) else {
-        return Err(Fail::from("a resumption"));
+fn goes_on(rt: &impl Abort, alloc: Global) -> bool {
+    let commit = commit().expect(rt, "a commit");
+    let state = state_after(rt, alloc, 1);
+    let after = match Follower::resume(alloc, state.as_slice(), Trusting) {
+        Ok(follower) => state_with(rt, alloc, follower, &[commit]),
+        Err(_) => panic!(rt; "a resumption"),
     };
-    let taken = take_all(alloc, &mut follower, &[commit]);
-    let after = follower.encode_state();
-    drop(follower);
-    taken?;
-    Ok(after?.as_slice() == state_after(alloc, 2)?.as_slice())
+    after.as_slice() == state_after(rt, alloc, 2).as_slice()
 }
 
-/// The state after the proposal has 251 bytes, that after its commit 237. Each is resumed, and stored as the same bytes; with
-/// a byte more, or one bit of its checksum changed, it is not.
+/// Checks that a state is resumed, and stored as the same bytes. With one bit of its checksum changed it is not resumed,
+/// and with a byte more as well, for another reason.
+fn check_resumption(rt: &impl Abort, alloc: Global, mut state: Vec<u8>) {
+    let expected = text(rt, alloc, state.as_slice());
+    let again = stored_again(rt, alloc, state.as_slice());
+    expect_text(rt, again, expected.as_str());
+    if let Some(byte) = state.get_mut(3) {
+        *byte ^= 1;
+    }
+    let changed = stored_again(rt, alloc, state.as_slice());
+    expect_text(rt, changed, "the checksum differs");
+    let size = state.len();
+    let trailing = have(rt, format!(in alloc; "unreadable: Trailing at {size}"));
+    have(rt, state.push(0));
+    let longer = stored_again(rt, alloc, state.as_slice());
+    expect_text(rt, longer, trailing.as_str());
+}
+
+/// The state after the proposal has 251 bytes, that after its commit 237.
 #[test]
-fn states_are_resumed(rt: HostRuntime) -> Result<(), Fail> {
+fn states_are_resumed(rt: HostRuntime) {
     let alloc = rt.alloc();
     for (count, size) in [(1, 251), (2, 237)] {
-        let mut state = state_after(alloc, count)?;
+        let state = state_after(&rt, alloc, count);
         assert!(rt; state.len() == size);
-        let expected = text(alloc, state.as_slice())?;
-        expect_text(
-            &rt,
-            stored_again(alloc, state.as_slice())?,
-            expected.as_str(),
-        );
-        assert!(rt; count == 1 || expected.as_str().starts_with(FRONT));
-        if let Some(byte) = state.get_mut(3) {
-            *byte ^= 1;
-        }
-        expect_text(
-            &rt,
-            stored_again(alloc, state.as_slice())?,
-            "the checksum differs",
-        );
-        state.push(0)?;
-        let trailing = format!(in alloc; "unreadable: Trailing at {size}")?;
-        expect_text(
-            &rt,
-            stored_again(alloc, state.as_slice())?,
-            trailing.as_str(),
-        );
+        check_resumption(&rt, alloc, state);
     }
-    assert!(rt; goes_on(alloc)?);
-    Ok(())
+    let last = state_after(&rt, alloc, 2);
+    let last = text(&rt, alloc, last.as_slice());
+    assert!(rt; last.as_str().starts_with(FRONT));
+    assert!(rt; goes_on(&rt, alloc));
 }

@@ -22,14 +22,14 @@ pub trait Skip: Decode {
     ///
     /// # Errors
     ///
-    /// If and only if no value is encoded there, with the fault of [`Decode::read`]. The reader may then have moved.
+    /// If and only if no value is encoded there. The reader may then have moved.
     fn skip(reader: &mut Reader<'_>) -> Result<(), WireFault>
         ensures { Skips Self.reading reader.old reader.new result };
 }
 
 /// A list that fits into one vector, as [`Items`](crate::Items) is (RFC 9420, 2.1.2). It is stored as the bytes that
 /// encode its items, one after the other: at most 14 bytes in place, others on the heap. So a list of many small items
-/// takes no more memory than its encoding. The model is the list.
+/// takes little more memory than its encoding. The model is the list.
 #[derive(Debug)]
 pub struct EncodedItems<T: Skip> {
     body: BoxedOpaque,

@@ -1,6 +1,7 @@
 //! The result of a call.
 
 use crate::fault::RowFault;
+use crate::row::have;
 use std::alloc::{AllocError, Global};
 use std::fmt::{Debug, Display};
 
@@ -19,20 +20,28 @@ impl CallResult {
         CallResult { text, other: None }
     }
 
+    /// Text that was made, if it was.
+    pub(crate) fn of(made: Result<String, RowFault>) -> Result<CallResult, RowFault> {
+        match made {
+            Ok(text) => Ok(CallResult::text(text)),
+            Err(fault) => Err(fault),
+        }
+    }
+
     /// Bytes by their hexadecimal digits.
     pub(crate) fn bytes(alloc: Global, bytes: &[u8]) -> Result<CallResult, RowFault> {
-        Ok(CallResult::text(hex::encode(alloc, bytes)?))
+        CallResult::of(have(hex::encode(alloc, bytes)))
     }
 
     /// A word.
     pub(crate) fn word(alloc: Global, word: &str) -> Result<CallResult, RowFault> {
-        Ok(CallResult::text(String::from_str(alloc, word)?))
+        CallResult::of(have(String::from_str(alloc, word)))
     }
 
     /// A fault by its name.
     pub(crate) fn name<E: Debug>(alloc: Global, fault: &E) -> Result<CallResult, RowFault> {
         let name = format!(in alloc; "{fault:?}")?;
-        Ok(CallResult::text(name_of(alloc, name.as_str())?))
+        CallResult::of(have(name_of(alloc, name.as_str())))
     }
 
     /// A fault by its name, and in words.

@@ -29,7 +29,7 @@ fn validity<E: Debug + Drop>(
 
 /// Whether something holds.
 fn truth(alloc: Global, holds: bool) -> Result<CallResult, RowFault> {
-    Ok(CallResult::text(format!(in alloc; "{holds}")?))
+    CallResult::of(have(format!(in alloc; "{holds}")))
 }
 
 // ---- trees
@@ -235,7 +235,7 @@ pub(crate) fn changed_leaves(row: &Row) -> Result<CallResult, RowFault> {
     };
     drop(context);
     match found? {
-        Some(leaf) => Ok(CallResult::text(format!(in row.alloc; "{leaf}")?)),
+        Some(leaf) => CallResult::of(have(format!(in row.alloc; "{leaf}"))),
         None => CallResult::word(row.alloc, "none"),
     }
 }

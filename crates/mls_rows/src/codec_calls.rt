@@ -31,7 +31,7 @@ pub(crate) fn bytes_result(
     match made {
         Ok(bytes) => CallResult::bytes(alloc, bytes.as_slice()),
         Err(CodecFault::OutOfMemory) => Err(RowFault::OutOfMemory),
-        Err(fault) => Ok(CallResult::text(format!(in alloc; "{fault}")?)),
+        Err(fault) => CallResult::of(have(format!(in alloc; "{fault}"))),
     }
 }
 
@@ -215,7 +215,7 @@ pub(crate) fn length(row: &Row) -> Result<CallResult, RowFault> {
         "leaf" | "parent" => node_size(row)?,
         _ => return Err(RowFault::Field(1, "a type that has a length")),
     };
-    Ok(CallResult::text(format!(in row.alloc; "{size}")?))
+    CallResult::of(have(format!(in row.alloc; "{size}")))
 }
 
 /// `written_length | NUMBER`: the length of a vector as it is written.

@@ -2,7 +2,7 @@
 
 use crate::call_result::CallResult;
 use crate::fault::RowFault;
-use crate::row::Row;
+use crate::row::{Row, have};
 use mls_msgs::{
     Authenticated, Commit, Content, FramedContent, GroupInfo, KeyPackage, Message, PathNode,
     Proposal, ProposalOrRef, PublicMessage, Sender, UpdatePath, decode_authenticated,
@@ -17,17 +17,17 @@ use std::alloc::Global;
 /// Adds a field of bytes by its name.
 fn put_bytes(alloc: Global, out: &mut String, name: &str, bytes: &[u8]) -> Result<(), RowFault> {
     let bytes = hex::encode(alloc, bytes)?;
-    Ok(write!(out, "{name} {bytes}; ")?)
+    have(write!(out, "{name} {bytes}; "))
 }
 
 /// Adds a field that is a number.
 fn put_number(out: &mut String, name: &str, number: u64) -> Result<(), RowFault> {
-    Ok(write!(out, "{name} {number}; ")?)
+    have(write!(out, "{name} {number}; "))
 }
 
 /// Adds a list of codes.
 fn put_codes(out: &mut String, name: &str, codes: &[u16]) -> Result<(), RowFault> {
-    Ok(write!(out, "{name} {codes:?}; ")?)
+    have(write!(out, "{name} {codes:?}; "))
 }
 
 /// Adds extensions, each by its type and its data.
@@ -99,7 +99,7 @@ fn put_leaf_fields(alloc: Global, out: &mut String, leaf: &LeafNode) -> Result<(
 fn put_parent_fields(alloc: Global, out: &mut String, parent: &ParentNode) -> Result<(), RowFault> {
     put_bytes(alloc, out, "encryption", parent.encryption_key.as_slice())?;
     put_bytes(alloc, out, "parent hash", parent.parent_hash.as_slice())?;
-    Ok(write!(out, "unmerged {:?}", parent.unmerged.as_slice())?)
+    have(write!(out, "unmerged {:?}", parent.unmerged.as_slice()))
 }
 
 /// Adds the fields of a group context.
@@ -322,5 +322,5 @@ pub(crate) fn fields(row: &Row) -> Result<CallResult, RowFault> {
         "context" | "required" => put_context_fields(row, &mut out)?,
         _ => return Err(RowFault::Field(1, "a type that has fields")),
     }
-    Ok(CallResult::text(String::from_str(row.alloc, out.as_str().trim())?))
+    CallResult::of(have(String::from_str(row.alloc, out.as_str().trim())))
 }

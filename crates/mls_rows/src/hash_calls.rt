@@ -2,7 +2,7 @@
 
 use crate::call_result::CallResult;
 use crate::fault::RowFault;
-use crate::row::Row;
+use crate::row::{Row, have};
 use mls_hash::{
     HashFault, HashValue, Side, SubtreeHashes, Suite, hash, original_tree_hash, parent_hash,
     ref_hash, tree_hash,
@@ -30,7 +30,7 @@ fn hash_result(row: &Row, made: Result<HashValue, HashFault>) -> Result<CallResu
 pub(crate) fn suite(row: &Row) -> Result<CallResult, RowFault> {
     row.has(1)?;
     match Suite::from_u16(row.short_number(1)?) {
-        Ok(suite) => Ok(CallResult::text(format!(in row.alloc; "{}", suite.number())?)),
+        Ok(suite) => CallResult::of(have(format!(in row.alloc; "{}", suite.number()))),
         Err(fault) => CallResult::fault(row.alloc, &fault),
     }
 }
@@ -39,7 +39,7 @@ pub(crate) fn suite(row: &Row) -> Result<CallResult, RowFault> {
 pub(crate) fn length(row: &Row) -> Result<CallResult, RowFault> {
     row.has(1)?;
     let length = suite_at(row, 1)?.hash_length();
-    Ok(CallResult::text(format!(in row.alloc; "{length}")?))
+    CallResult::of(have(format!(in row.alloc; "{length}")))
 }
 
 /// `hash | SUITE | FIRST | SECOND`: the hash of two parts joined.

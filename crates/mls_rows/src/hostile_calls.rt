@@ -2,7 +2,7 @@
 
 use crate::call_result::CallResult;
 use crate::fault::RowFault;
-use crate::row::Row;
+use crate::row::{Row, have};
 use crate::state::brief_state;
 use crate::stories::{started, taken_text};
 use mls_check::{Receipts, SignatureCheck, Trusting};
@@ -71,7 +71,7 @@ pub(crate) fn cut(row: &Row) -> Result<CallResult, RowFault> {
             return Err(RowFault::CutIsRead(size));
         }
     }
-    Ok(CallResult::text(format!(in row.alloc; "{}", bytes.len())?))
+    CallResult::of(have(format!(in row.alloc; "{}", bytes.len())))
 }
 
 /// Whether a follower that starts from the first field refuses bytes as malformed.
@@ -93,7 +93,7 @@ pub(crate) fn cut_message(row: &Row) -> Result<CallResult, RowFault> {
             return Err(RowFault::CutIsRead(size));
         }
     }
-    Ok(CallResult::text(format!(in row.alloc; "{}", bytes.len())?))
+    CallResult::of(have(format!(in row.alloc; "{}", bytes.len())))
 }
 
 // ---- changed bits
@@ -221,7 +221,7 @@ pub(crate) fn state_bits(row: &Row) -> Result<CallResult, RowFault> {
             count = count.saturating_add(1);
         }
     }
-    Ok(CallResult::text(format!(in row.alloc; "{count}")?))
+    CallResult::of(have(format!(in row.alloc; "{count}")))
 }
 
 /// Those of the bytes from `first` to before `end` of which no bit is checked.

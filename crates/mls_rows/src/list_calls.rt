@@ -81,7 +81,7 @@ fn applied_text(alloc: Global, applied: &Applied) -> Result<String, RowFault> {
     let tree = tree_text(alloc, &applied.tree)?;
     let added = numbers_text(alloc, applied.added.as_slice())?;
     let text = format!(in alloc; "{tree} / {added}")?;
-    Ok(String::from_str(alloc, text.as_str().trim())?)
+    have(String::from_str(alloc, text.as_str().trim()))
 }
 
 /// `apply_list | TREE | LIST`: how many leaves the tree after a list has, its encoding, and the indices of the leaves that are added. The
@@ -104,7 +104,7 @@ pub(crate) fn applied(row: &Row) -> Result<CallResult, RowFault> {
         Ok(applied) => {
             let text = applied_text(row.alloc, &applied);
             drop(applied);
-            Ok(CallResult::text(text?))
+            CallResult::of(text)
         }
         Err(fault) => CallResult::fault(row.alloc, &fault),
     }
@@ -142,7 +142,7 @@ fn merged_result(
         Ok(tree) => {
             let text = tree_text(alloc, &tree);
             drop(tree);
-            Ok(CallResult::text(text?))
+            CallResult::of(text)
         }
         Err((fault, applied)) => {
             drop(applied);

@@ -137,7 +137,7 @@ fn resolved_text(
         Ok(items) => {
             let text = items_text(alloc, items.as_slice());
             drop(items);
-            Ok(CallResult::text(text?))
+            CallResult::of(text)
         }
         Err(fault) => CallResult::fault(alloc, &fault),
     }
@@ -202,7 +202,7 @@ pub(crate) fn items_of_join(row: &Row) -> Result<CallResult, RowFault> {
         Err(_) => Err(RowFault::OutOfMemory),
     };
     drop(commit);
-    Ok(CallResult::text(text?))
+    CallResult::of(text)
 }
 
 /// `pending | PENDING | REFERENCE`: the sender of the first pending proposal of a reference, or `none`.
@@ -213,7 +213,7 @@ pub(crate) fn find(row: &Row) -> Result<CallResult, RowFault> {
     let sender = known.find(reference.as_slice()).map(|found| found.sender);
     drop(known);
     match sender {
-        Some(sender) => Ok(CallResult::text(sender_text(row.alloc, sender)?)),
+        Some(sender) => CallResult::of(sender_text(row.alloc, sender)),
         None => CallResult::word(row.alloc, "none"),
     }
 }

@@ -176,7 +176,7 @@ fn printed_text(alloc: Global, printed: &Printed) -> Result<String, RowFault> {
 pub(crate) fn run(row: &Row) -> Result<CallResult, RowFault> {
     let files = files_from(row, 2)?;
     let printed = run_over(row, files.as_slice(), 40)?;
-    Ok(CallResult::text(printed_text(row.alloc, &printed)?))
+    CallResult::of(printed_text(row.alloc, &printed))
 }
 
 /// `run_in_pieces | COMMAND | FILE | ..`: the same in pieces of each size from 1 to 80, which must all give one result.
@@ -220,9 +220,9 @@ pub(crate) fn prints(row: &Row) -> Result<CallResult, RowFault> {
     let part = row.text(2)?;
     let printed = run_over(row, &[], 40)?;
     if main_text(&printed).contains(part.as_str()) {
-        return Ok(CallResult::text(format!(in row.alloc; "{}", printed.status)?));
+        return CallResult::of(have(format!(in row.alloc; "{}", printed.status)));
     }
-    Ok(CallResult::text(printed_text(row.alloc, &printed)?))
+    CallResult::of(printed_text(row.alloc, &printed))
 }
 
 // ---- commands
@@ -254,13 +254,13 @@ fn group_text(alloc: Global, group: &GroupFiles) -> Result<String, RowFault> {
         } => {
             let (info, tree) = (info.as_str(), file_name(tree));
             match profile {
-                Profile::Members => Ok(format!(in alloc; "{info} {tree}")?),
-                Profile::Full => Ok(format!(in alloc; "in full {info} {tree}")?),
+                Profile::Members => have(format!(in alloc; "{info} {tree}")),
+                Profile::Full => have(format!(in alloc; "in full {info} {tree}")),
             }
         }
         GroupFiles::State(state) => {
             let state = state.as_str();
-            Ok(format!(in alloc; "state {state}")?)
+            have(format!(in alloc; "state {state}"))
         }
     }
 }
@@ -270,25 +270,25 @@ fn report_text(alloc: Global, report: &GroupReport, receipts: &str) -> Result<St
     match report {
         GroupReport::ValidateTree { context, tree } => {
             let (context, tree) = (context.as_str(), tree.as_str());
-            Ok(format!(in alloc; "validate {context} {tree} {receipts}")?)
+            have(format!(in alloc; "validate {context} {tree} {receipts}"))
         }
         GroupReport::Validate(group) => {
             let group = group_text(alloc, group)?;
-            Ok(format!(in alloc; "start {group} {receipts}")?)
+            have(format!(in alloc; "start {group} {receipts}"))
         }
         GroupReport::Replay { group, files } => {
             let group = group_text(alloc, group)?;
             let (log, save) = (files.log.as_str(), file_name(&files.save));
-            Ok(format!(in alloc; "replay {group} {log} {save} {receipts}")?)
+            have(format!(in alloc; "replay {group} {log} {save} {receipts}"))
         }
         GroupReport::Signatures { group, log } => {
             let group = group_text(alloc, group)?;
             let log = file_name(log);
-            Ok(format!(in alloc; "signatures {group} {log} {receipts}")?)
+            have(format!(in alloc; "signatures {group} {log} {receipts}"))
         }
         GroupReport::Gate(group) => {
             let group = group_text(alloc, group)?;
-            Ok(format!(in alloc; "gate {group} {receipts}")?)
+            have(format!(in alloc; "gate {group} {receipts}"))
         }
     }
 }
@@ -317,12 +317,12 @@ fn order_text(alloc: Global, order: &Order) -> Result<String, RowFault> {
                 ShowKind::Info => "info",
                 ShowKind::Message => "message",
             };
-            Ok(format!(in alloc; "show {kind} {}", file.as_str())?)
+            have(format!(in alloc; "show {kind} {}", file.as_str()))
         }
         Order::Group { report, checker } => report_text(alloc, report, receipts_name(checker)),
         Order::Check { kind, file } => {
             let kind = check_word(kind);
-            Ok(format!(in alloc; "check {kind} {}", file.as_str())?)
+            have(format!(in alloc; "check {kind} {}", file.as_str()))
         }
     }
 }
@@ -336,7 +336,7 @@ pub(crate) fn command(row: &Row) -> Result<CallResult, RowFault> {
         Ok(order) => {
             let text = order_text(row.alloc, &order);
             drop(order);
-            Ok(CallResult::text(text?))
+            CallResult::of(text)
         }
         Err(fault) => {
             let mut all = format!(in row.alloc; "{}", fault.status())?;

@@ -116,16 +116,16 @@ pub(crate) fn brief_state<C: SignatureCheck>(
 /// Adds bytes after a space.
 fn add_bytes(alloc: Global, text: &mut String, bytes: &[u8]) -> Result<(), RowFault> {
     let digits = hex::encode(alloc, bytes)?;
-    Ok(write!(text, " {digits}")?)
+    have(write!(text, " {digits}"))
 }
 
 /// A sender: a member by its leaf index.
 pub(crate) fn sender_text(alloc: Global, sender: Sender) -> Result<String, RowFault> {
     match sender {
-        Sender::Member(index) => Ok(format!(in alloc; "{index}")?),
-        Sender::External(index) => Ok(format!(in alloc; "external {index}")?),
-        Sender::NewMemberProposal => Ok(String::from_str(alloc, "new_member_proposal")?),
-        Sender::NewMemberCommit => Ok(String::from_str(alloc, "new_member_commit")?),
+        Sender::Member(index) => have(format!(in alloc; "{index}")),
+        Sender::External(index) => have(format!(in alloc; "external {index}")),
+        Sender::NewMemberProposal => have(String::from_str(alloc, "new_member_proposal")),
+        Sender::NewMemberCommit => have(String::from_str(alloc, "new_member_commit")),
     }
 }
 

@@ -55,16 +55,16 @@ pub(crate) fn taken_text(alloc: Global, taken: Taken) -> Result<String, RowFault
     match taken {
         Taken::Proposal(reference) => {
             let reference = hex::encode(alloc, reference.as_slice())?;
-            Ok(format!(in alloc; "proposal {reference}")?)
+            have(format!(in alloc; "proposal {reference}"))
         }
-        Taken::Commit(epoch) => Ok(format!(in alloc; "commit {epoch}")?),
+        Taken::Commit(epoch) => have(format!(in alloc; "commit {epoch}")),
     }
 }
 
 /// A refused message, by its number and its name.
 fn refusal_text(alloc: Global, refusal: Refusal) -> Result<String, RowFault> {
     let name = format!(in alloc; "{} {refusal:?}", refusal.number())?;
-    Ok(name_of(alloc, name.as_str())?)
+    have(name_of(alloc, name.as_str()))
 }
 
 /// The results for the messages until now.

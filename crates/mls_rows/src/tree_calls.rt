@@ -13,7 +13,7 @@ use std::collections::BTreeSet;
 /// A number, or `none`.
 fn number_result(alloc: Global, number: Option<u32>) -> Result<CallResult, RowFault> {
     match number {
-        Some(number) => Ok(CallResult::text(format!(in alloc; "{number}")?)),
+        Some(number) => CallResult::of(have(format!(in alloc; "{number}"))),
         None => CallResult::word(alloc, "none"),
     }
 }
@@ -66,7 +66,7 @@ pub(crate) fn list(row: &Row) -> Result<CallResult, RowFault> {
     };
     drop(tree);
     match found {
-        Ok(list) => Ok(CallResult::text(numbers_text(row.alloc, list.as_slice())?)),
+        Ok(list) => CallResult::of(numbers_text(row.alloc, list.as_slice())),
         Err(fault) => CallResult::fault(row.alloc, &fault),
     }
 }
@@ -106,7 +106,7 @@ pub(crate) fn resolution_length(row: &Row) -> Result<CallResult, RowFault> {
     let found = has_length(row.alloc, &tree, index, &without, length);
     drop(tree);
     match found? {
-        Ok(found) => Ok(CallResult::text(format!(in row.alloc; "{found}")?)),
+        Ok(found) => CallResult::of(have(format!(in row.alloc; "{found}"))),
         Err(fault) => CallResult::fault(row.alloc, &fault),
     }
 }
@@ -117,7 +117,7 @@ pub(crate) fn resolution_length(row: &Row) -> Result<CallResult, RowFault> {
 fn leaf_key(alloc: Global, leaf: Option<&LeafNode>) -> Result<String, RowFault> {
     match leaf {
         Some(leaf) => Ok(hex::encode(alloc, leaf.encryption_key.as_slice())?),
-        None => Ok(String::from_str(alloc, "blank")?),
+        None => have(String::from_str(alloc, "blank")),
     }
 }
 
@@ -125,7 +125,7 @@ fn leaf_key(alloc: Global, leaf: Option<&LeafNode>) -> Result<String, RowFault> 
 fn parent_key(alloc: Global, parent: Option<&ParentNode>) -> Result<String, RowFault> {
     match parent {
         Some(parent) => Ok(hex::encode(alloc, parent.encryption_key.as_slice())?),
-        None => Ok(String::from_str(alloc, "blank")?),
+        None => have(String::from_str(alloc, "blank")),
     }
 }
 
@@ -134,7 +134,7 @@ pub(crate) fn node_key(alloc: Global, node: Option<&Node>) -> Result<String, Row
     match node {
         Some(Node::Leaf(leaf)) => leaf_key(alloc, Some(leaf)),
         Some(Node::Parent(parent)) => parent_key(alloc, Some(parent)),
-        None => Ok(String::from_str(alloc, "blank")?),
+        None => have(String::from_str(alloc, "blank")),
     }
 }
 
@@ -143,7 +143,7 @@ fn part_text(alloc: Global, tree: &PublicTree, index: u32) -> Result<String, Row
     match tree.part(index) {
         Some(Part::Leaf { index, node }) => {
             let key = leaf_key(alloc, node)?;
-            Ok(format!(in alloc; "leaf {index} {key}")?)
+            have(format!(in alloc; "leaf {index} {key}"))
         }
         Some(
             Part::Parent {
@@ -154,9 +154,9 @@ fn part_text(alloc: Global, tree: &PublicTree, index: u32) -> Result<String, Row
             },
         ) => {
             let key = parent_key(alloc, node)?;
-            Ok(format!(in alloc; "parent {key} {left} {right} {middle}")?)
+            have(format!(in alloc; "parent {key} {left} {right} {middle}"))
         }
-        None => Ok(String::from_str(alloc, "none")?),
+        None => have(String::from_str(alloc, "none")),
     }
 }
 
@@ -168,14 +168,14 @@ pub(crate) fn part(row: &Row) -> Result<CallResult, RowFault> {
     let tree = row.tree(1)?;
     let text = part_text(row.alloc, &tree, index);
     drop(tree);
-    Ok(CallResult::text(text?))
+    CallResult::of(text)
 }
 
 /// The key of the node at a node index, and its key if it is a parent.
 fn node_text(alloc: Global, tree: &PublicTree, index: u32) -> Result<String, RowFault> {
     let any = node_key(alloc, tree.node(index))?;
     let parent = parent_key(alloc, tree.parent(index))?;
-    Ok(format!(in alloc; "{any} {parent}")?)
+    have(format!(in alloc; "{any} {parent}"))
 }
 
 /// `node | TREE | NODE INDEX`: the key of the node there, and the key of the parent there; each may be `blank`.
@@ -185,7 +185,7 @@ pub(crate) fn node(row: &Row) -> Result<CallResult, RowFault> {
     let tree = row.tree(1)?;
     let text = node_text(row.alloc, &tree, index);
     drop(tree);
-    Ok(CallResult::text(text?))
+    CallResult::of(text)
 }
 
 /// `leaf | TREE | INDEX`: the key of a leaf, or `blank`.
@@ -195,7 +195,7 @@ pub(crate) fn leaf(row: &Row) -> Result<CallResult, RowFault> {
     let tree = row.tree(1)?;
     let text = leaf_key(row.alloc, tree.leaf(index));
     drop(tree);
-    Ok(CallResult::text(text?))
+    CallResult::of(text)
 }
 
 /// `split_leaves | NUMBERS | NUMBER`: the leaves to the left of a leaf, and the others.
@@ -205,7 +205,7 @@ pub(crate) fn split(row: &Row) -> Result<CallResult, RowFault> {
     let (front, rest) = split_leaves(numbers.as_slice(), row.number(2)?);
     let front = numbers_text(row.alloc, front)?;
     let rest = numbers_text(row.alloc, rest)?;
-    Ok(CallResult::text(format!(in row.alloc; "{front} / {rest}")?))
+    CallResult::of(have(format!(in row.alloc; "{front} / {rest}")))
 }
 
 // ---- sizes
@@ -218,7 +218,7 @@ pub(crate) fn size(row: &Row) -> Result<CallResult, RowFault> {
         Ok(tree) => {
             let (nodes, members) = (tree.nodes().len(), tree.member_count());
             drop(tree);
-            Ok(CallResult::text(format!(in row.alloc; "{nodes} {members}")?))
+            CallResult::of(have(format!(in row.alloc; "{nodes} {members}")))
         }
         Err(fault) => CallResult::fault(row.alloc, &fault),
     }
@@ -241,7 +241,7 @@ pub(crate) fn nodes_form(row: &Row) -> Result<CallResult, RowFault> {
         Ok(tree) => {
             let (leaves, members) = (tree.leaf_count(), tree.member_count());
             drop(tree);
-            Ok(CallResult::text(format!(in row.alloc; "{leaves} {members}")?))
+            CallResult::of(have(format!(in row.alloc; "{leaves} {members}")))
         }
         Err((fault, nodes)) => {
             drop(nodes);
@@ -264,7 +264,7 @@ pub(crate) fn extended_blank(row: &Row) -> Result<CallResult, RowFault> {
         Err(fault) => Err(fault),
     };
     match extended {
-        Ok(leaves) => Ok(CallResult::text(format!(in row.alloc; "{leaves}")?)),
+        Ok(leaves) => CallResult::of(have(format!(in row.alloc; "{leaves}"))),
         Err(fault) => CallResult::fault(row.alloc, &fault),
     }
 }
@@ -291,9 +291,9 @@ pub(crate) fn tree_text(alloc: Global, tree: &PublicTree) -> Result<String, RowF
     match encode_ratchet_tree(alloc, tree.nodes()) {
         Ok(bytes) => {
             let bytes = hex::encode(alloc, bytes.as_slice())?;
-            Ok(format!(in alloc; "{leaves} {bytes}")?)
+            have(format!(in alloc; "{leaves} {bytes}"))
         }
-        Err(_) => Ok(format!(in alloc; "{leaves} blank")?),
+        Err(_) => have(format!(in alloc; "{leaves} blank")),
     }
 }
 
@@ -333,7 +333,7 @@ pub(crate) fn changed(row: &Row) -> Result<CallResult, RowFault> {
     let text = tree_text(row.alloc, &tree);
     drop(tree);
     made?;
-    Ok(CallResult::text(text?))
+    CallResult::of(text)
 }
 
 /// `seat | TREE`: the leaf of a new member, how many leaves the tree has then, and its encoding.
@@ -345,7 +345,7 @@ pub(crate) fn seat(row: &Row) -> Result<CallResult, RowFault> {
     drop(tree);
     let text = text?;
     match found {
-        Ok(index) => Ok(CallResult::text(format!(in row.alloc; "{index} / {text}")?)),
+        Ok(index) => CallResult::of(have(format!(in row.alloc; "{index} / {text}"))),
         Err(fault) => CallResult::fault(row.alloc, &fault),
     }
 }
@@ -359,5 +359,5 @@ pub(crate) fn copied(row: &Row) -> Result<CallResult, RowFault> {
     let copy = have(copy)?;
     let text = tree_text(row.alloc, &copy);
     drop(copy);
-    Ok(CallResult::text(text?))
+    CallResult::of(text)
 }

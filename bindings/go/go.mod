@@ -1,3 +1,3 @@
 module mlscheck
 
-go 1.21
+go 1.19

@@ -13,7 +13,7 @@ fn added_encryption_key<'a>(item: &ListItem<'a>) -> Option<&'a [u8]>
     ensures { option_map (λ k. k.now) result ≡ added_encryption_key item.now }
 {
     match item.proposal {
-        Proposal::Add(key_package) => Some(key_package.leaf_node.encryption_key.as_slice()),
+        Proposal::Add(key_package) => Some(key_package.leaf_node.encryption_key()),
         Proposal::Update(_) => None,
         Proposal::Remove(_) => None,
         Proposal::ContextExtensions(_) => None,

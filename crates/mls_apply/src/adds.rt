@@ -16,7 +16,7 @@ use crate::leaf_changes::put_shared;
 use crate::list_application::Leaves;
 use crate::list_item::ListItem;
 use mls_msgs::Proposal;
-use mls_nodes::LeafNode;
+use mls_nodes::EncodedLeaf;
 use mls_tree::{Journal, PublicTree, TreeError};
 use mls_wire::Shared;
 use std::alloc::Global;
@@ -55,7 +55,7 @@ fn put_member(
     tree: &mut PublicTree,
     journal: &mut Journal,
     start: u32,
-    leaf: &Shared<LeafNode>,
+    leaf: &Shared<EncodedLeaf>,
 ) -> Result<u32, ApplyFault>
     requires set { AreNonBlankBelow tree.old.tree start }
     requires capacity { member_count tree.old.tree < leaf_limit }
@@ -131,7 +131,7 @@ pub(crate) fn fit_adds(
     tree: &mut PublicTree,
     journal: &mut Journal,
     items: &[ListItem<'_>],
-    leaf: &Shared<LeafNode>,
+    leaf: &Shared<EncodedLeaf>,
 ) -> Result<Leaves, ApplyFault>
     requires { member_count tree.old.tree + length (new_members items.now) ≤ leaf_limit }
     ensures fit { OnOk result (IsSome (after_adds (new_members items.now) tree.old.tree)) }

@@ -11,8 +11,9 @@ use crate::list_item::ListItem;
 use crate::proposal_rules::EpochState;
 use crate::psk_list::{have_distinct_psks, is_valid_psk};
 use mls_msgs::{Commit, Proposal, ProposalOrRef, Sender};
-use mls_nodes::{CertChain, Credential, GroupContext, LeafNode};
+use mls_nodes::{CredentialBody, CredentialRef, EncodedLeaf, GroupContext};
 use mls_tree::PublicTree;
+use mls_wire::{ItemsRef, Opaque};
 use std::alloc::{AllocError, Global};
 
 /// Checks the rules for an external commit before its list is applied: there is a path, and the proposal list satisfies its
@@ -241,21 +242,21 @@ fn are_valid_psks(context: &GroupContext, items: &[ListItem<'_>]) -> bool
 }
 
 /// Returns whether two chains have equal certificates, in one order.
-fn are_same_certificates(chain: &CertChain, other: &CertChain) -> bool
+fn are_same_certificates(chain: &ItemsRef<'_, Opaque>, other: &ItemsRef<'_, Opaque>) -> bool
     ensures { result ≡ are_same_certificates chain.now other.now }
 {
     chain.is_same(other)
 }
 
 /// Returns whether two credentials are equal.
-fn is_same_credential(credential: &Credential, other: &Credential) -> bool
+fn is_same_credential(credential: &CredentialRef<'_>, other: &CredentialRef<'_>) -> bool
     ensures { result ≡ is_same_credential credential.now other.now }
 {
-    match (credential, other) {
-        (Credential::Basic(identity), Credential::Basic(other)) => {
+    match (credential.body(), other.body()) {
+        (CredentialBody::Basic(identity), CredentialBody::Basic(other)) => {
             identity.as_slice() == other.as_slice()
         }
-        (Credential::X509(chain), Credential::X509(other)) => {
+        (CredentialBody::X509(chain), CredentialBody::X509(other)) => {
             are_same_certificates(chain, other)
         }
         _ => false,
@@ -264,16 +265,16 @@ fn is_same_credential(credential: &Credential, other: &Credential) -> bool
 
 /// Returns whether a leaf node may replace a removed one. Its encryption key differs, and its credential or its signature
 /// key is equal.
-fn is_successor(old: &LeafNode, leaf: &LeafNode) -> bool
+fn is_successor(old: &EncodedLeaf, leaf: &EncodedLeaf) -> bool
     ensures { result ≡ is_successor old.now leaf.now }
 {
-    old.encryption_key.as_slice() != leaf.encryption_key.as_slice()
-        && (is_same_credential(&old.credential, &leaf.credential)
-            || old.signature_key.as_slice() == leaf.signature_key.as_slice())
+    old.encryption_key() != leaf.encryption_key()
+        && (is_same_credential(&old.credential(), &leaf.credential())
+            || old.signature_key() == leaf.signature_key())
 }
 
 /// Returns whether a leaf node may replace a removed one, if that is non-blank.
-fn is_successor_if_non_blank(old: Option<&LeafNode>, leaf: &LeafNode) -> bool
+fn is_successor_if_non_blank(old: Option<&EncodedLeaf>, leaf: &EncodedLeaf) -> bool
     ensures { result ≡ is_successor_if_non_blank (option_copied old.entry) leaf.now }
 {
     match old {
@@ -283,7 +284,7 @@ fn is_successor_if_non_blank(old: Option<&LeafNode>, leaf: &LeafNode) -> bool
 }
 
 /// Returns whether a leaf node may replace the leaf of a proposal, if it is a Remove.
-fn is_valid_if_resync(tree: &PublicTree, leaf: &LeafNode, proposal: &Proposal) -> bool
+fn is_valid_if_resync(tree: &PublicTree, leaf: &EncodedLeaf, proposal: &Proposal) -> bool
     ensures { result ≡ valid_if_resync tree.now.tree leaf.now proposal.now }
 {
     match proposal {
@@ -298,7 +299,7 @@ fn is_valid_if_resync(tree: &PublicTree, leaf: &LeafNode, proposal: &Proposal) -
 }
 
 /// Returns whether a leaf node may replace the leaf of each Remove.
-fn are_valid_resyncs(tree: &PublicTree, leaf: &LeafNode, items: &[ListItem<'_>]) -> bool
+fn are_valid_resyncs(tree: &PublicTree, leaf: &EncodedLeaf, items: &[ListItem<'_>]) -> bool
     ensures { result ≡ all_items (valid_if_resync tree.now.tree leaf.now) items.now }
 {
     items

@@ -6,7 +6,7 @@ ghost use Rattle.mls_tree.specs.TreeOperations.{put_leaf, blank_path};
 ghost use Rattle.mls_tree.specs.Journals.{before};
 
 use crate::fault::ApplyFault;
-use mls_nodes::LeafNode;
+use mls_nodes::EncodedLeaf;
 use mls_tree::{Journal, PublicTree};
 use mls_wire::{Shared, copy_of};
 use std::alloc::{AllocError, Global};
@@ -14,8 +14,8 @@ use std::alloc::{AllocError, Global};
 /// Returns the leaf node with one owner more. Does not allocate.
 pub(crate) fn leaf_of(
     alloc: Global,
-    leaf: &Shared<LeafNode>,
-) -> Result<Shared<LeafNode>, AllocError>
+    leaf: &Shared<EncodedLeaf>,
+) -> Result<Shared<EncodedLeaf>, AllocError>
     ensures { IfOk result (λ shared. shared ≡ leaf.now) }
 {
     copy_of(alloc, leaf)
@@ -27,7 +27,7 @@ pub(crate) fn put_shared(
     tree: &mut PublicTree,
     journal: &mut Journal,
     index: u32,
-    leaf: &Shared<LeafNode>,
+    leaf: &Shared<EncodedLeaf>,
 ) -> Result<(), ApplyFault>
     requires { index < leaf_count tree.old.tree }
     ensures put { OnOk result (tree.new.tree ≡ put_leaf 0 tree.old.tree index (Some leaf.now)) }

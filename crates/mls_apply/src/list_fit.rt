@@ -40,7 +40,7 @@ fn fit_items(
 {
     apply_updates(alloc, tree, journal, items)?;
     apply_removes(alloc, tree, journal, items)?;
-    let leaf = Shared::new(alloc, empty_leaf(alloc))?;
+    let leaf = Shared::new(alloc, empty_leaf(alloc)?)?;
     let answer = fit_adds(alloc, tree, journal, items, &leaf);
     drop(leaf);
     answer

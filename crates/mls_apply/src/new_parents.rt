@@ -14,7 +14,7 @@ ghost use Rattle.mls_apply.specs.PathModel.{change_of, path_parents_model};
 
 use crate::leaf_changes::blank_direct_path;
 use mls_hash::{HashFault, Suite, fill_hashes, parent_hash_of, tree_hash};
-use mls_nodes::{LeafNode, ParentNode, Unmerged};
+use mls_nodes::{EncodedLeaf, ParentNode, Unmerged};
 use mls_tree::{HashValue, Journal, Part, PublicTree};
 use mls_wire::{Opaque, Shared};
 use std::alloc::{AllocError, Global};
@@ -43,7 +43,7 @@ pub(crate) struct NewParents {
 /// The new nodes of a path: the leaf's, and the new parents above it.
 #[derive(Drop)]
 pub(crate) struct NewNodes {
-    pub(crate) leaf: Shared<LeafNode>,
+    pub(crate) leaf: Shared<EncodedLeaf>,
     pub(crate) parents: Vec<NewParent>,
 }
 

@@ -17,13 +17,13 @@ ghost use Rattle.mls_apply.specs.CommitterPathInternal.{AreNewNodes};
 use crate::committer_path::CommitterPath;
 use crate::fault::ApplyFault;
 use crate::leaf_changes::leaf_of;
-use crate::list_application::{Applied, Leaves};
+use crate::list_application::Applied;
 use crate::new_parents::{NewNodes, NewParents, PathNodeIndices, fill, new_parents, put_path};
 use crate::path_rules::{has_new_keys, have_counts};
 use mls_hash::Suite;
 use mls_index::TreeIndex;
 use mls_msgs::{PathNode, UpdatePath};
-use mls_nodes::{LeafNode, LeafSource, ParentNode};
+use mls_nodes::{LeafSource, ParentNode};
 use mls_tree::{HashValue, PublicTree, TreeError};
 use mls_wire::{Opaque, copy_of};
 use std::alloc::{AllocError, Global};
@@ -126,14 +126,14 @@ pub fn expected_parent_hashes(
 }
 
 /// Returns whether the source of a leaf node is commit (RFC 9420, 7.2).
-fn is_from_commit(source: &LeafSource) -> bool
+fn is_from_commit(source: &LeafSource<'_>) -> bool
     ensures { result ≡ is_from_commit source.now }
 {
     matches!(source, LeafSource::Commit { .. })
 }
 
 /// Returns whether the source of a leaf node is commit, with this parent hash.
-fn carries(source: &LeafSource, hash: &HashValue) -> bool
+fn carries(source: &LeafSource<'_>, hash: &HashValue) -> bool
     ensures { (hashes : List (List ℕ))
         → result ≡ has_first_parent_hash source.now (Some (hash.now ∷ hashes)) }
 {
@@ -170,7 +170,7 @@ pub(crate) fn fitting_node_indices(
     if nodes.len() != node_indices.len() {
         return Err(ApplyFault::PathLength);
     }
-    if !is_from_commit(&path.path.leaf_node.source) {
+    if !is_from_commit(&path.path.leaf_node.source()) {
         return Err(ApplyFault::PathSource);
     }
     Ok(node_indices)
@@ -243,7 +243,7 @@ fn new_nodes(
         node_indices,
     };
     let new = new_parents(alloc, suite, tree, &above, keys)?;
-    if !carries(&path.path.leaf_node.source, &new.hash) {
+    if !carries(&path.path.leaf_node.source(), &new.hash) {
         return Err(ApplyFault::PathParentHash);
     }
     let leaf = leaf_of(alloc, &path.path.leaf_node)?;

@@ -28,7 +28,7 @@ fn has_distinct_keys(alloc: Global, path: &UpdatePath) -> Result<bool, AllocErro
             return Ok(false);
         }
     }
-    Ok(keys.insert(path.leaf_node.encryption_key.as_slice())?)
+    Ok(keys.insert(path.leaf_node.encryption_key())?)
 }
 
 /// Returns whether a node of a tree whose keys the index contains has this key.
@@ -45,7 +45,7 @@ fn uses_keys(tree: &PublicTree, index: &TreeIndex, path: &UpdatePath) -> bool
     ensures { result ≡ list_any (has_key (tree_keys tree.now.tree)) (path_keys path.now) }
 {
     let nodes = path.nodes.as_slice();
-    if uses_key(tree, index, path.leaf_node.encryption_key.as_slice()) {
+    if uses_key(tree, index, path.leaf_node.encryption_key()) {
         return true;
     }
     for node in nodes {

@@ -12,7 +12,7 @@ use crate::psk_list::is_valid_psk;
 use crate::senders::is_present;
 use mls_check::{OutOfMemory, SignatureCheck, is_leaf_signed, signed};
 use mls_msgs::{KEY_PACKAGE_LABEL, KeyPackage, Proposal, ReInit, Sender, package_tbs};
-use mls_nodes::{Extensions, GroupContext, LeafNode, LeafSource, requirements_of};
+use mls_nodes::{EncodedLeaf, Extensions, GroupContext, LeafSource, requirements_of};
 use mls_tree::PublicTree;
 use mls_wire::CodecFault;
 use std::alloc::Global;
@@ -144,14 +144,14 @@ fn are_valid_extensions(alloc: Global, extensions: &Extensions) -> Result<bool, 
 }
 
 /// Returns whether the source of a leaf node is key_package (RFC 9420, 7.2).
-pub fn is_from_key_package(source: &LeafSource) -> bool
+pub fn is_from_key_package(source: &LeafSource<'_>) -> bool
     ensures { result ≡ is_from_key_package source.now }
 {
     matches!(source, LeafSource::KeyPackage(_))
 }
 
 /// Returns whether the source of a leaf node is update.
-fn is_from_update(source: &LeafSource) -> bool
+fn is_from_update(source: &LeafSource<'_>) -> bool
     ensures { result ≡ is_from_update source.now }
 {
     matches!(source, LeafSource::Update)
@@ -177,7 +177,7 @@ fn is_package_signed<C: SignatureCheck>(
         alloc,
         checker,
         suite,
-        key_package.leaf_node.signature_key.as_slice(),
+        key_package.leaf_node.signature_key(),
         KEY_PACKAGE_LABEL,
         tbs.as_slice(),
         key_package.signature.as_slice(),
@@ -192,8 +192,8 @@ fn fits_group(context: &GroupContext, key_package: &KeyPackage) -> bool
     let leaf = &key_package.leaf_node;
     key_package.version == context.version
         && key_package.cipher_suite == context.cipher_suite
-        && is_from_key_package(&leaf.source)
-        && key_package.init_key.as_slice() != leaf.encryption_key.as_slice()
+        && is_from_key_package(&leaf.source())
+        && key_package.init_key.as_slice() != leaf.encryption_key()
 }
 
 /// Returns whether a KeyPackage may be added to a group. Its signatures are checked last. What is signed of its leaf
@@ -222,18 +222,17 @@ fn is_valid_add<C: SignatureCheck>(
 
 /// Returns whether a leaf node may replace a member's current one. The signature is not checked.
 #[tactic(auto, unfolding(crate::specs::ProposalRules::fits_leaf))]
-fn fits_leaf(present: &LeafNode, leaf: &LeafNode) -> bool
+fn fits_leaf(present: &EncodedLeaf, leaf: &EncodedLeaf) -> bool
     ensures { result ≡ fits_leaf (Some present.now) leaf.now }
 {
-    is_from_update(&leaf.source)
-        && leaf.encryption_key.as_slice() != present.encryption_key.as_slice()
+    is_from_update(&leaf.source()) && leaf.encryption_key() != present.encryption_key()
 }
 
 /// A member's leaf that a proposal replaces.
 #[derive(Drop)]
 struct Replaced<'a> {
     sender: u32,
-    present: &'a LeafNode,
+    present: &'a EncodedLeaf,
 }
 
 /// Returns whether a leaf node may replace a member's current one. Its signature is checked last.
@@ -242,7 +241,7 @@ fn is_valid_update<C: SignatureCheck>(
     alloc: Global,
     context: &GroupContext,
     replaced: &Replaced<'_>,
-    leaf: &LeafNode,
+    leaf: &EncodedLeaf,
     checker: &C,
 ) -> Result<bool, OutOfMemory>
     ensures valid { IfOk result (λ valid.
@@ -269,7 +268,7 @@ fn is_valid_update_by<C: SignatureCheck>(
     alloc: Global,
     epoch: &EpochState<'_>,
     sender: Sender,
-    leaf: &LeafNode,
+    leaf: &EncodedLeaf,
     checker: &C,
 ) -> Result<bool, OutOfMemory>
     requires { IsTrue (is_present epoch.now.tree.now.tree sender) }

@@ -5,7 +5,7 @@ ghost use Rattle.mls_msgs.specs.Layout.{is_member};
 ghost use Rattle.mls_apply.specs.Senders.{is_present, is_same_sender, member_index, sender_leaf};
 
 use mls_msgs::Sender;
-use mls_nodes::LeafNode;
+use mls_nodes::EncodedLeaf;
 use mls_tree::PublicTree;
 
 /// Whether a sender is a member.
@@ -33,7 +33,7 @@ pub(crate) fn member_index(sender: Sender) -> Option<u32>
 }
 
 /// The leaf node of a sender that is a member, if it is non-blank.
-pub(crate) fn sender_leaf(tree: &PublicTree, sender: Sender) -> Option<&LeafNode>
+pub(crate) fn sender_leaf(tree: &PublicTree, sender: Sender) -> Option<&EncodedLeaf>
     ensures { option_map (λ x. x.now) result ≡ sender_leaf tree.now.tree sender }
 {
     match member_index(sender) {

@@ -13,7 +13,7 @@ use crate::leaf_changes::put_shared;
 use crate::list_item::ListItem;
 use crate::senders::member_index;
 use mls_msgs::Proposal;
-use mls_nodes::LeafNode;
+use mls_nodes::EncodedLeaf;
 use mls_tree::{Journal, PublicTree};
 use mls_wire::Shared;
 use std::alloc::Global;
@@ -25,7 +25,7 @@ fn replace_leaf(
     tree: &mut PublicTree,
     journal: &mut Journal,
     index: u32,
-    leaf: &Shared<LeafNode>,
+    leaf: &Shared<EncodedLeaf>,
 ) -> Result<(), ApplyFault>
     requires { IsSome (leaf_at 0 tree.old.tree index) }
     ensures updated { OnOk result (tree.new.tree ≡ update tree.old.tree index leaf.now) }

@@ -7,9 +7,10 @@ ghost use Rattle.mls_check.specs.LeafValidation.{is_default_extension, is_defaul
 ghost use Rattle.mls_check.specs.SortedRequirements.{requirements_of};
 
 use crate::signatures::OutOfMemory;
-use crate::sorted_codes::{has_code, sorted_codes};
+use crate::sorted_codes::{has_code, lists_code, sorted_leaf_codes};
 use crate::sorted_requirements::SortedRequirements;
-use mls_nodes::{Extensions, ExtensionsLeft, LeafNode};
+use mls_nodes::{EncodedLeaf, Extension, ExtensionsLeft};
+use mls_wire::ItemsRef;
 use std::alloc::Global;
 
 /// Returns whether an extension type is supported if these are listed. The types 1 to 5 need not be listed.
@@ -31,19 +32,19 @@ fn supports_proposal(listed: &[u16], kind: u16) -> bool
 }
 
 /// Returns whether a leaf supports a credential type.
-pub(crate) fn supports_credential(leaf: &LeafNode, kind: u16) -> bool
+pub fn supports_credential(leaf: &EncodedLeaf, kind: u16) -> bool
     ensures { result ≡ supports_credential leaf.now kind }
 {
-    leaf.capabilities.credentials.as_slice().contains(&kind)
+    lists_code(&leaf.capabilities().credentials, kind)
 }
 
 /// Returns whether the type of each of these extensions is supported if these types are listed.
-fn are_all_supported(listed: &[u16], extensions: &Extensions) -> bool
+fn are_all_supported(listed: &[u16], extensions: &ItemsRef<'_, Extension>) -> bool
     requires { IsStrictlyIncreasing listed.now }
     ensures { result ≡ list_all
         (λ e. is_default_extension e.kind || contains_code listed.now e.kind) extensions.now }
 {
-    let mut left = ExtensionsLeft::of(extensions);
+    let mut left = ExtensionsLeft::of_borrowed(extensions);
     while let Some(extension) = left.next() {
         if !supports_extension(listed, extension.kind) {
             return false;
@@ -59,48 +60,57 @@ fn are_all_supported(listed: &[u16], extensions: &Extensions) -> bool
 ///
 /// `OutOfMemory`.
 #[tactic(auto, unfolding(crate::specs::LeafValidation::supports_own_extensions))]
-pub fn supports_own_extensions(alloc: Global, leaf: &LeafNode) -> Result<bool, OutOfMemory>
+pub fn supports_own_extensions(alloc: Global, leaf: &EncodedLeaf) -> Result<bool, OutOfMemory>
     ensures { IfOk result (λ all. all ≡ supports_own_extensions leaf.now) }
 {
-    if leaf.extensions.is_empty() {
+    let fields = leaf.fields();
+    if fields.extensions.is_empty() {
         return Ok(true);
     }
-    let codes = sorted_codes(alloc, leaf.capabilities.extensions.as_slice())?;
-    Ok(are_all_supported(codes.as_slice(), &leaf.extensions))
+    let codes = sorted_leaf_codes(alloc, &fields.capabilities.extensions)?;
+    Ok(are_all_supported(codes.as_slice(), &fields.extensions))
 }
 
 /// Returns whether a leaf supports these extension types.
-fn supports_extensions(alloc: Global, leaf: &LeafNode, kinds: &[u16]) -> Result<bool, OutOfMemory>
+fn supports_extensions(
+    alloc: Global,
+    leaf: &EncodedLeaf,
+    kinds: &[u16],
+) -> Result<bool, OutOfMemory>
     ensures { IfOk result (λ all. all ≡ list_all (supports_extension leaf.now) kinds.now) }
 {
     if kinds.is_empty() {
         return Ok(true);
     }
-    let codes = sorted_codes(alloc, leaf.capabilities.extensions.as_slice())?;
+    let codes = sorted_leaf_codes(alloc, &leaf.capabilities().extensions)?;
     let listed = codes.as_slice();
     Ok(kinds.iter().all(|&kind| supports_extension(listed, kind)))
 }
 
 /// Returns whether a leaf supports these proposal types.
-fn supports_proposals(alloc: Global, leaf: &LeafNode, kinds: &[u16]) -> Result<bool, OutOfMemory>
+fn supports_proposals(alloc: Global, leaf: &EncodedLeaf, kinds: &[u16]) -> Result<bool, OutOfMemory>
     ensures { IfOk result (λ all. all ≡ list_all (supports_proposal leaf.now) kinds.now) }
 {
     if kinds.is_empty() {
         return Ok(true);
     }
-    let codes = sorted_codes(alloc, leaf.capabilities.proposals.as_slice())?;
+    let codes = sorted_leaf_codes(alloc, &leaf.capabilities().proposals)?;
     let listed = codes.as_slice();
     Ok(kinds.iter().all(|&kind| supports_proposal(listed, kind)))
 }
 
 /// Returns whether a leaf supports these credential types.
-fn supports_credentials(alloc: Global, leaf: &LeafNode, kinds: &[u16]) -> Result<bool, OutOfMemory>
+fn supports_credentials(
+    alloc: Global,
+    leaf: &EncodedLeaf,
+    kinds: &[u16],
+) -> Result<bool, OutOfMemory>
     ensures { IfOk result (λ all. all ≡ list_all (supports_credential leaf.now) kinds.now) }
 {
     if kinds.is_empty() {
         return Ok(true);
     }
-    let codes = sorted_codes(alloc, leaf.capabilities.credentials.as_slice())?;
+    let codes = sorted_leaf_codes(alloc, &leaf.capabilities().credentials)?;
     let listed = codes.as_slice();
     Ok(kinds.iter().all(|&kind| has_code(listed, kind)))
 }
@@ -115,7 +125,7 @@ fn supports_credentials(alloc: Global, leaf: &LeafNode, kinds: &[u16]) -> Result
 #[tactic(auto, unfolding(crate::specs::LeafValidation::supports_required))]
 pub fn supports_required(
     alloc: Global,
-    leaf: &LeafNode,
+    leaf: &EncodedLeaf,
     requirements: &SortedRequirements,
 ) -> Result<bool, OutOfMemory>
     ensures { IfOk result

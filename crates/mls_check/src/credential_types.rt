@@ -5,7 +5,7 @@ ghost use Rattle.mls_check.specs.LeafValidation.{FindsFailing, supports_credenti
 ghost use Rattle.mls_check.specs.LeafValidationInternal.{IsCredentialUsed};
 
 use crate::capability_support::supports_credential;
-use mls_nodes::{Credential, LeafNode};
+use mls_nodes::{CredentialBody, EncodedLeaf};
 use mls_tree::PublicTree;
 
 /// The code of basic credentials.
@@ -31,9 +31,9 @@ fn credential_types(tree: &PublicTree) -> CredentialTypes
     };
     for index in 0..tree.leaf_count() {
         if let Some(leaf) = tree.leaf(index) {
-            match leaf.credential {
-                Credential::Basic(_) => types.basic = true,
-                Credential::X509(_) => types.x509 = true,
+            match leaf.credential().body() {
+                CredentialBody::Basic(_) => types.basic = true,
+                CredentialBody::X509(_) => types.x509 = true,
             }
         }
     }
@@ -41,7 +41,7 @@ fn credential_types(tree: &PublicTree) -> CredentialTypes
 }
 
 /// Returns whether a leaf supports these types.
-fn supports_types(leaf: &LeafNode, types: &CredentialTypes) -> bool
+fn supports_types(leaf: &EncodedLeaf, types: &CredentialTypes) -> bool
     ensures { result ≡ ((not types.now.basic || supports_credential leaf.now 1) &&
         (not types.now.x509 || supports_credential leaf.now 2)) }
 {

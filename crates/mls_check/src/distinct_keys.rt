@@ -19,7 +19,7 @@ fn encryption_key_at(tree: &PublicTree, node_index: u32) -> Option<&[u8]>
     ensures { option_copied result ≡ encryption_key_at tree.now.tree node_index }
 {
     match tree.node(node_index) {
-        Some(Node::Leaf(leaf)) => Some(leaf.encryption_key.as_slice()),
+        Some(Node::Leaf(leaf)) => Some(leaf.encryption_key()),
         Some(Node::Parent(parent)) => Some(parent.encryption_key.as_slice()),
         None => None,
     }

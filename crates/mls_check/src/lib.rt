@@ -22,7 +22,7 @@ mod tree_validation;
 mod unmerged_consistency;
 mod unmerged_order;
 
-pub use capability_support::{supports_own_extensions, supports_required};
+pub use capability_support::{supports_credential, supports_own_extensions, supports_required};
 pub use credential_types::first_unsupported_credential;
 pub use distinct_keys::has_distinct_keys;
 pub use group_tree::{GroupTreeFault, validate_group_tree};

@@ -14,7 +14,7 @@ use crate::credential_types::first_unsupported_credential;
 use crate::signature_keys::first_repeated_signature_key;
 use crate::signatures::{OutOfMemory, SignatureCheck};
 use crate::sorted_requirements::SortedRequirements;
-use mls_nodes::{LeafNode, RequiredCapabilities, leaf_tbs_len, put_leaf_tbs};
+use mls_nodes::{EncodedLeaf, RequiredCapabilities, leaf_tbs_len, put_leaf_tbs};
 use mls_tree::PublicTree;
 use mls_wire::{CodecFault, Draft, MAX_BODY, Opaque};
 use std::alloc::Global;
@@ -143,7 +143,7 @@ fn put_content(
     label: &str,
     group_id: &Opaque,
     index: u32,
-    leaf: &LeafNode,
+    leaf: &EncodedLeaf,
     len: usize,
     draft: &mut Draft,
 ) -> Result<(), CodecFault>
@@ -164,7 +164,7 @@ fn is_signed_in<C: SignatureCheck>(
     suite: u16,
     group_id: &Opaque,
     index: u32,
-    leaf: &LeafNode,
+    leaf: &EncodedLeaf,
     checker: &C,
     capacity: &mut Vec<u8>,
 ) -> Result<bool, OutOfMemory>
@@ -197,8 +197,8 @@ fn is_signed_in<C: SignatureCheck>(
         Err(CodecFault::Wire(_)) => unreachable!(),
         Err(CodecFault::OutOfMemory) => return Err(OutOfMemory),
     }
-    let key = leaf.signature_key.as_slice();
-    Ok(checker.good(suite, key, capacity.as_slice(), leaf.signature.as_slice()))
+    let key = leaf.signature_key();
+    Ok(checker.good(suite, key, capacity.as_slice(), leaf.signature()))
 }
 
 /// Returns the smallest leaf index of a leaf whose signature is not good.
@@ -231,7 +231,7 @@ pub fn is_leaf_signed<C: SignatureCheck>(
     suite: u16,
     group_id: &Opaque,
     index: u32,
-    leaf: &LeafNode,
+    leaf: &EncodedLeaf,
     checker: &C,
 ) -> Result<bool, OutOfMemory>
     ensures good { IfOk result

@@ -100,7 +100,7 @@ fn linked_hash(tree: &PublicTree, node_index: u32) -> Option<&[u8]>
     ensures { option_copied result ≡ linked_hash (node_at tree.now.tree node_index) }
 {
     match tree.node(node_index) {
-        Some(Node::Leaf(leaf)) => match &leaf.source {
+        Some(Node::Leaf(leaf)) => match &leaf.source() {
             LeafSource::Commit { parent_hash } => Some(parent_hash.as_slice()),
             LeafSource::KeyPackage(_) => None,
             LeafSource::Update => None,

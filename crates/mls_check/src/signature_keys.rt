@@ -19,7 +19,7 @@ fn has_distinct_prefixes(alloc: Global, tree: &PublicTree) -> Result<bool, OutOf
     let mut prefixes = Vec::with_capacity(alloc, leaves as usize)?;
     for index in 0..leaves {
         if let Some(leaf) = tree.leaf(index) {
-            prefixes.push(key_prefix(leaf.signature_key.as_slice()))?;
+            prefixes.push(key_prefix(leaf.signature_key()))?;
         }
     }
     Ok(all_differ(prefixes))
@@ -34,7 +34,7 @@ fn first_repeated_by_set(alloc: Global, tree: &PublicTree) -> Result<Option<u32>
     let mut repeated = None;
     for index in (0..tree.leaf_count()).rev() {
         if let Some(leaf) = tree.leaf(index) {
-            if !later.insert(leaf.signature_key.as_slice())? {
+            if !later.insert(leaf.signature_key())? {
                 repeated = Some(index);
             }
         }

@@ -13,7 +13,7 @@ ghost use Rattle.std.specs.Prelude.{◌≡◌, ◌<◌, Ok, false};
 
 use mls_hash::Suite;
 use mls_msgs::{GroupInfo, Message, decode_message};
-use mls_nodes::{LeafNode, decode_leaf, encode_ratchet_tree};
+use mls_nodes::{EncodedLeaf, decode_leaf, encode_ratchet_tree};
 use mls_tree::PublicTree;
 use mls_wire::{MemorySink, MemorySource, Shared};
 use std::alloc::Global;
@@ -156,7 +156,7 @@ pub(crate) fn key_package(rt: &impl Abort, alloc: Global, member: u32) -> String
 }
 
 /// The leaf node of a text.
-pub(crate) fn leaf_node(rt: &impl Abort, alloc: Global, leaf: &str) -> Shared<LeafNode> {
+pub(crate) fn leaf_node(rt: &impl Abort, alloc: Global, leaf: &str) -> Shared<EncodedLeaf> {
     let bytes = bytes(rt, alloc, leaf);
     have(
         rt,

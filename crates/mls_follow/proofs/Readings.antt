@@ -16,7 +16,8 @@ use Rattle.mls_wire.specs.declared.fault.WireFaultKind.TheVariants.{TooLong}
 use Rattle.mls_nodes.proofs.Entries.{tree_takes, tree_again}
 use Rattle.mls_nodes.specs.ParsingInternal.{tree_at}
 use Rattle.mls_nodes.specs.RatchetTreeEncoding.{filled}
-use Rattle.mls_nodes.specs.NodeModel.{NodeValue, leaf_node, parent_node, entry_value}
+use Rattle.mls_nodes.specs.NodeModel.{NodeValue, leaf_node, parent_node}
+use Rattle.mls_nodes.specs.NodeValues.{entry_value}
 use Rattle.mls_nodes.specs.declared.node.Node.{Node}
 use Rattle.mls_nodes.specs.declared.node.Node.TheVariants.{Leaf, Parent}
 use Rattle.mls_tree.proofs.Filled.{filled_listing}

@@ -27,7 +27,7 @@ use mls_msgs::{
 };
 use mls_nodes::GroupContext;
 use mls_signatures::{may_propose, outside_key_among, signed_context};
-use mls_wire::{CodecFault, MAX_INPUT, Opaque};
+use mls_wire::{CodecFault, MAX_INPUT};
 use std::alloc::Global;
 
 /// Decodes the message of a profile whose encoding the bytes are. `Malformed` if there is none.
@@ -82,7 +82,7 @@ pub(crate) fn read_message(
 fn is_frame_signed<C: SignatureCheck>(
     alloc: Global,
     context: &GroupContext,
-    key: &Opaque,
+    key: &[u8],
     auth: &Authenticated,
     checker: &C,
 ) -> Result<bool, OutOfMemory>
@@ -99,7 +99,7 @@ fn is_frame_signed<C: SignatureCheck>(
         alloc,
         checker,
         context.cipher_suite,
-        key.as_slice(),
+        key,
         CONTENT_LABEL,
         tbs.as_slice(),
         auth.signature().as_slice(),
@@ -154,7 +154,7 @@ pub(crate) fn check_member_frame<C: SignatureCheck>(
     if let Content::Application(_) = auth.content().content {
         return Err(Refusal::NotHandshake);
     }
-    if !is_frame_signed(alloc, &group.context, &leaf.signature_key, auth, checker)? {
+    if !is_frame_signed(alloc, &group.context, leaf.signature_key(), auth, checker)? {
         return Err(Refusal::BadSignature);
     }
     Ok(())
@@ -168,7 +168,7 @@ fn check_outside_content<'a, C: SignatureCheck>(
     group: &Group,
     checker: &C,
     auth: &'a Authenticated,
-    key: Option<&Opaque>,
+    key: Option<&[u8]>,
 ) -> Result<&'a Proposal, Refusal>
     ensures proposal { IfOk result (λ p. auth.now.content.content ≡ contents.Proposal p.now) }
     ensures rules_hold { let signature_key = option_map (λ k. k.now) key.entry in
@@ -199,7 +199,7 @@ fn check_outside_content<'a, C: SignatureCheck>(
 }
 
 /// Returns whether a key is missing that an external sender must have.
-fn is_unknown_external(sender: Sender, key: Option<&Opaque>) -> bool
+fn is_unknown_external(sender: Sender, key: Option<&[u8]>) -> bool
     ensures { result ≡ lacks_key sender (option_map (λ k. k.now) key.entry) }
 {
     match sender {
@@ -259,7 +259,7 @@ pub(crate) fn check_joiner_frame<'a, C: SignatureCheck>(
     let Some(path) = &commit.path else {
         return Err(Refusal::PathMissing);
     };
-    let key = &path.leaf_node.signature_key;
+    let key = path.leaf_node.signature_key();
     if !is_frame_signed(alloc, &group.context, key, auth, checker)? {
         return Err(Refusal::BadSignature);
     }

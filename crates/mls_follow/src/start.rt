@@ -20,7 +20,7 @@ use mls_apply::StagedTree;
 use mls_check::{OutOfMemory, SignatureCheck, signed};
 use mls_hash::Suite;
 use mls_msgs::{GROUP_INFO_LABEL, GroupInfo, info_tbs};
-use mls_nodes::{ExternalSenders, LeafNode, NodeFault, RequiredCapabilities, find_extension};
+use mls_nodes::{EncodedLeaf, ExternalSenders, NodeFault, RequiredCapabilities, find_extension};
 use mls_signatures::senders_of;
 use mls_tree::{HashValue, PublicTree};
 use mls_wire::CodecFault;
@@ -96,7 +96,7 @@ pub fn tree_in(alloc: Global, info: &GroupInfo) -> Result<PublicTree, StartFault
 fn is_info_signed<C: SignatureCheck>(
     alloc: Global,
     info: &GroupInfo,
-    signer: &LeafNode,
+    signer: &EncodedLeaf,
     checker: &C,
 ) -> Result<bool, OutOfMemory>
     ensures { IfOk result (λ good. good ≡ is_info_signed
@@ -111,7 +111,7 @@ fn is_info_signed<C: SignatureCheck>(
         alloc,
         checker,
         info.context.cipher_suite,
-        signer.signature_key.as_slice(),
+        signer.signature_key(),
         GROUP_INFO_LABEL,
         tbs.as_slice(),
         info.signature.as_slice(),

@@ -10,7 +10,8 @@ use Rattle.mls_wire.specs.EncodingConcat.{joined, join}
 use Rattle.mls_wire.specs.IntegersExact.{number_made, byte_made}
 use Rattle.mls_nodes.specs.declared.leaf.LeafNode.{LeafNode}
 use Rattle.mls_nodes.specs.Layout.{node, leaf as leaf_encoding}
-use Rattle.mls_nodes.specs.NodeModel.{NodeValue, leaf_node, node_value, entry_value}
+use Rattle.mls_nodes.specs.NodeModel.{NodeValue, leaf_node}
+use Rattle.mls_nodes.specs.NodeValues.{node_value, entry_value}
 use Rattle.mls_nodes.specs.declared.node.Node.{Node}
 use Rattle.mls_wire.specs.OptionalsExact.{optional_long}
 use Rattle.mls_wire.specs.ListLoops.{with_front}

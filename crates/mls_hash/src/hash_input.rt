@@ -16,7 +16,7 @@ use crate::digest::hash;
 use crate::fault::HashFault;
 use crate::leaf_set::LeafSet;
 use crate::suite::Suite;
-use mls_nodes::{LeafNode, ParentNode, write_leaf};
+use mls_nodes::{EncodedLeaf, ParentNode, write_leaf};
 use mls_tree::HashValue;
 use mls_wire::{CodecFault, Writer};
 use std::alloc::{AllocError, Global};
@@ -25,7 +25,7 @@ use std::alloc::{AllocError, Global};
 #[tactic(auto, using(mls_wire::specs::WriteSequences::written), unfolding(mls_wire::specs::Encoding::optional, mls_wire::specs::Encoding::flag))]
 fn write_optional_leaf(
     alloc: Global,
-    node: Option<&LeafNode>,
+    node: Option<&EncodedLeaf>,
     writer: &mut Writer,
 ) -> Result<(), CodecFault>
     ensures { WritesText (encoding.optional layout.leaf (option_copied node.entry)) writer.old
@@ -45,7 +45,7 @@ fn write_optional_leaf(
 fn write_leaf_input(
     alloc: Global,
     number: u32,
-    node: Option<&LeafNode>,
+    node: Option<&EncodedLeaf>,
     writer: &mut Writer,
 ) -> Result<(), CodecFault>
     ensures { WritesText (leaf_tree_hash_input number (option_copied node.entry)) writer.old writer.new
@@ -172,7 +172,7 @@ fn write_parent_input(
 }
 
 /// Returns the length of a leaf node after the byte before an optional value, 0 if it is blank.
-fn length_of_leaf(node: Option<&LeafNode>) -> u64
+fn length_of_leaf(node: Option<&EncodedLeaf>) -> u64
     ensures length { MatchOption (option_copied node.entry) (result ≡ 0)
         (λ x. option_map length (layout.leaf x) ≡ Some result) }
     ensures small { result ≤ 2 ^ 40 }
@@ -216,7 +216,7 @@ pub(crate) fn hash_leaf(
     alloc: Global,
     suite: Suite,
     number: u32,
-    node: Option<&LeafNode>,
+    node: Option<&EncodedLeaf>,
     writer: &mut Writer,
 ) -> Result<HashValue, HashFault>
     ensures { HashesText (option_map (hash_of suite)

@@ -11,7 +11,7 @@ use crate::fault::HashFault;
 use crate::hash_input::{hash_leaf, hash_parent};
 use crate::leaf_set::{LeafSet, sorted};
 use crate::suite::Suite;
-use mls_nodes::LeafNode;
+use mls_nodes::EncodedLeaf;
 use mls_tree::{HashValue, Part, PublicTree};
 use mls_wire::Writer;
 use std::alloc::Global;
@@ -19,9 +19,9 @@ use std::alloc::Global;
 /// Returns the node of a leaf. `None` if it is blank or in the set.
 pub(crate) fn kept_leaf<'a>(
     index: u32,
-    node: Option<&'a LeafNode>,
+    node: Option<&'a EncodedLeaf>,
     left_out: &LeafSet<'_>,
-) -> Option<&'a LeafNode>
+) -> Option<&'a EncodedLeaf>
     ensures { option_copied result ≡ stripped_leaf left_out.now index (option_copied node.entry) }
 {
     if left_out.contains(index) { None } else { node }

@@ -9,7 +9,7 @@ use mls_check::{
     OutOfMemory, SignatureCheck, SortedRequirements, is_leaf_signed, supports_own_extensions,
     supports_required,
 };
-use mls_nodes::{GroupContext, LeafNode, RequiredCapabilities};
+use mls_nodes::{EncodedLeaf, GroupContext, RequiredCapabilities};
 use mls_tree::PublicTree;
 use std::alloc::Global;
 
@@ -46,7 +46,7 @@ fn satisfies<C: SignatureCheck>(
     rules: &LeafRules<'_, C>,
     rule: LeafRule,
     index: u32,
-    leaf: &LeafNode,
+    leaf: &EncodedLeaf,
 ) -> Result<bool, OutOfMemory>
     ensures { IfOk result (λ kept. kept ≡ leaf_rule (C.meaning rules.now.checker.now)
         rules.now.context.now rules.now.required.now rule index leaf.now) }

@@ -5,7 +5,8 @@ ghost use Rattle.mls_tree.specs.Tree.{leaf_at};
 ghost use Rattle.mls_index.specs.LeafCredentials.{LeafClass, class_of, blank_class, class_at};
 ghost use Rattle.mls_index.specs.LeafCredentialsInternal.{support_each_other, lacks_used, FindsLacking};
 
-use mls_nodes::{Credential, LeafNode};
+use mls_check::supports_credential;
+use mls_nodes::{CredentialBody, EncodedLeaf};
 use mls_tree::PublicTree;
 use std::alloc::{AllocError, Global};
 
@@ -38,20 +39,19 @@ impl LeafClass {
     }
 
     /// Returns the class of a non-blank leaf.
-    fn of(leaf: &LeafNode) -> LeafClass
+    fn of(leaf: &EncodedLeaf) -> LeafClass
         ensures { result ≡ class_of (Some leaf.now) }
     {
-        let supported = leaf.capabilities.credentials.as_slice();
-        let lacks_basic = !supported.contains(&BASIC);
-        let lacks_x509 = !supported.contains(&X509);
-        match leaf.credential {
-            Credential::Basic(_) => LeafClass {
+        let lacks_basic = !supports_credential(leaf, BASIC);
+        let lacks_x509 = !supports_credential(leaf, X509);
+        match leaf.credential().body() {
+            CredentialBody::Basic(_) => LeafClass {
                 has_basic: true,
                 has_x509: false,
                 lacks_basic,
                 lacks_x509,
             },
-            Credential::X509(_) => LeafClass {
+            CredentialBody::X509(_) => LeafClass {
                 has_basic: false,
                 has_x509: true,
                 lacks_basic,

@@ -26,8 +26,8 @@ pub(crate) fn key_at_node(tree: &PublicTree, kind: KeyKind, node_index: u32) -> 
 {
     match tree.node(node_index) {
         Some(Node::Leaf(leaf)) => match kind {
-            KeyKind::Encryption => Some(leaf.encryption_key.as_slice()),
-            KeyKind::Signature => Some(leaf.signature_key.as_slice()),
+            KeyKind::Encryption => Some(leaf.encryption_key()),
+            KeyKind::Signature => Some(leaf.signature_key()),
         },
         Some(Node::Parent(parent)) => match kind {
             KeyKind::Encryption => Some(parent.encryption_key.as_slice()),

@@ -10,7 +10,7 @@ use Rattle.mls_wire.specs.Input.{Input, at}
 use Rattle.mls_wire.specs.Parsing.{◌>>=◌, number_at, vector_at, body_at, items_at, list_at}
 use Rattle.mls_wire.specs.ParsingInternal.{optional_at}
 use Rattle.mls_wire.specs.ListLoops.{with_front, shortens, items_go_on, items_end}
-use Rattle.mls_nodes.specs.ParsingInternal.{leaf_node_at, extension_at}
+use Rattle.mls_nodes.specs.LeafParsing.{leaf_node_at, extension_at}
 use Rattle.mls_msgs.specs.Layout.{is_commit, is_member, proposal, proposal_or_ref}
 use Rattle.mls_msgs.specs.Authenticated.{authenticated_content}
 use Rattle.mls_msgs.specs.AuthenticatedExact.{authenticated_content_exact}

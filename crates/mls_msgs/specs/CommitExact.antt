@@ -10,7 +10,7 @@ use Rattle.mls_wire.specs.ListsExact.{list_exact, list_long}
 use Rattle.mls_wire.specs.OptionalsExact.{optional_exact}
 use Rattle.mls_wire.specs.EncodingConcat.{long_left}
 use Rattle.mls_nodes.specs.Layout.{leaf}
-use Rattle.mls_nodes.specs.ParsingInternal.{leaf_node_at}
+use Rattle.mls_nodes.specs.LeafParsing.{leaf_node_at}
 use Rattle.mls_nodes.specs.NodesExact.{leaf_exact, leaf_long}
 use Rattle.mls_msgs.specs.Layout.{proposal_or_ref, ciphertext, path_node, update_path, commit}
 use Rattle.mls_msgs.specs.Ciphertext.{ciphertext_at}

@@ -20,7 +20,8 @@ use Rattle.mls_wire.specs.VectorsExact.{vector_exact}
 use Rattle.mls_wire.specs.WriteSequences.{none_second}
 use Rattle.mls_nodes.specs.Extension.{extension}
 use Rattle.mls_nodes.specs.Layout.{group_context}
-use Rattle.mls_nodes.specs.ParsingInternal.{extension_at, group_context_at}
+use Rattle.mls_nodes.specs.ParsingInternal.{group_context_at}
+use Rattle.mls_nodes.specs.LeafParsing.{extension_at}
 use Rattle.mls_nodes.specs.NodesExact.{extensions_exact, group_context_exact, group_context_long}
 use Rattle.mls_wire.specs.ReadContracts.{DecodesInput}
 use Rattle.mls_msgs.specs.Layout.{key_package, group_info}

@@ -5,7 +5,8 @@ use Rattle.std.specs.Int.{w8, w16, w32, w64}
 use Rattle.mls_wire.specs.Input.{Input}
 use Rattle.mls_wire.specs.Parsing.{◌>>=◌, number_at, vector_at, list_at}
 use Rattle.mls_wire.specs.ParsingInternal.{optional_at}
-use Rattle.mls_nodes.specs.ParsingInternal.{extension_at, leaf_node_at, group_context_at}
+use Rattle.mls_nodes.specs.ParsingInternal.{group_context_at}
+use Rattle.mls_nodes.specs.LeafParsing.{extension_at, leaf_node_at}
 use Rattle.mls_msgs.specs.Ciphertext.{ciphertext_at}
 use Rattle.mls_msgs.specs.declared.key_package.KeyPackage.{KeyPackage}
 use Rattle.mls_msgs.specs.declared.proposal.Proposal.{Proposal}

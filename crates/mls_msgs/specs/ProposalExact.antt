@@ -10,7 +10,7 @@ use Rattle.mls_wire.specs.VectorsExact.{vector_exact}
 use Rattle.mls_wire.specs.EncodingConcat.{long_left}
 use Rattle.mls_nodes.specs.Extension.{extension}
 use Rattle.mls_nodes.specs.Layout.{leaf}
-use Rattle.mls_nodes.specs.ParsingInternal.{extension_at, leaf_node_at}
+use Rattle.mls_nodes.specs.LeafParsing.{extension_at, leaf_node_at}
 use Rattle.mls_nodes.specs.NodesExact.{extensions_exact, leaf_exact}
 use Rattle.mls_msgs.specs.Layout.{key_package, psk_id, reinit, proposal, proposal_or_ref}
 use Rattle.mls_msgs.specs.Parsing.{key_package_at, psk_id_at, reinit_at, proposal_at, proposal_or_ref_at}

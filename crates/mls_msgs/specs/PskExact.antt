@@ -10,7 +10,7 @@ use Rattle.mls_wire.specs.IntegersExact.{wide8, wide16, wide64, number_exact, nu
 use Rattle.mls_wire.specs.VectorsExact.{vector_exact, vector_long}
 use Rattle.mls_wire.specs.EncodingConcat.{long_left}
 use Rattle.mls_nodes.specs.Extension.{extension}
-use Rattle.mls_nodes.specs.ParsingInternal.{extension_at}
+use Rattle.mls_nodes.specs.LeafParsing.{extension_at}
 use Rattle.mls_nodes.specs.NodesExact.{extensions_exact}
 use Rattle.mls_msgs.specs.Layout.{psk_usage, psk_kind, psk_id, reinit}
 use Rattle.mls_msgs.specs.Parsing.{psk_usage_at, resumption_at, psk_kind_at, psk_id_at, reinit_at}

@@ -2,7 +2,7 @@
 
 use crate::ciphertexts::Ciphertexts;
 use crate::proposal::ProposalOrRef;
-use mls_nodes::LeafNode;
+use mls_nodes::EncodedLeaf;
 use mls_wire::{
     BoxedOpaque, CodecFault, Decode, Draft, Encode, Reader, Sequence, Shared, add_sizes,
 };
@@ -24,7 +24,7 @@ pub type PathNodes = Sequence<PathNode>;
 #[derive(Debug, Drop)]
 pub struct UpdatePath {
     /// The committer's new leaf node.
-    pub leaf_node: Shared<LeafNode>,
+    pub leaf_node: Shared<EncodedLeaf>,
     /// The new parent nodes on the filtered direct path, lowest first.
     pub nodes: PathNodes,
 }

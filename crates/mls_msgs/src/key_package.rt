@@ -1,6 +1,6 @@
 //! KeyPackage.
 
-use mls_nodes::{Extensions, LeafNode};
+use mls_nodes::{EncodedLeaf, Extensions};
 use mls_wire::{CodecFault, Decode, Draft, Encode, Opaque, Reader, Shared, TryClone, add_sizes};
 use std::alloc::Global;
 
@@ -14,7 +14,7 @@ pub struct KeyPackage {
     /// The public key that a Welcome is encrypted to.
     pub init_key: Opaque,
     /// The leaf node that is added to the tree.
-    pub leaf_node: Shared<LeafNode>,
+    pub leaf_node: Shared<EncodedLeaf>,
     /// The extensions of the KeyPackage.
     pub extensions: Extensions,
     /// The signature over the KeyPackageTBS.

@@ -13,7 +13,7 @@ use crate::key_package::KeyPackage;
 use crate::pre_shared_key::PreSharedKeyId;
 use crate::profile::{Profile, check_proposal, fault_found};
 use crate::reinit::ReInit;
-use mls_nodes::{Extensions, LeafNode};
+use mls_nodes::{EncodedLeaf, Extensions};
 use mls_wire::{
     BoxedOpaque, CodecFault, Decode, Draft, Encode, Opaque, Reader, Shared, TryClone, add_sizes,
     bytes_of, read_all_of,
@@ -27,7 +27,7 @@ pub enum Proposal {
     /// Type 1: adds the client with this KeyPackage (RFC 9420, 12.1.1).
     Add(Boxed<KeyPackage>),
     /// Type 2: replaces the sender's leaf node by this one (RFC 9420, 12.1.2).
-    Update(Shared<LeafNode>),
+    Update(Shared<EncodedLeaf>),
     /// Type 3: removes the member at this leaf index (RFC 9420, 12.1.3).
     Remove(u32),
     /// Type 7: replaces the extensions of the GroupContext by these (RFC 9420, 12.1.7).

@@ -13,7 +13,8 @@ use Rattle.mls_wire.specs.ExactParsers.{IsExact}
 use Rattle.mls_wire.specs.OptionBind.{bind_some, some_is, allowed}
 use Rattle.mls_wire.specs.VectorsExact.{body_takes, body_again}
 use Rattle.mls_nodes.specs.NodesExact.{node_exact}
-use Rattle.mls_nodes.specs.NodeModel.{NodeValue, leaf_node, parent_node, entry_value}
+use Rattle.mls_nodes.specs.NodeModel.{NodeValue, leaf_node, parent_node}
+use Rattle.mls_nodes.specs.NodeValues.{entry_value}
 use Rattle.mls_nodes.specs.Layout.{node}
 use Rattle.mls_nodes.specs.RatchetTreeEncoding.{fits_at, fit_from, has_valid_layout, ends_non_blank, ratchet_tree}
 use Rattle.std.specs.Prelude.{IfOk, IfErr}
@@ -22,7 +23,8 @@ use Rattle.std.proofs.lemmas.List.{map_push}
 use Rattle.mls_wire.specs.ReadContracts.{seen}
 use Rattle.mls_nodes.specs.RatchetTreeEncoding.{full_from, full_size, filled}
 use Rattle.mls_nodes.specs.FilledTree.{full_from-doubles}
-use Rattle.mls_nodes.specs.ParsingInternal.{node_model_at, node_in, leaf_node_at, parent_node_at, well_laid_out, tree_at}
+use Rattle.mls_nodes.specs.ParsingInternal.{node_model_at, node_in, parent_node_at, well_laid_out, tree_at}
+use Rattle.mls_nodes.specs.LeafParsing.{leaf_node_at}
 use Rattle.mls_nodes.specs.RatchetTreeContracts.{DecodesTree}
 use Rattle.mls_nodes.specs.declared.leaf.LeafNode.{LeafNode}
 use Rattle.mls_nodes.specs.declared.parent.ParentNode.{ParentNode}

@@ -15,7 +15,7 @@ use Rattle.mls_wire.specs.OptionBind.{some_is}
 use Rattle.mls_wire.specs.StoredItems.{first_of, none_left_of}
 use Rattle.mls_nodes.specs.Extension.{extension}
 use Rattle.mls_nodes.specs.NodesExact.{extension_exact, extension_long}
-use Rattle.mls_nodes.specs.ParsingInternal.{extension_at}
+use Rattle.mls_nodes.specs.LeafParsing.{extension_at}
 use Rattle.mls_nodes.specs.ExtensionsLeft.{extensions_left, extensions_in}
 use Rattle.mls_nodes.specs.declared.extension.Extension.{Extension}
 

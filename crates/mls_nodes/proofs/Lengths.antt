@@ -1,23 +1,20 @@
 -- How many bytes the parts of nodes take.
-use Rattle.std.proofs.Common.{◌≡◌, ℕ, suc, ◌+◌, ◌*◌, ◌^◌, ◌<◌, ◌≤◌, List, [], ◌∷◌, length, take, get_or, Option, Some, refl, sym, ap, ◌∙◌, arith}
+use Rattle.std.proofs.Common.{◌≡◌, ℕ, suc, ◌+◌, ◌*◌, ◌^◌, ◌<◌, ◌≤◌, List, [], ◌∷◌, length, get_or, Option, Some, refl, sym, ap, ◌∙◌, arith}
 use Rattle.std.proofs.lemmas.Bool.{le-leb}
-use Rattle.std.specs.Prelude.{option_map, IsSome}
-use Rattle.std.specs.Int.{w8, w16, w32, w64}
+use Rattle.std.specs.Prelude.{option_map}
+use Rattle.std.specs.Int.{w16, w32, w64}
 use Rattle.mls_wire.specs.Encoding.{◌⊕◌, number, length_form, vector, sized, items, list}
-use Rattle.mls_wire.specs.OptionBind.{some_is}
-use Rattle.mls_wire.specs.IntegersExact.{wide8, wide16, wide32, wide64}
+use Rattle.mls_wire.specs.IntegersExact.{wide16, wide32, wide64}
 use Rattle.mls_wire.specs.LengthsExact.{form_1, form_2, form_4}
-use Rattle.mls_wire.specs.EncodedSizes.{list_some, some_size, number_size}
+use Rattle.mls_wire.specs.EncodedSizes.{some_size, number_size}
 use Rattle.mls_wire.specs.WriteSequences.{size_then, sized_makes}
-use Rattle.mls_nodes.specs.declared.credential.Credential.TheVariants.{Basic, X509}
 use Rattle.mls_nodes.specs.declared.leaf_source.LeafSource.TheVariants.{KeyPackage, Update, Commit}
 use Rattle.mls_nodes.specs.declared.leaf_source.Lifetime.{Lifetime}
-use Rattle.mls_nodes.specs.declared.capabilities.Capabilities.{Capabilities}
 use Rattle.mls_nodes.specs.declared.leaf.LeafNode.{LeafNode}
 use Rattle.mls_nodes.specs.declared.parent.ParentNode.{ParentNode}
 use Rattle.mls_nodes.specs.declared.context.GroupContext.{GroupContext}
 use Rattle.mls_nodes.specs.Extension.{extension}
-use Rattle.mls_nodes.specs.Layout.{credential, codes, capabilities, lifetime, source, leaf, unsigned_leaf, unmerged, parent, group_context}
+use Rattle.mls_nodes.specs.Layout.{unsigned_leaf, unmerged, parent, group_context}
 use Rattle.mls_nodes.specs.LeafNodeTBS.{tbs_suffix, leaf_tbs}
 
 -- a text has a length
@@ -27,9 +24,6 @@ HasLength text n = option_map length text ≡ Some n
 -- one text after another
 pub after_each : (a b : Option (List ℕ)) (m n k : ℕ) → HasLength a m → HasLength b n → k ≡ m + n → HasLength (a ⊕ b) k
 after_each a b m n k e f s = size_then a b m n e f ∙ ap (λ (x : ℕ). Some x) (sym s)
-
-pub number_w8 : (n : ℕ) → n < 2 ^ 8 → HasLength (number w8 n) 1
-number_w8 n lt = sym (number_size w8 wide8 n lt)
 
 pub number_w16 : (n : ℕ) → n < 2 ^ 16 → HasLength (number w16 n) 2
 number_w16 n lt = sym (number_size w16 wide16 n lt)
@@ -54,22 +48,6 @@ pub list_has : {A : Type 0} (s : A → Option (List ℕ)) (xs : List A) (body k 
 unfolding list
 list_has s xs body k n e f g = sized_has (items s xs) body k n e f g
 
--- numbers of two bytes each
-pub numbers16_have : (xs : List ℕ) → ((i : ℕ) → get_or xs i 0 < 2 ^ 16) → HasLength (items (number w16) xs) (2 * length xs)
-unfolding items
-numbers16_have [] h = refl
-numbers16_have (x ∷ xs) h = after_each (number w16 x) (items (number w16) xs) 2 (2 * length xs) _ (number_w16 x (h 0)) (numbers16_have xs (λ i. h (suc i))) (omega arith)
-
-pub codes_within : (xs : List ℕ) → ((i : ℕ) → get_or xs i 0 < 2 ^ 16) → IsSome (list (number w16) xs) → 2 * length xs ≤ 1073741823
-codes_within xs h some =
-    let a = list_some (number w16) xs some in
-    let t = some_size (items (number w16) xs) (2 * length xs) (numbers16_have xs h) in
-    let same = some_is _ _ (sym a.1 ∙ t.1) in
-    omega (arith, a.2, t.2, ap length same)
-
-pub codes_have : (xs : List ℕ) (k n : ℕ) → ((i : ℕ) → get_or xs i 0 < 2 ^ 16) → HasLength (length_form (2 * length xs)) k → n ≡ k + 2 * length xs → HasLength (list (number w16) xs) n
-codes_have xs k n h e s = list_has (number w16) xs (2 * length xs) k n (numbers16_have xs h) e s
-
 -- numbers of four bytes each
 pub numbers_have : (xs : List ℕ) → ((i : ℕ) → get_or xs i 0 < 2 ^ 32) → HasLength (items (number w32) xs) (4 * length xs)
 unfolding items
@@ -79,45 +57,6 @@ numbers_have (x ∷ xs) h = after_each (number w32 x) (items (number w32) xs) 4 
 pub unmerged_has : (xs : List ℕ) (k n : ℕ) → length xs ≤ 1048576 → ((i : ℕ) → get_or xs i 0 < 2 ^ 32) → HasLength (length_form (4 * length xs)) k → n ≡ k + 4 * length xs → HasLength (unmerged xs) n
 unfolding unmerged
 unmerged_has xs k n le h e s = rw (le-leb (length xs) 1048576 le) (list_has (number w32) xs (4 * length xs) k n (numbers_have xs h) e s)
-
-pub basic_has : (identity : List ℕ) (n : ℕ) → HasLength (vector identity) n → HasLength (credential (Basic identity)) (2 + n)
-unfolding credential
-basic_has identity n e = after_each (number w16 1) (vector identity) 2 n (2 + n) (number_w16 1 (omega arith)) e refl
-
-pub x509_has : (chain : List (List ℕ)) (n : ℕ) → HasLength (list vector chain) n → HasLength (credential (X509 chain)) (2 + n)
-unfolding credential
-x509_has chain n e = after_each (number w16 2) (list vector chain) 2 n (2 + n) (number_w16 2 (omega arith)) e refl
-
-pub capabilities_have : (c : Capabilities) (a b d e f n : ℕ)
-    → HasLength (codes c.versions) a → HasLength (codes c.cipher_suites) b → HasLength (codes c.extensions) d → HasLength (codes c.proposals) e
-    → HasLength (codes c.credentials) f → n ≡ a + b + d + e + f → HasLength (capabilities c) n
-unfolding capabilities
-capabilities_have c a b d e f n pa pb pd pe pf s =
-    after_each _ _ a (b + (d + (e + f))) n pa (after_each _ _ b (d + (e + f)) _ pb (after_each _ _ d (e + f) _ pd (after_each _ _ e f _ pe pf refl) refl) refl) (omega arith)
-
-pub key_package_has : (l : Lifetime) → l.not_before < 2 ^ 64 → l.not_after < 2 ^ 64 → HasLength (source (KeyPackage l)) 17
-unfolding source lifetime
-key_package_has l a b =
-    after_each (number w8 1) _ 1 16 17 (number_w8 1 (omega arith)) (after_each (number w64 l.not_before) (number w64 l.not_after) 8 8 16 (number_w64 l.not_before a) (number_w64 l.not_after b) refl) refl
-
-pub update_has : HasLength (source Update) 1
-unfolding source
-update_has = number_w8 2 (omega arith)
-
-pub commit_has : (hash : List ℕ) (n : ℕ) → HasLength (vector hash) n → HasLength (source (Commit hash)) (1 + n)
-unfolding source
-commit_has hash n e = after_each (number w8 3) (vector hash) 1 n (1 + n) (number_w8 3 (omega arith)) e refl
-
-pub leaf_has : (x : LeafNode) (a b c d e f g n : ℕ)
-    → HasLength (vector x.encryption_key) a → HasLength (vector x.signature_key) b → HasLength (credential x.credential) c → HasLength (capabilities x.capabilities) d
-    → HasLength (source x.source) e → HasLength (list extension x.extensions) f → HasLength (vector x.signature) g
-    → n ≡ a + b + c + d + e + f + g → HasLength (leaf x) n
-unfolding leaf
-leaf_has x a b c d e f g n pa pb pc pd pe pf pg s =
-    after_each _ _ a (b + (c + (d + (e + (f + g))))) n pa
-    (after_each _ _ b (c + (d + (e + (f + g)))) _ pb
-    (after_each _ _ c (d + (e + (f + g))) _ pc (after_each _ _ d (e + (f + g)) _ pd (after_each _ _ e (f + g) _ pe (after_each _ _ f g _ pf pg refl) refl) refl) refl) refl)
-    (omega arith)
 
 pub parent_has : (x : ParentNode) (a b c n : ℕ)
     → HasLength (vector x.encryption_key) a → HasLength (vector x.parent_hash) b → HasLength (unmerged x.unmerged) c → n ≡ a + b + c → HasLength (parent x) n
@@ -152,17 +91,10 @@ pub suffix_of_commit : (hash group_id : List ℕ) (i n : ℕ) → i < 2 ^ 32 →
 unfolding tbs_suffix
 suffix_of_commit hash group_id i n lt e = suffix_number group_id i n lt e
 
-pub tbs_has : (x : LeafNode) (group_id : List ℕ) (i a b c d e f g n : ℕ)
-    → HasLength (vector x.encryption_key) a → HasLength (vector x.signature_key) b → HasLength (credential x.credential) c → HasLength (capabilities x.capabilities) d
-    → HasLength (source x.source) e → HasLength (list extension x.extensions) f → HasLength (tbs_suffix x.source group_id i) g
-    → n ≡ a + b + c + d + e + f + g → HasLength (leaf_tbs x group_id i) n
-unfolding leaf_tbs unsigned_leaf
-tbs_has x group_id i a b c d e f g n pa pb pc pd pe pf pg s =
-    after_each _ _ (a + (b + (c + (d + (e + f))))) g n
-    (after_each _ _ a (b + (c + (d + (e + f)))) _ pa
-    (after_each _ _ b (c + (d + (e + f))) _ pb (after_each _ _ c (d + (e + f)) _ pc (after_each _ _ d (e + f) _ pd (after_each _ _ e f _ pe pf refl) refl) refl) refl) refl)
-    pg
-    (omega arith)
+pub tbs_has : (x : LeafNode) (group_id : List ℕ) (i a g n : ℕ) → HasLength (unsigned_leaf x) a → HasLength (tbs_suffix x.source group_id i) g → n ≡ a + g
+    → HasLength (leaf_tbs x group_id i) n
+unfolding leaf_tbs
+tbs_has x group_id i a g n pa pg s = after_each (unsigned_leaf x) (tbs_suffix x.source group_id i) a g n pa pg s
 
 pub prefix_1 : (n : ℕ) → n < 64 → HasLength (length_form n) 1
 prefix_1 n lt = ap (option_map length) (form_1 n lt)

@@ -1,6 +1,7 @@
 pub mod Entries
 pub mod RestOfTree
 pub mod OwnedBytes
+pub mod StoredLeaves
 pub mod Limits
 mod SortedLists
 pub mod Trimming
@@ -9,3 +10,4 @@ pub mod Drafted
 pub mod RequiredOnce
 pub mod SendersOnce
 mod ExtensionsInInput
+mod CodesInBytes

@@ -9,7 +9,8 @@ use Rattle.mls_wire.specs.EncodingConcat.{joined}
 use Rattle.mls_wire.specs.OptionBind.{some_is}
 use Rattle.mls_wire.specs.VectorsExact.{body_takes}
 use Rattle.mls_nodes.specs.Layout.{node}
-use Rattle.mls_nodes.specs.NodeModel.{NodeValue, entry_value}
+use Rattle.mls_nodes.specs.NodeModel.{NodeValue}
+use Rattle.mls_nodes.specs.NodeValues.{entry_value}
 use Rattle.mls_nodes.specs.RatchetTreeEncoding.{ratchet_tree}
 use Rattle.mls_nodes.proofs.RestOfTree.{rest_whole}
 use Rattle.mls_nodes.specs.ParsingInternal.{rest_at, reader_model, unread_model}

@@ -11,7 +11,8 @@ use Rattle.mls_wire.specs.ListLoops.{with_front, items_stop, items_go_on, items_
 use Rattle.mls_wire.specs.ListsExact.{items_some}
 use Rattle.mls_wire.specs.OptionalsExact.{optional_exact}
 use Rattle.mls_nodes.specs.NodesExact.{node_exact}
-use Rattle.mls_nodes.specs.NodeModel.{NodeValue, entry_value}
+use Rattle.mls_nodes.specs.NodeModel.{NodeValue}
+use Rattle.mls_nodes.specs.NodeValues.{entry_value}
 use Rattle.mls_nodes.specs.Layout.{node}
 use Rattle.mls_nodes.specs.RatchetTreeEncoding.{fits_at, fit_from, ends_non_blank, ratchet_tree}
 use Rattle.mls_nodes.specs.FilledTree.{ends_more}

@@ -29,7 +29,8 @@ use Rattle.mls_nodes.proofs.Entries.{both_none, stand_push, stand_more}
 use Rattle.mls_nodes.specs.declared.node.Node.{Node}
 use Rattle.mls_nodes.specs.declared.fault.NodeFault.{NodeFault}
 use Rattle.mls_nodes.specs.declared.fault.NodeFault.TheVariants as nodes
-use Rattle.mls_nodes.specs.NodeModel.{NodeValue, node_value, entry_value}
+use Rattle.mls_nodes.specs.NodeModel.{NodeValue}
+use Rattle.mls_nodes.specs.NodeValues.{node_value, entry_value}
 use Rattle.mls_nodes.specs.Layout.{node}
 use Rattle.mls_nodes.specs.RatchetTreeEncoding.{fits_at, fit_from, IsFirstMisplaced, ends_non_blank, has_valid_layout, ratchet_tree, prepend_trimmed, trimmed, filled}
 

@@ -2,7 +2,7 @@
 use Rattle.std.specs.Prelude.{List, [], length, Option, unwrap_or}
 use Rattle.mls_wire.specs.Input.{Input}
 use Rattle.mls_wire.specs.Parsing.{items_at}
-use Rattle.mls_nodes.specs.ParsingInternal.{extension_at}
+use Rattle.mls_nodes.specs.LeafParsing.{extension_at}
 use Rattle.mls_nodes.specs.declared.extension.Extension.{Extension}
 
 -- `extensions_left i` is the extensions up to the end of the input.

@@ -2,7 +2,9 @@ pub mod Limits
 pub mod TagSizes
 pub mod Extension
 pub mod ExtensionsLeft
+pub mod CredentialModel
 pub mod NodeModel
+pub mod NodeValues
 pub mod Layout
 pub mod RatchetTreeEncoding
 pub mod FilledTree
@@ -13,6 +15,8 @@ pub mod Requirements
 pub mod ExternalSenders
 pub mod LeafNodeTBS
 pub mod Parsing
+pub mod LeafParsing
+pub mod StoredLeaf
 pub mod ParsingInternal
 pub mod RatchetTreeWriting
 pub mod NodesExact

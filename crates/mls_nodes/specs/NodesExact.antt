@@ -17,7 +17,8 @@ use Rattle.mls_nodes.specs.Limits.{leaf_limit}
 use Rattle.mls_nodes.specs.Extension.{extension}
 use Rattle.mls_nodes.specs.Layout.{credential, codes, capabilities, lifetime, source, leaf, unsigned_leaf, unmerged, parent, node, required_capabilities, external_sender, group_context}
 use Rattle.mls_nodes.specs.Parsing.{credential_at, codes_at, required_capabilities_at, external_sender_at}
-use Rattle.mls_nodes.specs.ParsingInternal.{extension_at, capabilities_at, lifetime_at, source_at, leaf_node_at, unmerged_at, parent_node_at, node_model_at, group_context_at}
+use Rattle.mls_nodes.specs.ParsingInternal.{unmerged_at, parent_node_at, node_model_at, group_context_at}
+use Rattle.mls_nodes.specs.LeafParsing.{extension_at, capabilities_at, lifetime_at, source_at, leaf_node_at}
 use Rattle.mls_nodes.specs.declared.credential.Credential.{Credential}
 use Rattle.mls_nodes.specs.declared.credential.Credential.TheVariants.{Basic, X509}
 use Rattle.mls_nodes.specs.declared.leaf_source.LeafSource.{LeafSource}

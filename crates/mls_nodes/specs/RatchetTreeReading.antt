@@ -3,7 +3,8 @@ use Rattle.std.specs.Prelude.{◌≡◌, ◌≤◌, ◌<◌, ◌+◌, ◌↔◌,
 use Rattle.mls_wire.specs.Encoding.{optional}
 use Rattle.mls_wire.specs.Limits.{input_limit}
 use Rattle.mls_nodes.specs.Layout.{node}
-use Rattle.mls_nodes.specs.NodeModel.{NodeValue, entry_value}
+use Rattle.mls_nodes.specs.NodeModel.{NodeValue}
+use Rattle.mls_nodes.specs.NodeValues.{entry_value}
 use Rattle.mls_nodes.specs.RatchetTreeEncoding.{ratchet_tree}
 use Rattle.mls_nodes.specs.declared.node.Node.{Node}
 use Rattle.mls_nodes.specs.declared.fault.NodeFault.{NodeFault}

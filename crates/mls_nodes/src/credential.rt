@@ -1,11 +1,17 @@
 //! Credentials (RFC 9420, 5.3).
 
+ghost use Rattle.mls_wire.specs.EncodedItems.{Parses};
+ghost use Rattle.std.specs.Prelude.{◌≡◌};
+ghost use Rattle.mls_nodes.specs.CredentialModel.{credential_value};
+ghost use Rattle.mls_nodes.specs.Parsing.{credential_at};
+
 use crate::lists::CertChain;
 use mls_wire::{
-    CodecFault, Decode, Draft, Encode, Opaque, Reader, TryClone, WireFault, WireFaultKind,
-    add_sizes,
+    CodecFault, Decode, Draft, Encode, ItemsRef, Opaque, OpaqueRef, Reader, TryClone, WireFault,
+    WireFaultKind, add_sizes, parse_u16,
 };
 use std::alloc::Global;
+use std::marker::Model;
 
 /// Who a member claims to be: type 1 or 2, a `u16`, and the body of that type. A credential of another type is `BadTag`
 /// at its offset, since its body cannot be skipped.
@@ -88,5 +94,72 @@ impl TryClone for Credential {
             Credential::Basic(identity) => Ok(Credential::Basic(identity.try_clone(alloc)?)),
             Credential::X509(chain) => Ok(Credential::X509(chain.try_clone(alloc)?)),
         }
+    }
+}
+
+/// What a borrowed credential holds.
+pub enum CredentialBody<'a> {
+    /// An identity, as bytes that the application interprets.
+    Basic(OpaqueRef<'a>),
+    /// X.509 certificates.
+    X509(ItemsRef<'a, Opaque>),
+}
+
+// Written out, so that a drop is one call in the proofs of its owners.
+impl<'a> Drop for CredentialBody<'a> {
+    fn drop(self) {
+        match self {
+            CredentialBody::Basic(_) => {}
+            CredentialBody::X509(_) => {}
+        }
+    }
+}
+
+/// A credential, borrowed from the bytes that encode it. The model is a [`Credential`].
+pub struct CredentialRef<'a> {
+    body: CredentialBody<'a>,
+}
+
+// Written out, so that a drop is one call in the proofs of its owners.
+impl<'a> Drop for CredentialRef<'a> {
+    fn drop(self) {
+        let CredentialRef { body: _ } = self;
+    }
+}
+
+impl<'a> Model for CredentialRef<'a> {
+    ghost use Rattle.mls_nodes.specs.CredentialModel.{credential_value};
+    ghost use Rattle.mls_nodes.specs.declared.credential.Credential.{Credential};
+
+    ghost Value = { Credential };
+
+    ghost view = { λ s. credential_value s.body };
+}
+
+impl<'a> CredentialRef<'a> {
+    /// Reads the credential at the front. On error the reader may have moved.
+    #[tactic(auto, unfolding(crate::specs::Parsing::credential_at))]
+    pub(crate) fn parse(reader: &mut Reader<'a>) -> Result<CredentialRef<'a>, WireFault>
+        ensures { Parses credential_at reader.old reader.new result }
+    {
+        let at = reader.position();
+        let body = match parse_u16(reader)? {
+            1 => CredentialBody::Basic(OpaqueRef::parse(reader)?),
+            2 => CredentialBody::X509(ItemsRef::parse(reader)?),
+            kind => {
+                return Err(WireFault {
+                    kind: WireFaultKind::BadTag(kind),
+                    at,
+                });
+            }
+        };
+        Ok(CredentialRef { body })
+    }
+
+    /// Returns what it holds.
+    pub fn body(&self) -> &CredentialBody<'a>
+        ensures { credential_value result.now ≡ self.now }
+    {
+        &self.body
     }
 }

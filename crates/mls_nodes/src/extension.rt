@@ -7,7 +7,7 @@ ghost use Rattle.mls_wire.specs.WriteContracts.{WritesPiece};
 ghost use Rattle.mls_nodes.specs.Extension.{extension};
 
 use crate::lists::Extensions;
-use mls_wire::{CodecFault, Decode, Opaque, Reader, Skip, WireFault, Writer, read_value};
+use mls_wire::{CodecFault, Decode, ItemsRef, Opaque, Reader, Skip, WireFault, Writer, read_value};
 use std::alloc::Global;
 use std::marker::Model;
 
@@ -22,14 +22,14 @@ pub struct Extension {
 }
 
 impl Decode for Extension {
-    ghost use Rattle.mls_nodes.specs.ParsingInternal.{extension_at};
+    ghost use Rattle.mls_nodes.specs.LeafParsing.{extension_at};
     ghost use Rattle.mls_nodes.specs.NodesExact.{extension_exact, extension_long};
 
     ghost encoding = { extension };
 
     ghost reading = { extension_at };
 
-    #[tactic(auto, unfolding(crate::specs::ParsingInternal::extension_at))]
+    #[tactic(auto, unfolding(crate::specs::LeafParsing::extension_at))]
     fn read(alloc: Global, reader: &mut Reader<'_>) -> Result<Extension, CodecFault> {
         let mut ahead = reader.fork();
         let kind = u16::read(alloc, &mut ahead)?;
@@ -44,7 +44,7 @@ impl Decode for Extension {
 }
 
 impl Skip for Extension {
-    #[tactic(auto, unfolding(crate::specs::ParsingInternal::extension_at))]
+    #[tactic(auto, unfolding(crate::specs::LeafParsing::extension_at))]
     fn skip(reader: &mut Reader<'_>) -> Result<(), WireFault> {
         u16::skip(reader)?;
         Opaque::skip(reader)
@@ -81,6 +81,15 @@ impl<'a> Model for ExtensionsLeft<'a> {
 impl<'a> ExtensionsLeft<'a> {
     /// Returns all extensions of a list.
     pub fn of(extensions: &'a Extensions) -> ExtensionsLeft<'a>
+        ensures { result ≡ extensions.now }
+    {
+        ExtensionsLeft {
+            left: extensions.reader(),
+        }
+    }
+
+    /// Returns all extensions of a borrowed list.
+    pub fn of_borrowed(extensions: &ItemsRef<'a, Extension>) -> ExtensionsLeft<'a>
         ensures { result ≡ extensions.now }
     {
         ExtensionsLeft {

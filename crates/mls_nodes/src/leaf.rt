@@ -1,40 +1,35 @@
 //! Leaf nodes (RFC 9420, 7.2).
-
-ghost use Rattle.mls_wire.specs.ReadContracts.{Decodes, DecodesAll, seen};
-ghost use Rattle.mls_wire.specs.WriteContracts.{MakesPiece, Puts, WritesPiece};
-ghost use Rattle.mls_nodes.specs.Layout.{leaf, unsigned_leaf};
+ghost use Rattle.mls_wire.specs.EncodedItems.{Parses};
+ghost use Rattle.mls_nodes.specs.Layout.{leaf};
+ghost use Rattle.mls_nodes.specs.LeafParsing.{leaf_node_at};
 
 use crate::capabilities::Capabilities;
-use crate::credential::Credential;
+use crate::credential::CredentialRef;
+use crate::extension::Extension;
 use crate::leaf_source::LeafSource;
-use crate::lists::Extensions;
-use mls_wire::{
-    CodecFault, Decode, Draft, Encode, Opaque, Reader, TryClone, Writer, bytes_of, read_all_of,
-    read_value,
-};
-use std::alloc::Global;
+use mls_wire::{ItemsRef, OpaqueRef, Reader, WireFault};
 
-/// A member of a group, as its leaf of the ratchet tree shows it (RFC 9420, 7.2).
-#[derive(Debug)]
-pub struct LeafNode {
+/// A member of a group, as its leaf of the ratchet tree shows it (RFC 9420, 7.2): its fields, borrowed from the bytes
+/// that encode them.
+pub struct LeafNode<'a> {
     /// The public key to which secrets are encrypted.
-    pub encryption_key: Opaque,
+    pub encryption_key: OpaqueRef<'a>,
     /// The public key under which the member signs.
-    pub signature_key: Opaque,
+    pub signature_key: OpaqueRef<'a>,
     /// Who the member claims to be.
-    pub credential: Credential,
+    pub credential: CredentialRef<'a>,
     /// What its client supports.
-    pub capabilities: Capabilities,
+    pub capabilities: Capabilities<'a>,
     /// How the leaf came into the tree.
-    pub source: LeafSource,
+    pub source: LeafSource<'a>,
     /// The leaf's extensions.
-    pub extensions: Extensions,
+    pub extensions: ItemsRef<'a, Extension>,
     /// The member's signature over the fields above.
-    pub signature: Opaque,
+    pub signature: OpaqueRef<'a>,
 }
 
 // Written out, so that a drop is one call in the proofs of its owners.
-impl Drop for LeafNode {
+impl<'a> Drop for LeafNode<'a> {
     fn drop(self) {
         let LeafNode {
             encryption_key: _,
@@ -48,25 +43,19 @@ impl Drop for LeafNode {
     }
 }
 
-impl Decode for LeafNode {
-    ghost use Rattle.mls_nodes.specs.ParsingInternal.{leaf_node_at};
-    ghost use Rattle.mls_nodes.specs.NodesExact.{leaf_exact, leaf_long};
-
-    ghost encoding = { leaf };
-
-    ghost reading = { leaf_node_at };
-
-    #[tactic(auto, unfolding(crate::specs::ParsingInternal::leaf_node_at))]
-    fn read(alloc: Global, reader: &mut Reader<'_>) -> Result<LeafNode, CodecFault> {
-        let mut ahead = reader.fork();
-        let encryption_key = Opaque::read(alloc, &mut ahead)?;
-        let signature_key = Opaque::read(alloc, &mut ahead)?;
-        let credential = Credential::read(alloc, &mut ahead)?;
-        let capabilities = Capabilities::read(alloc, &mut ahead)?;
-        let source = LeafSource::read(alloc, &mut ahead)?;
-        let extensions = Extensions::read(alloc, &mut ahead)?;
-        let signature = Opaque::read(alloc, &mut ahead)?;
-        *reader = ahead;
+impl<'a> LeafNode<'a> {
+    /// Reads the leaf node at the front. On error the reader may have moved.
+    #[tactic(auto, unfolding(crate::specs::LeafParsing::leaf_node_at))]
+    pub(crate) fn parse(reader: &mut Reader<'a>) -> Result<LeafNode<'a>, WireFault>
+        ensures { Parses leaf_node_at reader.old reader.new result }
+    {
+        let encryption_key = OpaqueRef::parse(reader)?;
+        let signature_key = OpaqueRef::parse(reader)?;
+        let credential = CredentialRef::parse(reader)?;
+        let capabilities = Capabilities::parse(reader)?;
+        let source = LeafSource::parse(reader)?;
+        let extensions = ItemsRef::parse(reader)?;
+        let signature = OpaqueRef::parse(reader)?;
         Ok(LeafNode {
             encryption_key,
             signature_key,
@@ -77,91 +66,4 @@ impl Decode for LeafNode {
             signature,
         })
     }
-
-    ghost exact = { leaf_exact };
-
-    ghost long = { leaf_long };
-}
-
-impl LeafNode {
-    /// Adds the fields that are signed.
-    #[tactic(auto, using(mls_wire::specs::WriteSequences::written), unfolding(crate::specs::Layout::unsigned_leaf))]
-    pub(crate) fn put_unsigned(&self, alloc: Global, draft: &mut Draft) -> Result<(), CodecFault>
-        ensures { Puts (unsigned_leaf self.now) draft.old draft.new result }
-    {
-        self.encryption_key.put(alloc, draft)?;
-        self.signature_key.put(alloc, draft)?;
-        self.credential.put(alloc, draft)?;
-        self.capabilities.put(alloc, draft)?;
-        self.source.put(alloc, draft)?;
-        self.extensions.put(alloc, draft)
-    }
-}
-
-impl Encode for LeafNode {
-    #[tactic(auto, using(mls_wire::specs::EncodedSizes::size_exact))]
-    fn size(&self) -> Option<usize> {
-        Some(self.encoded_len() as usize)
-    }
-
-    #[tactic(auto, using(mls_wire::specs::WriteSequences::written, crate::specs::NodesExact::leaf_signed))]
-    fn put(&self, alloc: Global, draft: &mut Draft) -> Result<(), CodecFault> {
-        self.put_unsigned(alloc, draft)?;
-        self.signature.put(alloc, draft)
-    }
-}
-
-impl TryClone for LeafNode {
-    fn try_clone(&self, alloc: Global) -> Result<LeafNode, CodecFault> {
-        Ok(LeafNode {
-            encryption_key: self.encryption_key.try_clone(alloc)?,
-            signature_key: self.signature_key.try_clone(alloc)?,
-            credential: self.credential.try_clone(alloc)?,
-            capabilities: self.capabilities.try_clone(alloc)?,
-            source: self.source.try_clone(alloc)?,
-            extensions: self.extensions.try_clone(alloc)?,
-            signature: self.signature.try_clone(alloc)?,
-        })
-    }
-}
-
-/// Reads the leaf node at the front. On error the reader is unchanged.
-pub fn read_leaf(alloc: Global, reader: &mut Reader<'_>) -> Result<LeafNode, CodecFault>
-    ensures { Decodes leaf reader.old reader.new result }
-{
-    read_value(alloc, reader)
-}
-
-/// Returns the leaf node whose encoding is all of the bytes (RFC 9420, 7.2).
-///
-/// # Errors
-///
-/// A wire fault if and only if the bytes are no such encoding, or `OutOfMemory`.
-pub fn decode_leaf(alloc: Global, bytes: &[u8]) -> Result<LeafNode, CodecFault>
-    ensures { DecodesAll leaf bytes.now result }
-{
-    read_all_of(alloc, bytes)
-}
-
-/// Returns the encoding of the leaf node.
-///
-/// # Errors
-///
-/// `TooLong` at 0 if and only if it has no encoding, which is checked before anything is allocated; or `OutOfMemory`.
-pub fn encode_leaf(alloc: Global, value: &LeafNode) -> Result<Vec<u8>, CodecFault>
-    ensures { MakesPiece (leaf value.now) (seen (λ v. v.items) result) }
-{
-    bytes_of(alloc, value)
-}
-
-/// Appends the encoding of the leaf node.
-///
-/// # Errors
-///
-/// `TooLong`, at the number of bytes written so far, if and only if it has no encoding, which is checked before
-/// anything is allocated; or `OutOfMemory`. The bytes are then unchanged.
-pub fn write_leaf(alloc: Global, value: &LeafNode, writer: &mut Writer) -> Result<(), CodecFault>
-    ensures { WritesPiece (leaf value.now) writer.old writer.new result }
-{
-    writer.write(alloc, value)
 }

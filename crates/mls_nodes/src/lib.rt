@@ -5,8 +5,10 @@
 #![tactic(auto)]
 
 mod capabilities;
+mod codes;
 mod context;
 mod credential;
+mod encoded_leaf;
 mod encoded_len;
 mod extension;
 mod fault;
@@ -23,12 +25,14 @@ mod tbs;
 mod unmerged;
 
 pub use capabilities::Capabilities;
+pub use codes::next_code;
 pub use context::{GroupContext, decode_context, encode_context, read_context, write_context};
-pub use credential::Credential;
+pub use credential::{Credential, CredentialBody, CredentialRef};
+pub use encoded_leaf::{EncodedLeaf, decode_leaf, encode_leaf, read_leaf, write_leaf};
 pub use encoded_len::leaf_tbs_len;
 pub use extension::{Extension, ExtensionRef, ExtensionsLeft, read_extensions, write_extensions};
 pub use fault::NodeFault;
-pub use leaf::{LeafNode, decode_leaf, encode_leaf, read_leaf, write_leaf};
+pub use leaf::LeafNode;
 pub use leaf_source::{LeafSource, Lifetime};
 pub use lists::{CertChain, Codes, Extensions, ExternalSenders};
 pub use node::Node;

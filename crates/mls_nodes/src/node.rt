@@ -3,7 +3,7 @@
 ghost use Rattle.std.specs.Prelude.{◌≡◌, IfOk, IfErr};
 ghost use Rattle.mls_wire.specs.declared.fault.CodecFault.TheVariants as codec;
 
-use crate::leaf::LeafNode;
+use crate::encoded_leaf::EncodedLeaf;
 use crate::parent::ParentNode;
 use mls_wire::{CodecFault, Shared, TryClone};
 use std::alloc::Global;
@@ -12,13 +12,13 @@ use std::alloc::Global;
 #[derive(Debug, Drop)]
 pub enum Node {
     /// A leaf, at an even node index.
-    Leaf(Shared<LeafNode>),
+    Leaf(Shared<EncodedLeaf>),
     /// A parent, at an odd node index.
     Parent(Box<ParentNode>),
 }
 
 impl Node {
-    ghost use Rattle.mls_nodes.specs.NodeModel.{node_value};
+    ghost use Rattle.mls_nodes.specs.NodeValues.{node_value};
 
     /// Returns an equal node. A leaf is shared, which allocates nothing. The only error is `OutOfMemory`.
     pub fn try_clone(&self, alloc: Global) -> Result<Node, CodecFault>

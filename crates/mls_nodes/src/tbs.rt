@@ -4,8 +4,8 @@ ghost use Rattle.mls_wire.specs.ReadContracts.{seen};
 ghost use Rattle.mls_wire.specs.WriteContracts.{MakesPiece, Puts};
 ghost use Rattle.mls_nodes.specs.LeafNodeTBS.{tbs_suffix, leaf_tbs};
 
+use crate::encoded_leaf::EncodedLeaf;
 use crate::encoded_len::leaf_tbs_len;
-use crate::leaf::LeafNode;
 use crate::leaf_source::LeafSource;
 use mls_wire::{CodecFault, Draft, Encode, Opaque};
 use std::alloc::Global;
@@ -14,7 +14,7 @@ use std::alloc::Global;
 #[tactic(auto, using(mls_wire::specs::WriteSequences::written), unfolding(crate::specs::LeafNodeTBS::tbs_suffix))]
 fn put_tbs_suffix(
     alloc: Global,
-    source: &LeafSource,
+    source: &LeafSource<'_>,
     group_id: &Opaque,
     index: u32,
     draft: &mut Draft,
@@ -35,15 +35,15 @@ fn put_tbs_suffix(
 #[tactic(auto, using(mls_wire::specs::WriteSequences::written), unfolding(crate::specs::LeafNodeTBS::leaf_tbs))]
 pub fn put_leaf_tbs(
     alloc: Global,
-    leaf: &LeafNode,
+    leaf: &EncodedLeaf,
     group_id: &Opaque,
     index: u32,
     draft: &mut Draft,
 ) -> Result<(), CodecFault>
     ensures { Puts (leaf_tbs leaf.now group_id.now index) draft.old draft.new result }
 {
-    leaf.put_unsigned(alloc, draft)?;
-    put_tbs_suffix(alloc, &leaf.source, group_id, index, draft)
+    draft.put_bytes(leaf.unsigned())?;
+    put_tbs_suffix(alloc, &leaf.source(), group_id, index, draft)
 }
 
 /// Returns the LeafNodeTBS: the leaf node without its signature, and for the sources update and commit the group id and
@@ -51,7 +51,7 @@ pub fn put_leaf_tbs(
 #[tactic(auto, using(crate::proofs::Drafted::drafted, crate::proofs::Drafted::undrafted))]
 pub fn leaf_tbs(
     alloc: Global,
-    leaf: &LeafNode,
+    leaf: &EncodedLeaf,
     group_id: &Opaque,
     index: u32,
 ) -> Result<Vec<u8>, CodecFault>

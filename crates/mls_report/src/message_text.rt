@@ -148,7 +148,7 @@ fn info_line(alloc: Global, info: &GroupInfo) -> Result<String, AllocError>
 fn package_line(alloc: Global, key_package: &KeyPackage) -> Result<String, AllocError>
     ensures { IfOk result (λ text. string_bytes text ≡ lines.package_line key_package.now) }
 {
-    let encryption_key = hex_of(alloc, key_package.leaf_node.encryption_key.as_slice())?;
+    let encryption_key = hex_of(alloc, key_package.leaf_node.encryption_key())?;
     format!(in alloc; "key_package {encryption_key}\n")
 }
 

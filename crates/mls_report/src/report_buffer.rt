@@ -1,8 +1,7 @@
 //! The bytes of a report, made in one buffer.
 
-ghost use Rattle.std.specs.Prelude.{◌≡◌, ◌≤◌, ◌++◌, length, OnOk};
+ghost use Rattle.std.specs.Prelude.{◌≡◌, ◌++◌, OnOk};
 ghost use Rattle.std.specs.Fmt.{decimal};
-ghost use Rattle.mls_wire.specs.Limits.{vector_limit};
 ghost use Rattle.mls_report.specs.ValueTexts.{hex_text, numbers_text};
 
 use std::alloc::AllocError;
@@ -30,14 +29,16 @@ pub(crate) fn put_u64(out: &mut Vec<u8>, number: u64) -> Result<(), AllocError>
 
 /// Appends bytes in lower-case hexadecimal, or `-` if there are none.
 pub(crate) fn put_hex(out: &mut Vec<u8>, bytes: &[u8]) -> Result<(), AllocError>
-    requires { length bytes.now ≤ vector_limit }
     ensures { OnOk result (out.new.items ≡ out.old.items ++ hex_text bytes.now) }
 {
     if bytes.is_empty() {
         return put_text(out, "-");
     }
     let start = out.len();
-    out.resize(start + 2 * bytes.len(), 0)?;
+    let Some(end) = start.checked_add(2 * bytes.len()) else {
+        return Err(AllocError);
+    };
+    out.resize(end, 0)?;
     hex::encode_to_slice(bytes, &mut out[start..]).unwrap();
     Ok(())
 }

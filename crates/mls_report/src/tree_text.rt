@@ -2,7 +2,7 @@
 
 ghost use Rattle.std.specs.Prelude.{◌≡◌, ◌≤◌, ◌++◌, ◌-◌, ◌/◌, [], ◌∷◌, replicate, None, OnOk, codes};
 ghost use Rattle.std.specs.Fmt.{decimal};
-ghost use Rattle.mls_nodes.specs.NodeModel.{entry_value};
+ghost use Rattle.mls_nodes.specs.NodeValues.{entry_value};
 ghost use Rattle.mls_tree.specs.Tree.{leaves_among};
 ghost use Rattle.mls_wire.specs.ReadContracts.{seen};
 ghost use Rattle.mls_report.specs.ValueTexts.{hex_text};
@@ -11,13 +11,13 @@ ghost use Rattle.mls_report.specs.TreeTextInternal.{PutsEntries, GivesTreeText};
 
 use crate::report_buffer::{put_hex, put_number, put_numbers, put_text, put_u64};
 use mls_nodes::{
-    LeafNode, LeafSource, Node, NodeFault, ParentNode, RatchetTreeReader, full_size_of,
+    EncodedLeaf, LeafSource, Node, NodeFault, ParentNode, RatchetTreeReader, full_size_of,
 };
 use mls_wire::Opaque;
 use std::alloc::{AllocError, Global};
 
 /// Appends the source of a leaf.
-fn put_source(out: &mut Vec<u8>, source: &LeafSource) -> Result<(), AllocError>
+fn put_source(out: &mut Vec<u8>, source: &LeafSource<'_>) -> Result<(), AllocError>
     ensures { OnOk result (out.new.items ≡ out.old.items ++ lines.source_text source.now) }
 {
     match source {
@@ -47,23 +47,23 @@ fn put_leaf_indices(out: &mut Vec<u8>, node_index: usize) -> Result<(), AllocErr
 }
 
 /// Appends two fields in hexadecimal, each followed by a space.
-fn put_fields(out: &mut Vec<u8>, first: &Opaque, second: &Opaque) -> Result<(), AllocError>
+fn put_fields(out: &mut Vec<u8>, first: &[u8], second: &[u8]) -> Result<(), AllocError>
     ensures { OnOk result (out.new.items ≡ out.old.items
         ++ (hex_text first.now ++ (codes " " ++ (hex_text second.now ++ codes " ")))) }
 {
-    put_hex(out, first.as_slice())?;
+    put_hex(out, first)?;
     put_text(out, " ")?;
-    put_hex(out, second.as_slice())?;
+    put_hex(out, second)?;
     put_text(out, " ")
 }
 
 /// Appends the line of a leaf.
-fn put_leaf(out: &mut Vec<u8>, node_index: usize, leaf: &LeafNode) -> Result<(), AllocError>
+fn put_leaf(out: &mut Vec<u8>, node_index: usize, leaf: &EncodedLeaf) -> Result<(), AllocError>
     ensures { OnOk result (out.new.items ≡ out.old.items ++ lines.leaf_line node_index leaf.now) }
 {
     put_leaf_indices(out, node_index)?;
-    put_fields(out, &leaf.encryption_key, &leaf.signature_key)?;
-    put_source(out, &leaf.source)?;
+    put_fields(out, leaf.encryption_key(), leaf.signature_key())?;
+    put_source(out, &leaf.source())?;
     put_text(out, "\n")
 }
 
@@ -73,7 +73,11 @@ fn put_parent(out: &mut Vec<u8>, node_index: usize, parent: &ParentNode) -> Resu
 {
     put_number(out, node_index)?;
     put_text(out, " parent ")?;
-    put_fields(out, &parent.encryption_key, &parent.parent_hash)?;
+    put_fields(
+        out,
+        parent.encryption_key.as_slice(),
+        parent.parent_hash.as_slice(),
+    )?;
     put_numbers(out, parent.unmerged.as_slice())?;
     put_text(out, "\n")
 }

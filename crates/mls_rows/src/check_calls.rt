@@ -10,7 +10,7 @@ use mls_check::{
 };
 use mls_hash::{Suite, decode_with_leaf_hashes, fill_hashes, parent_hash_of};
 use mls_index::{KeyKind, LeafRule, LeafRules, TreeIndex, first_changed_failing};
-use mls_nodes::{GroupContext, LeafNode, ParentNode, RequiredCapabilities, encode_ratchet_tree};
+use mls_nodes::{EncodedLeaf, GroupContext, ParentNode, RequiredCapabilities, encode_ratchet_tree};
 use mls_tree::{HashValue, PublicTree};
 use std::alloc::Global;
 use std::fmt::Debug;
@@ -167,7 +167,7 @@ fn leaf_signed_by<C: SignatureCheck>(row: &Row, checker: &C) -> Result<bool, Row
     let suite = row.short_number(1)?;
     let group_id = row.opaque(2)?;
     let index = row.number(3)?;
-    let leaf = row.value::<LeafNode>(4, "a leaf")?;
+    let leaf = row.value::<EncodedLeaf>(4, "a leaf")?;
     let found = is_leaf_signed(row.alloc, suite, &group_id, index, &leaf, checker);
     drop(leaf);
     have(found)

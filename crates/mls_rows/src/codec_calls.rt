@@ -11,10 +11,10 @@ use mls_msgs::{
     info_tbs, package_tbs,
 };
 use mls_nodes::{
-    GroupContext, LeafNode, ParentNode, decode_context, decode_leaf, encode_context, encode_leaf,
-    encode_ratchet_tree, external_senders, find_extension, leaf_tbs, put_leaf_tbs, read_context,
-    read_extensions, read_leaf, requirements, requirements_of, write_context, write_extensions,
-    write_leaf, write_parent,
+    EncodedLeaf, GroupContext, ParentNode, decode_context, decode_leaf, encode_context,
+    encode_leaf, encode_ratchet_tree, external_senders, find_extension, leaf_tbs, put_leaf_tbs,
+    read_context, read_extensions, read_leaf, requirements, requirements_of, write_context,
+    write_extensions, write_leaf, write_parent,
 };
 use mls_tree::PublicTree;
 use mls_wire::{
@@ -196,7 +196,7 @@ fn optional_size(row: &Row) -> Result<u64, RowFault> {
 /// How many bytes a leaf or a parent has.
 fn node_size(row: &Row) -> Result<u64, RowFault> {
     if row.word(1) == "leaf" {
-        let leaf = row.value::<LeafNode>(2, "a leaf")?;
+        let leaf = row.value::<EncodedLeaf>(2, "a leaf")?;
         let size = leaf.encoded_len();
         drop(leaf);
         return Ok(size);

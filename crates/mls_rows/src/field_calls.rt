@@ -9,9 +9,10 @@ use mls_msgs::{
     decode_message,
 };
 use mls_nodes::{
-    Capabilities, Credential, Extensions, ExtensionsLeft, GroupContext, LeafNode, LeafSource,
-    ParentNode, RequiredCapabilities,
+    Capabilities, CredentialBody, CredentialRef, EncodedLeaf, Extensions, ExtensionsLeft,
+    GroupContext, LeafSource, ParentNode, RequiredCapabilities, next_code,
 };
+use mls_wire::{ItemsRef, Reader};
 use std::alloc::Global;
 
 /// Adds a field of bytes by its name.
@@ -30,16 +31,50 @@ fn put_codes(out: &mut String, name: &str, codes: &[u16]) -> Result<(), RowFault
     have(write!(out, "{name} {codes:?}; "))
 }
 
+/// Adds a list of codes that is stored as its encoding.
+fn put_listed(
+    alloc: Global,
+    out: &mut String,
+    name: &str,
+    codes: &ItemsRef<'_, u16>,
+) -> Result<(), RowFault> {
+    let mut left = ItemsRef::new(codes.encoded());
+    let mut listed = Vec::new(alloc);
+    while let Some(code) = next_code(&mut left) {
+        listed.push(code)?;
+    }
+    put_codes(out, name, listed.as_slice())
+}
+
 /// Adds extensions, each by its type and its data.
 fn put_extensions(
     alloc: Global,
     out: &mut String,
     extensions: &Extensions,
 ) -> Result<(), RowFault> {
-    let mut left = ExtensionsLeft::of(extensions);
+    put_extensions_left(alloc, out, ExtensionsLeft::of(extensions))
+}
+
+/// Adds those extensions that are left.
+fn put_extensions_left(
+    alloc: Global,
+    out: &mut String,
+    mut left: ExtensionsLeft<'_>,
+) -> Result<(), RowFault> {
     while let Some(extension) = left.next() {
         put_number(out, "extension", u64::from(extension.kind))?;
         put_bytes(alloc, out, "data", extension.body)?;
+    }
+    Ok(())
+}
+
+/// Adds certificates, one after the other.
+fn put_certificates(alloc: Global, out: &mut String, mut left: Reader<'_>) -> Result<(), RowFault> {
+    while !left.at_end() {
+        let Ok(certificate) = left.read_vec() else {
+            return Err(RowFault::TwoResults);
+        };
+        put_bytes(alloc, out, "certificate", certificate)?;
     }
     Ok(())
 }
@@ -48,30 +83,29 @@ fn put_extensions(
 fn put_credential(
     alloc: Global,
     out: &mut String,
-    credential: &Credential,
+    credential: &CredentialRef<'_>,
 ) -> Result<(), RowFault> {
-    match credential {
-        Credential::Basic(identity) => put_bytes(alloc, out, "basic", identity.as_slice()),
-        Credential::X509(chain) => {
-            for certificate in chain.to_vec(alloc)?.as_slice() {
-                put_bytes(alloc, out, "certificate", certificate.as_slice())?;
-            }
-            Ok(())
-        }
+    match credential.body() {
+        CredentialBody::Basic(identity) => put_bytes(alloc, out, "basic", identity.as_slice()),
+        CredentialBody::X509(chain) => put_certificates(alloc, out, chain.reader()),
     }
 }
 
 /// Adds the fields of Capabilities.
-fn put_capabilities(out: &mut String, listed: &Capabilities) -> Result<(), RowFault> {
-    put_codes(out, "versions", listed.versions.as_slice())?;
-    put_codes(out, "suites", listed.cipher_suites.as_slice())?;
-    put_codes(out, "extensions", listed.extensions.as_slice())?;
-    put_codes(out, "proposals", listed.proposals.as_slice())?;
-    put_codes(out, "credentials", listed.credentials.as_slice())
+fn put_capabilities(
+    alloc: Global,
+    out: &mut String,
+    listed: &Capabilities<'_>,
+) -> Result<(), RowFault> {
+    put_listed(alloc, out, "versions", &listed.versions)?;
+    put_listed(alloc, out, "suites", &listed.cipher_suites)?;
+    put_listed(alloc, out, "extensions", &listed.extensions)?;
+    put_listed(alloc, out, "proposals", &listed.proposals)?;
+    put_listed(alloc, out, "credentials", &listed.credentials)
 }
 
 /// Adds the source of a leaf node.
-fn put_source(alloc: Global, out: &mut String, source: &LeafSource) -> Result<(), RowFault> {
+fn put_source(alloc: Global, out: &mut String, source: &LeafSource<'_>) -> Result<(), RowFault> {
     match source {
         LeafSource::KeyPackage(lifetime) => {
             put_number(out, "not before", lifetime.not_before)?;
@@ -85,14 +119,18 @@ fn put_source(alloc: Global, out: &mut String, source: &LeafSource) -> Result<()
 }
 
 /// Adds the fields of a leaf node.
-fn put_leaf_fields(alloc: Global, out: &mut String, leaf: &LeafNode) -> Result<(), RowFault> {
-    put_bytes(alloc, out, "encryption", leaf.encryption_key.as_slice())?;
-    put_bytes(alloc, out, "signing", leaf.signature_key.as_slice())?;
-    put_credential(alloc, out, &leaf.credential)?;
-    put_capabilities(out, &leaf.capabilities)?;
-    put_source(alloc, out, &leaf.source)?;
-    put_extensions(alloc, out, &leaf.extensions)?;
-    put_bytes(alloc, out, "signature", leaf.signature.as_slice())
+fn put_leaf_fields(alloc: Global, out: &mut String, leaf: &EncodedLeaf) -> Result<(), RowFault> {
+    put_bytes(alloc, out, "encryption", leaf.encryption_key())?;
+    put_bytes(alloc, out, "signing", leaf.signature_key())?;
+    put_credential(alloc, out, &leaf.fields().credential)?;
+    put_capabilities(alloc, out, &leaf.fields().capabilities)?;
+    put_source(alloc, out, &leaf.fields().source)?;
+    put_extensions_left(
+        alloc,
+        out,
+        ExtensionsLeft::of_borrowed(&leaf.fields().extensions),
+    )?;
+    put_bytes(alloc, out, "signature", leaf.signature())
 }
 
 /// Adds the fields of a parent node.
@@ -287,7 +325,7 @@ fn put_message_fields(row: &Row, out: &mut String) -> Result<(), RowFault> {
 /// Adds the fields of a leaf or of a parent.
 fn put_node_fields(row: &Row, out: &mut String) -> Result<(), RowFault> {
     if row.word(1) == "leaf" {
-        let leaf = row.value::<LeafNode>(2, "a leaf")?;
+        let leaf = row.value::<EncodedLeaf>(2, "a leaf")?;
         let put = put_leaf_fields(row.alloc, out, &leaf);
         drop(leaf);
         return put;

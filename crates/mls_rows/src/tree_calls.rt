@@ -3,7 +3,7 @@
 use crate::call_result::CallResult;
 use crate::fault::RowFault;
 use crate::row::{Row, have, only_word};
-use mls_nodes::{LeafNode, Node, ParentNode, decode_ratchet_tree, encode_ratchet_tree};
+use mls_nodes::{EncodedLeaf, Node, ParentNode, decode_ratchet_tree, encode_ratchet_tree};
 use mls_tree::{
     HashKind, Part, PublicTree, TreeError, left, level, parent, right, root, sibling, split_leaves,
 };
@@ -114,9 +114,9 @@ pub(crate) fn resolution_length(row: &Row) -> Result<CallResult, RowFault> {
 // ---- nodes
 
 /// The encryption key of a leaf, or `blank`.
-fn leaf_key(alloc: Global, leaf: Option<&LeafNode>) -> Result<String, RowFault> {
+fn leaf_key(alloc: Global, leaf: Option<&EncodedLeaf>) -> Result<String, RowFault> {
     match leaf {
-        Some(leaf) => Ok(hex::encode(alloc, leaf.encryption_key.as_slice())?),
+        Some(leaf) => Ok(hex::encode(alloc, leaf.encryption_key())?),
         None => have(String::from_str(alloc, "blank")),
     }
 }

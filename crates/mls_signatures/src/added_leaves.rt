@@ -9,7 +9,7 @@ ghost use Rattle.mls_signatures.specs.AddedLeaves.{AreNamedBy, IsAfter, IsMapOf,
 use mls_apply::ListItem;
 use mls_check::OutOfMemory;
 use mls_msgs::{Proposal, ProposalOrRef};
-use mls_nodes::LeafNode;
+use mls_nodes::EncodedLeaf;
 use std::alloc::Global;
 use std::collections::BTreeMap;
 
@@ -19,7 +19,7 @@ pub(crate) struct AddedLeaf<'a> {
     /// The leaf index.
     pub(crate) index: u32,
     /// The leaf node of the Add.
-    pub(crate) leaf: &'a LeafNode,
+    pub(crate) leaf: &'a EncodedLeaf,
     /// The reference by which the list names the Add, if it is not in the list by value.
     pub(crate) reference: Option<&'a [u8]>,
 }
@@ -80,7 +80,7 @@ pub(crate) fn added_leaves<'a>(
 pub(crate) fn leaves_by_index<'a>(
     alloc: Global,
     leaves: &[AddedLeaf<'a>],
-) -> Result<BTreeMap<u32, &'a LeafNode>, OutOfMemory>
+) -> Result<BTreeMap<u32, &'a EncodedLeaf>, OutOfMemory>
     ensures { IfOk result (λ m. (t u : Tree) → IsAfter t u leaves.now → IsMapOf t u m) }
 {
     let mut by_index = BTreeMap::new(alloc);

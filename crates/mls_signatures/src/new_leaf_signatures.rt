@@ -14,7 +14,7 @@ use crate::push_signatures::push_leaf_signature;
 use crate::signature_list::SignatureList;
 use mls_apply::is_from_key_package;
 use mls_check::OutOfMemory;
-use mls_nodes::{GroupContext, LeafNode};
+use mls_nodes::{EncodedLeaf, GroupContext};
 use mls_tree::PublicTree;
 use std::alloc::Global;
 use std::collections::{BTreeMap, BTreeSet};
@@ -23,11 +23,11 @@ use std::collections::{BTreeMap, BTreeSet};
 #[derive(Clone, Copy)]
 pub(crate) struct TreeAfter<'m, 'a> {
     pub(crate) tree: &'a PublicTree,
-    pub(crate) added: &'m BTreeMap<u32, &'a LeafNode>,
+    pub(crate) added: &'m BTreeMap<u32, &'a EncodedLeaf>,
 }
 
 /// Returns the leaf of the tree after a list, if it is non-blank.
-fn leaf_after<'a>(after: &TreeAfter<'_, 'a>, index: u32) -> Option<&'a LeafNode>
+fn leaf_after<'a>(after: &TreeAfter<'_, 'a>, index: u32) -> Option<&'a EncodedLeaf>
     ensures { (t : Tree) → IsMapOf t after.now.tree.now.tree after.now.added.now
         → option_copied result ≡ leaf_at 0 t index }
 {
@@ -119,7 +119,7 @@ fn is_repeat(leaves: &[AddedLeaf<'_>], position: usize, earlier: Option<usize>) 
     }
     let first = &leaves[earlier];
     let again = &leaves[position];
-    have_one_reference(first, again) && is_from_key_package(&again.leaf.source)
+    have_one_reference(first, again) && is_from_key_package(&again.leaf.source())
 }
 
 /// Appends the signatures of added leaves, in their order. That of an Add from a KeyPackage that the list names again is not

@@ -13,9 +13,8 @@ use crate::single_signatures::{
 use mls_check::OutOfMemory;
 use mls_hash::Suite;
 use mls_msgs::{Authenticated, GroupInfo, KeyPackage, Proposal, Sender};
-use mls_nodes::{GroupContext, LeafNode};
+use mls_nodes::{EncodedLeaf, GroupContext};
 use mls_tree::PublicTree;
-use mls_wire::Opaque;
 use std::alloc::Global;
 
 /// Appends the signature of a leaf node of the group (RFC 9420, 7.2).
@@ -23,7 +22,7 @@ pub(crate) fn push_leaf_signature(
     alloc: Global,
     context: &GroupContext,
     index: u32,
-    leaf: &LeafNode,
+    leaf: &EncodedLeaf,
     list: &mut SignatureList,
 ) -> Result<(), OutOfMemory>
     ensures { OnOk result (list.new ≡ list.old
@@ -122,7 +121,7 @@ fn push_package_signature(
 pub(crate) fn push_framed_content_signature(
     alloc: Global,
     context: &GroupContext,
-    key: &Opaque,
+    key: &[u8],
     auth: &Authenticated,
     list: &mut SignatureList,
 ) -> Result<(), OutOfMemory>
@@ -138,7 +137,7 @@ fn push_update_signature(
     alloc: Global,
     context: &GroupContext,
     sender: Sender,
-    leaf: &LeafNode,
+    leaf: &EncodedLeaf,
     list: &mut SignatureList,
 ) -> Result<(), OutOfMemory>
     ensures { OnOk result (list.new ≡ list.old

@@ -22,7 +22,6 @@ use mls_check::OutOfMemory;
 use mls_msgs::{Authenticated, Content, GroupInfo, Message, Profile, Proposal, Sender};
 use mls_nodes::GroupContext;
 use mls_tree::PublicTree;
-use mls_wire::Opaque;
 use std::alloc::Global;
 
 /// Returns the signatures of a start from a GroupInfo and a tree (RFC 9420, 12.4.3.1), without duplicates: the GroupInfo's,
@@ -142,7 +141,7 @@ fn push_member_signatures(
     let Some(leaf) = tree.tree().leaf(sender) else {
         return Ok(());
     };
-    let key = &leaf.signature_key;
+    let key = leaf.signature_key();
     match &auth.content().content {
         Content::Application(_) => Ok(()),
         Content::Proposal(proposal) => {
@@ -164,7 +163,7 @@ fn push_member_signatures(
 /// An AuthenticatedContent of a sender outside the group, with the key of the sender.
 #[derive(Clone, Copy)]
 struct OutsideFrame<'a> {
-    key: &'a Opaque,
+    key: &'a [u8],
     auth: &'a Authenticated,
 }
 
@@ -223,7 +222,10 @@ fn push_outside_signatures(
     let Some(key) = outside_key(alloc, context, content.sender, &content.content)? else {
         return Ok(());
     };
-    let frame = OutsideFrame { key: &key, auth };
+    let frame = OutsideFrame {
+        key: key.as_slice(),
+        auth,
+    };
     let answer = push_outside_content_signatures(alloc, context, &frame, list);
     drop(key);
     answer
@@ -252,7 +254,7 @@ fn push_join_signatures(
     let Some(path) = &commit.path else {
         return Ok(());
     };
-    push_framed_content_signature(alloc, context, &path.leaf_node.signature_key, auth, list)?;
+    push_framed_content_signature(alloc, context, path.leaf_node.signature_key(), auth, list)?;
     let external = ExternalCommit {
         context,
         commit,

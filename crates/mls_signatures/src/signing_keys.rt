@@ -8,7 +8,7 @@ ghost use Rattle.mls_signatures.specs.SigningKeys.{added_signature_key, committe
 use mls_check::OutOfMemory;
 use mls_msgs::{Content, Proposal, Sender, UpdatePath};
 use mls_nodes::{Extensions, ExternalSender, ExternalSenders, GroupContext, external_senders};
-use mls_wire::{CodecFault, Opaque, copy_of};
+use mls_wire::{CodecFault, Opaque};
 use std::alloc::Global;
 
 /// Returns the context that is signed with the content of this sender: that of the group if the sender is a member or joins
@@ -44,20 +44,30 @@ pub fn senders_of(
     }
 }
 
+/// Returns a copy of a key or a signature.
+pub(crate) fn opaque_of(alloc: Global, bytes: &[u8]) -> Result<Opaque, OutOfMemory>
+    ensures { IfOk result (λ copy. copy ≡ bytes.now) }
+{
+    match Opaque::copy(alloc, bytes) {
+        Ok(copy) => Ok(copy),
+        Err(_) => Err(OutOfMemory),
+    }
+}
+
 /// The signature key of the external sender with this index.
 #[tactic(auto, using(crate::proofs::ExternalKeys::key_there, crate::proofs::ExternalKeys::key_past))]
-fn external_sender_key(senders: &[ExternalSender], index: u32) -> Option<&Opaque>
+fn external_sender_key(senders: &[ExternalSender], index: u32) -> Option<&[u8]>
     ensures { option_map (λ key. key.now) result ≡ external_sender_key senders.now index }
 {
     match senders.get(index as usize) {
-        Some(sender) => Some(&sender.signature_key),
+        Some(sender) => Some(sender.signature_key.as_slice()),
         None => None,
     }
 }
 
 /// Returns the signature key of the external sender with this index (RFC 9420, 12.1.8), if there is one, among those that
 /// [`senders_of`] returned. The first sender has the index 0. Does not allocate.
-pub fn external_key_among(senders: &Option<ExternalSenders>, index: u32) -> Option<&Opaque>
+pub fn external_key_among(senders: &Option<ExternalSenders>, index: u32) -> Option<&[u8]>
     ensures { option_map (λ key. key.now) result ≡ external_key_among senders.now index }
 {
     match senders {
@@ -83,7 +93,7 @@ pub fn external_key(
         return Ok(None);
     };
     let key = match external_sender_key(senders.as_slice(), index) {
-        Some(key) => copy_of(alloc, key),
+        Some(key) => opaque_of(alloc, key),
         None => return Ok(None),
     };
     drop(senders);
@@ -91,11 +101,11 @@ pub fn external_key(
 }
 
 /// The signature key of the client that an Add adds.
-fn added_signature_key(proposal: &Proposal) -> Option<&Opaque>
+fn added_signature_key(proposal: &Proposal) -> Option<&[u8]>
     ensures { option_map (λ key. key.now) result ≡ added_signature_key proposal.now }
 {
     match proposal {
-        Proposal::Add(key_package) => Some(&key_package.leaf_node.signature_key),
+        Proposal::Add(key_package) => Some(key_package.leaf_node.signature_key()),
         Proposal::Update(_) => None,
         Proposal::Remove(_) => None,
         Proposal::ContextExtensions(_) => None,
@@ -106,7 +116,7 @@ fn added_signature_key(proposal: &Proposal) -> Option<&Opaque>
 }
 
 /// The signature key of a client that proposes its own Add.
-fn joiner_key(content: &Content) -> Option<&Opaque>
+fn joiner_key(content: &Content) -> Option<&[u8]>
     ensures { option_map (λ key. key.now) result ≡ joiner_key content.now }
 {
     match content {
@@ -121,23 +131,23 @@ fn joiner_key_copy(alloc: Global, content: &Content) -> Result<Option<Opaque>, O
     ensures { IfOk result (λ key. key ≡ joiner_key content.now) }
 {
     match joiner_key(content) {
-        Some(key) => Ok(Some(copy_of(alloc, key)?)),
+        Some(key) => Ok(Some(opaque_of(alloc, key)?)),
         None => Ok(None),
     }
 }
 
 /// The signature key of the leaf node of a path, if there is one.
-fn path_key(path: &Option<UpdatePath>) -> Option<&Opaque>
+fn path_key(path: &Option<UpdatePath>) -> Option<&[u8]>
     ensures { option_map (λ key. key.now) result ≡ path_key path.now }
 {
     match path {
-        Some(path) => Some(&path.leaf_node.signature_key),
+        Some(path) => Some(path.leaf_node.signature_key()),
         None => None,
     }
 }
 
 /// The signature key of a client that joins with a commit: that of its path's leaf node.
-fn committer_key(content: &Content) -> Option<&Opaque>
+fn committer_key(content: &Content) -> Option<&[u8]>
     ensures { option_map (λ key. key.now) result ≡ committer_key content.now }
 {
     match content {
@@ -153,7 +163,7 @@ fn committer_key_copy(alloc: Global, content: &Content) -> Result<Option<Opaque>
     ensures { IfOk result (λ key. key ≡ committer_key content.now) }
 {
     match committer_key(content) {
-        Some(key) => Ok(Some(copy_of(alloc, key)?)),
+        Some(key) => Ok(Some(opaque_of(alloc, key)?)),
         None => Ok(None),
     }
 }
@@ -187,7 +197,7 @@ pub fn outside_key_among<'a>(
     senders: &'a Option<ExternalSenders>,
     sender: Sender,
     content: &'a Content,
-) -> Option<&'a Opaque>
+) -> Option<&'a [u8]>
     ensures { option_map (λ key. key.now) result ≡ outside_key_among senders.now sender content.now }
 {
     match sender {

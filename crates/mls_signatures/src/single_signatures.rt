@@ -6,24 +6,24 @@ ghost use Rattle.mls_tree.specs.Tree.{leaf_at};
 ghost use Rattle.mls_signatures.specs.SignaturesToVerify.{labeled_signatures, leaf_signatures, package_signatures, framed_content_signatures, info_signatures, non_blank_leaf_signatures};
 
 use crate::signature_to_verify::SignatureToVerify;
-use crate::signing_keys::signed_context;
+use crate::signing_keys::{opaque_of, signed_context};
 use mls_check::{LEAF_NODE_TBS, OutOfMemory, sign_content};
 use mls_msgs::{
     Authenticated, CONTENT_LABEL, GROUP_INFO_LABEL, GroupInfo, KEY_PACKAGE_LABEL, KeyPackage,
     content_tbs, info_tbs, package_tbs,
 };
-use mls_nodes::{GroupContext, LeafNode, leaf_tbs};
+use mls_nodes::{EncodedLeaf, GroupContext, leaf_tbs};
 use mls_tree::PublicTree;
-use mls_wire::{CodecFault, Opaque, Sequence, copy_of};
+use mls_wire::{CodecFault, Sequence};
 use std::alloc::Global;
 
 /// A signature with what it is verified by, except for what is signed: the cipher suite, the public key and the label.
 #[derive(Clone, Copy)]
 struct Labeled<'a> {
     suite: u16,
-    key: &'a Opaque,
+    key: &'a [u8],
     label: &'a str,
-    signature: &'a Opaque,
+    signature: &'a [u8],
 }
 
 /// Returns a signature over bytes, if they have a SignContent under its label.
@@ -41,8 +41,8 @@ fn signature_over(
         Err(CodecFault::Wire(_)) => return Ok(None),
         Err(CodecFault::OutOfMemory) => return Err(OutOfMemory),
     };
-    let key = copy_of(alloc, signed.key)?;
-    let signature = copy_of(alloc, signed.signature)?;
+    let key = opaque_of(alloc, signed.key)?;
+    let signature = opaque_of(alloc, signed.signature)?;
     Ok(Some(SignatureToVerify {
         suite: signed.suite,
         key,
@@ -56,7 +56,7 @@ pub(crate) fn leaf_signature(
     alloc: Global,
     context: &GroupContext,
     index: u32,
-    leaf: &LeafNode,
+    leaf: &EncodedLeaf,
 ) -> Result<Option<SignatureToVerify>, OutOfMemory>
     ensures { IfOk result (λ o. option_to_list o
         ≡ leaf_signatures context.now.cipher_suite context.now.group_id index leaf.now) }
@@ -68,9 +68,9 @@ pub(crate) fn leaf_signature(
     };
     let signed = Labeled {
         suite: context.cipher_suite,
-        key: &leaf.signature_key,
+        key: leaf.signature_key(),
         label: LEAF_NODE_TBS,
-        signature: &leaf.signature,
+        signature: leaf.signature(),
     };
     signature_over(alloc, &signed, tbs.as_slice())
 }
@@ -111,9 +111,9 @@ pub(crate) fn info_signature(
     };
     let signed = Labeled {
         suite: info.context.cipher_suite,
-        key: &signer.signature_key,
+        key: signer.signature_key(),
         label: GROUP_INFO_LABEL,
-        signature: &info.signature,
+        signature: info.signature.as_slice(),
     };
     signature_over(alloc, &signed, tbs.as_slice())
 }
@@ -133,9 +133,9 @@ pub(crate) fn package_signature(
     };
     let signed = Labeled {
         suite,
-        key: &key_package.leaf_node.signature_key,
+        key: key_package.leaf_node.signature_key(),
         label: KEY_PACKAGE_LABEL,
-        signature: &key_package.signature,
+        signature: key_package.signature.as_slice(),
     };
     signature_over(alloc, &signed, tbs.as_slice())
 }
@@ -145,7 +145,7 @@ pub(crate) fn package_signature(
 pub(crate) fn framed_content_signature(
     alloc: Global,
     context: &GroupContext,
-    key: &Opaque,
+    key: &[u8],
     auth: &Authenticated,
 ) -> Result<Option<SignatureToVerify>, OutOfMemory>
     ensures { IfOk result (λ o. option_to_list o
@@ -161,7 +161,7 @@ pub(crate) fn framed_content_signature(
         suite: context.cipher_suite,
         key,
         label: CONTENT_LABEL,
-        signature: auth.signature(),
+        signature: auth.signature().as_slice(),
     };
     signature_over(alloc, &signed, tbs.as_slice())
 }

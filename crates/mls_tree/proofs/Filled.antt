@@ -10,7 +10,8 @@ use Rattle.mls_wire.specs.Encoding.{list, optional}
 use Rattle.mls_wire.specs.OptionBind.{allowed}
 use Rattle.mls_nodes.specs.declared.node.Node.{Node}
 use Rattle.mls_nodes.specs.declared.node.Node.TheVariants.{Leaf, Parent}
-use Rattle.mls_nodes.specs.NodeModel.{NodeValue, entry_value}
+use Rattle.mls_nodes.specs.NodeModel.{NodeValue}
+use Rattle.mls_nodes.specs.NodeValues.{entry_value}
 use Rattle.mls_nodes.specs.Layout.{node}
 use Rattle.mls_nodes.specs.RatchetTreeEncoding.{ratchet_tree, filled, full_size, has_valid_layout, ends_non_blank, fit_from, fits_at}
 use Rattle.mls_nodes.specs.FilledTree.{filled-full, filled-least}

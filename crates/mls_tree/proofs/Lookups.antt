@@ -6,7 +6,7 @@ use Rattle.std.proofs.lemmas.Option.{slice_get_past, slice_get_read}
 use Rattle.mls_nodes.specs.declared.leaf.LeafNode.{LeafNode}
 use Rattle.mls_nodes.specs.declared.parent.ParentNode.{ParentNode}
 use Rattle.mls_nodes.specs.declared.node.Node.{Node}
-use Rattle.mls_nodes.specs.NodeModel.{entry_value, node_value}
+use Rattle.mls_nodes.specs.NodeValues.{entry_value, node_value}
 use Rattle.mls_tree.specs.Tree.{Tree, leaf, branch, height, leaf_count, Subtree, subtree_at, root_node_index, root_entry, leaf_at, node_at, entry_of, IsBranch, IsParent, IsParentNodeIndex}
 use Rattle.mls_tree.specs.TreeInternal.{leaves_at}
 use Rattle.mls_tree.specs.TreeOperations.{put_leaf, put_parent}

@@ -5,7 +5,7 @@ use Rattle.std.proofs.Common.{ap}
 use base.Stored.{Gv, gnil, gnum, gcons, coded_via}
 use native.Mathlib.Nat.{ℕ_set}
 use mathlib.Core.HLevel.{is_prop→PathP}
-use Rattle.mls_nodes.specs.contracts.leaf.LeafNode as leaf-node
+use Rattle.mls_nodes.specs.contracts.encoded_leaf.EncodedLeaf as leaf-node
 use Rattle.mls_nodes.specs.contracts.parent.ParentNode as parent-node
 use Rattle.mls_nodes.specs.declared.leaf.LeafNode.{LeafNode}
 use Rattle.mls_nodes.specs.declared.parent.ParentNode.{ParentNode}

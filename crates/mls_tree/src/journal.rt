@@ -20,7 +20,7 @@ ghost use Rattle.mls_tree.specs.ChangedNodes.{AgreeExceptAt};
 use crate::changed_nodes::push_changed;
 use crate::error::TreeError;
 use crate::public_tree::PublicTree;
-use mls_nodes::{LeafNode, ParentNode};
+use mls_nodes::{EncodedLeaf, ParentNode};
 use mls_wire::Shared;
 use std::alloc::{AllocError, Global};
 use std::mem;
@@ -31,7 +31,7 @@ pub(crate) enum UndoEntry {
     /// A leaf.
     Leaf {
         index: u32,
-        node: Option<Shared<LeafNode>>,
+        node: Option<Shared<EncodedLeaf>>,
     },
     /// A parent.
     Parent {
@@ -118,7 +118,7 @@ impl Journal {
         &mut self,
         tree: &mut PublicTree,
         index: u32,
-        leaf: Option<Shared<LeafNode>>,
+        leaf: Option<Shared<EncodedLeaf>>,
     ) -> Result<(), AllocError>
         requires { index < leaf_count tree.old.tree }
         ensures put { OnOk result

@@ -3,7 +3,7 @@ ghost use Rattle.std.specs.Prelude.{◌≡◌, ℕ, ◌+◌, ◌≤◌, ◌<◌,
 ghost use Rattle.std.specs.Bool.{OnTrue, OnFalse};
 ghost use Rattle.std.specs.List.Sorted.{IsStrictlyIncreasing};
 ghost use Rattle.mls_nodes.specs.Limits.{leaf_limit};
-ghost use Rattle.mls_nodes.specs.NodeModel.{entry_value, node_value};
+ghost use Rattle.mls_nodes.specs.NodeValues.{entry_value, node_value};
 ghost use Rattle.mls_tree.specs.Tree.{leaf_count, member_count, height, listing, node_at, leaf_at, IsParentNodeIndex};
 ghost use Rattle.mls_tree.specs.Paths.{direct_path, copath, filtered_direct_path, resolution_at, count_not_in};
 ghost use Rattle.mls_tree.specs.BlankLeaves.{first_blank_leaf, next_blank_leaf, IsFirstBlank, AllLeavesNonBlank};
@@ -28,7 +28,7 @@ use crate::subtree_counts::{Count, count_all, count_of, recount};
 use crate::swap_prefix::swap_prefix;
 use crate::tree_size::{height_of, height_of_length, leaves_of};
 use crate::unmerged_leaves::{insert_index, is_overfilled_above, leave, push_new_lists, put_lists};
-use mls_nodes::{LeafNode, Node, ParentNode};
+use mls_nodes::{EncodedLeaf, Node, ParentNode};
 use mls_wire::Shared;
 use std::alloc::{AllocError, Global};
 use std::collections::BTreeSet;
@@ -178,7 +178,7 @@ impl NodeArray {
     }
 
     /// Returns a leaf by its leaf index. `None` if it is blank or there is none.
-    pub(crate) fn leaf(&self, index: u32) -> Option<&LeafNode>
+    pub(crate) fn leaf(&self, index: u32) -> Option<&EncodedLeaf>
         ensures { option_copied result ≡ leaf_at 0 self.now.tree index }
     {
         match self.nodes.get(2 * index as usize) {
@@ -349,8 +349,8 @@ impl NodeArray {
     pub(crate) fn set_leaf(
         &mut self,
         index: u32,
-        leaf: Option<Shared<LeafNode>>,
-    ) -> Result<(), (TreeError, Option<Shared<LeafNode>>)>
+        leaf: Option<Shared<EncodedLeaf>>,
+    ) -> Result<(), (TreeError, Option<Shared<EncodedLeaf>>)>
         ensures changed { OnOk result
             (self.new.tree ≡ put_leaf 0 self.old.tree index leaf) }
         ensures unchanged_on_error { OnErr result (self.new ≡ self.old) }
@@ -388,8 +388,8 @@ impl NodeArray {
     pub(crate) fn replace_leaf(
         &mut self,
         index: u32,
-        leaf: Option<Shared<LeafNode>>,
-    ) -> Option<Shared<LeafNode>>
+        leaf: Option<Shared<EncodedLeaf>>,
+    ) -> Option<Shared<EncodedLeaf>>
         requires { index < leaf_count self.old.tree }
         ensures put { self.new.tree
             ≡ put_leaf 0 self.old.tree index leaf }

@@ -6,7 +6,7 @@ ghost use Rattle.mls_tree.specs.NodeView.{IsPartAt, parent_of};
 
 use crate::node_indices::{left, level, right};
 use crate::public_tree::PublicTree;
-use mls_nodes::{LeafNode, Node, ParentNode};
+use mls_nodes::{EncodedLeaf, Node, ParentNode};
 
 /// A leaf or a parent of a tree.
 #[derive(Clone, Copy, Debug)]
@@ -14,7 +14,7 @@ pub enum Part<'a> {
     /// A leaf, with its leaf index. `node` is `None` if the leaf is blank.
     Leaf {
         index: u32,
-        node: Option<&'a LeafNode>,
+        node: Option<&'a EncodedLeaf>,
     },
     /// A parent, with the node indices of its children and the leaf index of the first leaf of its right subtree.
     /// `node` is `None` if the parent is blank.

@@ -4,7 +4,7 @@ ghost use Rattle.std.specs.Bool.{OnTrue, OnFalse};
 ghost use Rattle.std.specs.List.Sorted.{IsStrictlyIncreasing};
 ghost use Rattle.mls_tree.specs.SlotChanges.{rejoined_slots, SlotsAgreeExceptAt};
 ghost use Rattle.mls_nodes.specs.Limits.{leaf_limit};
-ghost use Rattle.mls_nodes.specs.NodeModel.{entry_value, node_value};
+ghost use Rattle.mls_nodes.specs.NodeValues.{entry_value, node_value};
 ghost use Rattle.mls_tree.specs.Tree.{leaf_count, member_count, height, listing, node_at, leaf_at, IsParentNodeIndex};
 ghost use Rattle.mls_tree.specs.Paths.{direct_path, copath, filtered_direct_path, resolution_at, count_not_in};
 ghost use Rattle.mls_tree.specs.BlankLeaves.{first_blank_leaf, next_blank_leaf, IsFirstBlank, AllLeavesNonBlank};
@@ -29,7 +29,7 @@ use crate::hash_value::HashValue;
 use crate::merged_parents::NewParent;
 use crate::node_array::NodeArray;
 use crate::tree_size::leaves_of;
-use mls_nodes::{LeafNode, Node, ParentNode};
+use mls_nodes::{EncodedLeaf, Node, ParentNode};
 use mls_wire::Shared;
 use std::alloc::{AllocError, Global};
 use std::collections::BTreeSet;
@@ -159,7 +159,7 @@ impl PublicTree {
     }
 
     /// Returns a leaf by its leaf index. `None` if it is blank or there is none.
-    pub fn leaf(&self, index: u32) -> Option<&LeafNode>
+    pub fn leaf(&self, index: u32) -> Option<&EncodedLeaf>
         ensures { option_copied result ≡ leaf_at 0 self.now.tree index }
     {
         self.tree.leaf(index)
@@ -344,8 +344,8 @@ impl PublicTree {
     pub fn set_leaf(
         &mut self,
         index: u32,
-        leaf: Option<Shared<LeafNode>>,
-    ) -> Result<(), (TreeError, Option<Shared<LeafNode>>)>
+        leaf: Option<Shared<EncodedLeaf>>,
+    ) -> Result<(), (TreeError, Option<Shared<EncodedLeaf>>)>
         ensures changed { OnOk result
             (self.new.tree ≡ put_leaf 0 self.old.tree index leaf) }
         ensures unchanged_on_error { OnErr result (self.new ≡ self.old) }
@@ -393,8 +393,8 @@ impl PublicTree {
     pub(crate) fn replace_leaf(
         &mut self,
         index: u32,
-        leaf: Option<Shared<LeafNode>>,
-    ) -> Option<Shared<LeafNode>>
+        leaf: Option<Shared<EncodedLeaf>>,
+    ) -> Option<Shared<EncodedLeaf>>
         requires { index < leaf_count self.old.tree }
         ensures put { self.new.tree
             ≡ put_leaf 0 self.old.tree index leaf }

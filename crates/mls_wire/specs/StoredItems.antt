@@ -62,21 +62,26 @@ none_stored f bytes e = rw e refl
 
 -- ---- a list that is read
 
-pub no_body : {A : Type 0} (f : Input → Option (A × Input)) (old new : Input) (e : WireFault) → ReadsBody old new (Err e) → list_at f old ≡ None
+pub no_list : {A : Type 0} (f : Input → Option (A × Input)) (i : Input) → body_at i ≡ None → list_at f i ≡ None
 unfolding list_at
-no_body f old new e h = let a = (Gives-body old new (Err e) h).0 in rw a refl
+no_list f i none = rw none refl
+
+pub no_items : {A : Type 0} (f : Input → Option (A × Input)) (i j body : Input) → body_at i ≡ Some (body, j) → all_of f body ≡ None → list_at f i ≡ None
+unfolding list_at
+no_items f i j body some none = rw (some, none) refl
+
+pub all_items : {A : Type 0} (f : Input → Option (A × Input)) (i j body : Input) (xs : List A) → body_at i ≡ Some (body, j) → all_of f body ≡ Some xs → list_at f i ≡ Some (xs, j)
+unfolding list_at
+all_items f i j body xs some all = rw (some, all) refl
+
+pub no_body : {A : Type 0} (f : Input → Option (A × Input)) (old new : Input) (e : WireFault) → ReadsBody old new (Err e) → list_at f old ≡ None
+no_body f old new e h = no_list f old (Gives-body old new (Err e) h).0
 
 pub none_in_body : {A : Type 0} (f : Input → Option (A × Input)) (old new body : Input) → ReadsBody old new (Ok body) → all_of f body ≡ None → list_at f old ≡ None
-unfolding list_at
-none_in_body f old new body h none =
-    let a : body_at old ≡ Some (body, new) = Gives-body old new (Ok body) h in
-    rw (a, none) refl
+none_in_body f old new body h none = no_items f old new body (Gives-body old new (Ok body) h) none
 
 pub some_in_body : {A : Type 0} (f : Input → Option (A × Input)) (old new body : Input) (xs : List A) → ReadsBody old new (Ok body) → all_of f body ≡ Some xs → list_at f old ≡ Some (xs, new)
-unfolding list_at
-some_in_body f old new body xs h some =
-    let a : body_at old ≡ Some (body, new) = Gives-body old new (Ok body) h in
-    rw (a, some) refl
+some_in_body f old new body xs h some = all_items f old new body xs (Gives-body old new (Ok body) h) some
 
 pub body_within : (old new body : Input) → ReadsBody old new (Ok body) → length body.left ≤ vector_limit
 body_within old new body h = vector_within body.left h.0.0 h.0.1

@@ -55,7 +55,7 @@ impl<T: Skip> Model for EncodedItems<T> {
 }
 
 /// Returns how many values are encoded, one after the other, up to the end.
-fn count_items<T: Skip>(mut body: Reader<'_>) -> Result<usize, WireFault>
+pub(crate) fn count_items<T: Skip>(mut body: Reader<'_>) -> Result<usize, WireFault>
     ensures { MatchResult result
         (λ count. option_map length (items_at T.reading (length body.entry.left) body.entry) ≡ Some count)
         (λ _. items_at T.reading (length body.entry.left) body.entry ≡ None) }
@@ -180,6 +180,14 @@ impl<T: Skip> Encode for EncodedItems<T> {
 
     fn put(&self, alloc: Global, draft: &mut Draft) -> Result<(), CodecFault> {
         self.body.put(alloc, draft)
+    }
+}
+
+impl<T: Skip> Skip for EncodedItems<T> {
+    fn skip(reader: &mut Reader<'_>) -> Result<(), WireFault> {
+        let body = reader.next_sub()?;
+        count_items::<T>(body)?;
+        Ok(())
     }
 }
 

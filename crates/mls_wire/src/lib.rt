@@ -7,15 +7,17 @@
 //! - [`Opaque`] is the body of a vector, [`BoxedOpaque`] a smaller form for long lists, [`Items`] a list that fits into
 //!   one, [`EncodedItems`] such a list stored as its encoding, [`Codes`] such a list of `uint16`, [`Sequence`] a list of
 //!   any length.
+//! - [`OpaqueRef`] and [`ItemsRef`] are the body of a vector and a list, borrowed from the bytes that encode them.
 //! - [`Shared`] holds a value with several owners, so that a copy of it allocates nothing.
 //! - A [`Source`] gives bytes and a [`Sink`] takes them, in pieces of any size; each over std or over memory.
 //! - A [`RecordReader`] reads the records of a log from its source. [`Records`] takes the source in each call.
 //!
 //! Contracts name encodings (`specs/Encoding.antt`). A read returns the value that is encoded at the front, and fails
 //! if and only if there is none. A write appends exactly the encoding, or nothing. Only what implementors of [`Decode`]
-//! and [`Skip`] need also names the reading function.
+//! and [`Skip`] need, and types that borrow their fields, also names the reading function.
 #![tactic(auto)]
 
+mod borrowed;
 mod boxed_opaque;
 mod codes;
 mod decode;
@@ -42,6 +44,7 @@ mod source;
 mod try_clone;
 mod writer;
 
+pub use borrowed::{ItemsRef, OpaqueRef, parse_u8, parse_u16, parse_u64};
 pub use boxed_opaque::BoxedOpaque;
 pub use codes::Codes;
 pub use decode::{Decode, MAX_INPUT, read_all_of, read_input, read_value};

@@ -5,7 +5,7 @@ ghost use Rattle.mls_wire.specs.Faults.{too_long_at};
 ghost use Rattle.mls_wire.specs.Limits.{input_limit};
 ghost use Rattle.mls_wire.specs.ReadContracts.{seen};
 ghost use Rattle.mls_nodes.specs.Limits.{entry_limit};
-ghost use Rattle.mls_nodes.specs.NodeModel.{entry_value};
+ghost use Rattle.mls_nodes.specs.NodeValues.{entry_value};
 ghost use Rattle.mls_nodes.specs.RatchetTreeEncoding.{full_size, filled};
 ghost use Rattle.mls_nodes.specs.RatchetTreeContracts.{DecodesTree};
 ghost use Rattle.mls_nodes.specs.RatchetTreeContractsInternal.{DecodesEntries};

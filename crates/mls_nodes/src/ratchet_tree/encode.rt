@@ -9,7 +9,7 @@ ghost use Rattle.mls_wire.specs.ReadContracts.{seen};
 ghost use Rattle.mls_wire.specs.WriteContracts.{MakesPiece, Puts, PutsPiece};
 ghost use Rattle.mls_wire.specs.declared.fault.WireFault.{WireFault};
 ghost use Rattle.mls_nodes.specs.Limits.{entry_limit};
-ghost use Rattle.mls_nodes.specs.NodeModel.{node_value, entry_value};
+ghost use Rattle.mls_nodes.specs.NodeValues.{node_value, entry_value};
 ghost use Rattle.mls_nodes.specs.Layout.{node};
 ghost use Rattle.mls_nodes.specs.RatchetTreeEncoding.{fits_at, trimmed, IsFirstMisplaced};
 ghost use Rattle.mls_nodes.specs.RatchetTreeContracts.{EncodesTree};

@@ -8,7 +8,7 @@ ghost use Rattle.mls_wire.specs.Limits.{input_limit};
 ghost use Rattle.mls_wire.specs.ReadContracts.{seen};
 ghost use Rattle.mls_nodes.specs.Layout.{node};
 ghost use Rattle.mls_nodes.specs.Limits.{entry_limit};
-ghost use Rattle.mls_nodes.specs.NodeModel.{entry_value};
+ghost use Rattle.mls_nodes.specs.NodeValues.{entry_value};
 ghost use Rattle.mls_nodes.specs.RatchetTreeReading.{StartsReading, ReadsEntry};
 ghost use Rattle.mls_nodes.specs.declared.fault.NodeFault.TheVariants as faults;
 

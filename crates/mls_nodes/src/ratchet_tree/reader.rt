@@ -7,13 +7,13 @@ ghost use Rattle.mls_wire.specs.Parsing.{body_at};
 ghost use Rattle.mls_wire.specs.ParsingInternal.{Gives, flag_at, optional_at};
 ghost use Rattle.mls_wire.specs.ReadContracts.{seen};
 ghost use Rattle.mls_nodes.specs.Limits.{entry_limit};
-ghost use Rattle.mls_nodes.specs.NodeModel.{node_value, entry_value};
+ghost use Rattle.mls_nodes.specs.NodeValues.{node_value, entry_value};
 ghost use Rattle.mls_nodes.specs.ParsingInternal.{node_in, reader_model, rest_at, GivesNode, ReadsVector};
 ghost use Rattle.mls_nodes.specs.RatchetTreeReading.{StartsReading, ReadsEntry};
 ghost use Rattle.mls_nodes.specs.declared.fault.NodeFault.TheVariants as faults;
 
+use crate::encoded_leaf::EncodedLeaf;
 use crate::fault::NodeFault;
-use crate::leaf::LeafNode;
 use crate::node::Node;
 use crate::parent::ParentNode;
 use crate::ratchet_tree::MAX_ENTRIES;
@@ -45,7 +45,7 @@ fn read_node(alloc: Global, node_index: usize, reader: &mut Reader<'_>) -> Resul
     match u8::read(alloc, reader)? {
         1 if node_index % 2 == 0 => Ok(Node::Leaf(Shared::new(
             alloc,
-            LeafNode::read(alloc, reader)?,
+            EncodedLeaf::read(alloc, reader)?,
         )?)),
         2 if node_index % 2 == 1 => Ok(Node::Parent(Box::new(
             alloc,

@@ -27,7 +27,7 @@ pub returns-then-not-is_from_commit-clause-refused : goal.returns-then-not-is_fr
 returns-then-not-is_from_commit-clause-refused c _ H =
     let long = path-long c.args.tree.now.tree c.args.path.now.leaf c.len.result c.as_slice-nodes.result.now c.args.path.now.path.now.nodes c.in_ok-node_indices.node_indices.items
     c.as_slice-nodes.ensures c.in_ok-node_indices.ensures.node_indices (omega (arith, c.in_ok-node_indices.node_indices.ok)) c.if-nodes-len.false in
-    path-no_commit (applied_tree c.args.tree.now.tree c.args.path.now.added.now) c.args.path.now.leaf c.args.path.now.path.now H (is_less _ _ c.in_ok-node_indices.ensures.inside) long (sym (rw c.deref.ensures at c.is_from_commit.ensures) ∙ c.if-not-is_from_commit.true)
+    path-no_commit (applied_tree c.args.tree.now.tree c.args.path.now.added.now) c.args.path.now.leaf c.args.path.now.path.now H (is_less _ _ c.in_ok-node_indices.ensures.inside) long (sym (rw (c.source.ensures, c.deref.ensures) at c.is_from_commit.ensures) ∙ c.if-not-is_from_commit.true)
 
 pub returns-clause-commit : goal.returns-clause-commit
-returns-clause-commit c = sym (rw c.deref.ensures at c.is_from_commit.ensures) ∙ c.if-not-is_from_commit.false
+returns-clause-commit c = sym (rw (c.source.ensures, c.deref.ensures) at c.is_from_commit.ensures) ∙ c.if-not-is_from_commit.false

@@ -31,7 +31,7 @@ returns-then-not-carries-clause-refused c _ =
     let made : parents_of_path H t c.args.path.now.leaf (node_keys c.args.path.now.path.now) ≡ Some (path_parents_model c.in_ok-new.new) =
     (λ i. path_parents H t c.args.path.now.leaf (reverse (sym node_indices i)) (reverse (sym keys i)) []) ∙ c.in_ok-new.ensures in
     hash-refused H c.args.path.now.path.now t c.args.path.now.leaf
-    (has_expected_hash-path_parents H c.args.path.now.path.now t c.args.path.now.leaf (path_parents_model c.in_ok-new.new) c.carries.result made (rw c.deref.ensures at c.carries.ensures) ∙ c.if-not-carries.true)
+    (has_expected_hash-path_parents H c.args.path.now.path.now t c.args.path.now.leaf (path_parents_model c.in_ok-new.new) c.carries.result made (rw (c.source.ensures, c.deref.ensures) at c.carries.ensures) ∙ c.if-not-carries.true)
 
 pub returns-clause-made : goal.returns-clause-made
 returns-clause-made c =
@@ -58,4 +58,4 @@ returns-clause-rules_hold c =
     let made : parents_of_path H t c.args.path.now.leaf (node_keys c.args.path.now.path.now) ≡ Some (path_parents_model c.in_ok-new.new) =
     (λ i. path_parents H t c.args.path.now.leaf (reverse (sym node_indices i)) (reverse (sym keys i)) []) ∙ c.in_ok-new.ensures in
     hash-kept H c.args.path.now.path.now t c.args.path.now.leaf
-    (has_expected_hash-path_parents H c.args.path.now.path.now t c.args.path.now.leaf (path_parents_model c.in_ok-new.new) c.carries.result made (rw c.deref.ensures at c.carries.ensures) ∙ c.if-not-carries.false)
+    (has_expected_hash-path_parents H c.args.path.now.path.now t c.args.path.now.leaf (path_parents_model c.in_ok-new.new) c.carries.result made (rw (c.source.ensures, c.deref.ensures) at c.carries.ensures) ∙ c.if-not-carries.false)

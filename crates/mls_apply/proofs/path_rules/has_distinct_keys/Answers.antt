@@ -25,10 +25,10 @@ returns c =
     elim (cases_Bool c.in_ok-insert-2.field-0) [
       | inl new ↦
           new
-          ∙ sym (held-all c.args.path.now c.as_slice-nodes.result.now c.loop-index.index c.as_slice-2.result c.loop-index.keys c.loop-index.invariant c.as_slice-nodes.ensures
-          (omega (arith, c.loop-index-test.false)) (rw c.deref.ensures at c.as_slice-2.ensures.bytes) c.insert-2.new.self (unmet _ _ c.in_ok-insert-2.ensures.added new) c.in_ok-insert-2.ensures.updates.0).distinct
+          ∙ sym (held-all c.args.path.now c.as_slice-nodes.result.now c.loop-index.index c.encryption_key.result c.loop-index.keys c.loop-index.invariant c.as_slice-nodes.ensures
+          (omega (arith, c.loop-index-test.false)) (rw c.deref.ensures at c.encryption_key.ensures) c.insert-2.new.self (unmet _ _ c.in_ok-insert-2.ensures.added new) c.in_ok-insert-2.ensures.updates.0).distinct
       | inr again ↦
           again
-          ∙ sym (twice-all c.args.path.now c.as_slice-nodes.result.now c.loop-index.index c.as_slice-2.result c.loop-index.keys c.loop-index.invariant c.as_slice-nodes.ensures
-          (omega (arith, c.loop-index-test.false)) (rw c.deref.ensures at c.as_slice-2.ensures.bytes) (met _ _ c.in_ok-insert-2.ensures.added again))
+          ∙ sym (twice-all c.args.path.now c.as_slice-nodes.result.now c.loop-index.index c.encryption_key.result c.loop-index.keys c.loop-index.invariant c.as_slice-nodes.ensures
+          (omega (arith, c.loop-index-test.false)) (rw c.deref.ensures at c.encryption_key.ensures) (met _ _ c.in_ok-insert-2.ensures.added again))
     ]

@@ -22,5 +22,5 @@ pub returns-clause-good : goal.returns-clause-good
 returns-clause-good g c =
     let whole = drafted _ c.after-draft.result c.put_content.new.draft c.finish.result.items
     (c.after-draft.ensures.kept ∙ c.clear.ensures.items) c.after-draft.ensures.more c.in-Ok.ensures c.finish.ensures in
-    let asked = rw (c.as_slice-key.ensures.bytes, c.as_slice.ensures.value, c.as_slice-2.ensures.bytes) at c.good.ensures in
+    let asked = rw (c.signature_key-key.ensures, c.as_slice.ensures.value, c.signature.ensures) at c.good.ensures in
     asked ∙ is_leaf_signed-content _ c.args.suite c.args.group_id.now c.args.index c.args.leaf.now c.leaf_tbs_len-len.result _ c.leaf_tbs_len-len.ensures.length whole

@@ -12,7 +12,7 @@ loop-index-preserved-then-not-branch c =
     let next : c.loop-index.index ≡ c.loop-index.index - 1 + 1 = omega (arith, c.loop-index-test.true) in
     let known : KeysFrom t (c.loop-index.index - 1 + 1) c.loop-index.later c.loop-index.repeated = rw (← next) c.loop-index.invariant in
     let there = not_false _ (sym c.in_ok-insert.ensures.added ∙ c.if-not-branch.true) in
-    KeysFrom-repeated t (c.loop-index.index - 1) c.loop-index.later c.insert.new.self c.in-Some.leaf.now c.as_slice.result (sym c.leaf.ensures ∙ ap option_copied c.in-Some.is) c.as_slice.ensures.bytes c.in_ok-insert.ensures.updates.0
+    KeysFrom-repeated t (c.loop-index.index - 1) c.loop-index.later c.insert.new.self c.in-Some.leaf.now c.signature_key.result (sym c.leaf.ensures ∙ ap option_copied c.in-Some.is) c.signature_key.ensures c.in_ok-insert.ensures.updates.0
     c.loop-index.repeated known there
 
 pub loop-index-preserved-else-not-branch : goal.loop-index-preserved-else-not-branch
@@ -21,7 +21,7 @@ loop-index-preserved-else-not-branch c =
     let next : c.loop-index.index ≡ c.loop-index.index - 1 + 1 = omega (arith, c.loop-index-test.true) in
     let known : KeysFrom t (c.loop-index.index - 1 + 1) c.loop-index.later c.loop-index.repeated = rw (← next) c.loop-index.invariant in
     let absent = not_true _ (sym c.in_ok-insert.ensures.added ∙ c.if-not-branch.false) in
-    KeysFrom-new t (c.loop-index.index - 1) c.loop-index.later c.insert.new.self c.in-Some.leaf.now c.as_slice.result (sym c.leaf.ensures ∙ ap option_copied c.in-Some.is) c.as_slice.ensures.bytes c.in_ok-insert.ensures.updates.0
+    KeysFrom-new t (c.loop-index.index - 1) c.loop-index.later c.insert.new.self c.in-Some.leaf.now c.signature_key.result (sym c.leaf.ensures ∙ ap option_copied c.in-Some.is) c.signature_key.ensures c.in_ok-insert.ensures.updates.0
     c.loop-index.repeated known absent
 
 pub loop-index-preserved : goal.loop-index-preserved

@@ -18,7 +18,7 @@ loop-index-preserved c =
       | in-Some+in_ok-push w ↦
           let x = w.in-Some.leaf.now in
           let set = signature_key-set t i x (sym c.leaf.ensures ∙ ap option_copied w.in-Some.is) in
-          let is = w.key_prefix.ensures ∙ ap key_prefix w.as_slice.ensures.bytes in
+          let is = w.key_prefix.ensures ∙ ap key_prefix w.signature_key.ensures in
           rw w.prefixes-is
           (Begun-key (signature_key_at t) i numbers known x.signature_key set
           w.key_prefix.result w.push.new.self.items is w.in_ok-push.ensures.items)

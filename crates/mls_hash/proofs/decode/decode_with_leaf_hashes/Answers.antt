@@ -1,6 +1,6 @@
 use Rattle.std.proofs.Common.{◌≡◌, true, false, map, ◌∙◌, arith}
 use Rattle.std.proofs.lemmas.List.{length-map}
-use Rattle.mls_nodes.specs.NodeModel.{entry_value}
+use Rattle.mls_nodes.specs.NodeValues.{entry_value}
 use Rattle.mls_nodes.proofs.Entries.{tree_again, tree_few}
 use Rattle.mls_tree.proofs.Filled.{filled_listing}
 use Rattle.mls_hash.specs.SuiteHash.{hash_of}

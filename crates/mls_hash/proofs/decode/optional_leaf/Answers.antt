@@ -1,4 +1,4 @@
-use Rattle.mls_nodes.specs.NodeModel.{entry_value}
+use Rattle.mls_nodes.specs.NodeValues.{entry_value}
 use Rattle.mls_hash.proofs.EncodedLeaves.{of_leaf, of_blank, entry_some}
 use Rattle.mls_hash.proofs.decode.optional_leaf.Goals as goal
 

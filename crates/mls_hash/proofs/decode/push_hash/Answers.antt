@@ -1,6 +1,6 @@
 use Rattle.std.proofs.Common.{◌/◌, ◌++◌, ◌∷◌, [], List, ℕ, ap, sym, subst, ◌∙◌, arith, option_map}
 use Rattle.std.proofs.lemmas.Result.{on_ok_weaker}
-use Rattle.mls_nodes.specs.NodeModel.{entry_value}
+use Rattle.mls_nodes.specs.NodeValues.{entry_value}
 use Rattle.mls_tree.specs.HashLists.{EqualHashes}
 use Rattle.mls_tree.specs.TreeHash.{leaf_tree_hash_input}
 use Rattle.mls_hash.specs.SuiteHash.{hash_of}

@@ -1,6 +1,7 @@
 use Rattle.std.proofs.Common.{◌≡◌, ◌++◌, ◌∷◌, [], List, Option, Ok, length, map, ap, sym, subst, ◌∙◌, arith, length-append}
 use Rattle.std.proofs.lemmas.List.{length-map, map_push}
-use Rattle.mls_nodes.specs.NodeModel.{NodeValue, entry_value}
+use Rattle.mls_nodes.specs.NodeModel.{NodeValue}
+use Rattle.mls_nodes.specs.NodeValues.{entry_value}
 use Rattle.mls_nodes.specs.RatchetTreeReading.{ReadsEntry}
 use Rattle.mls_nodes.specs.declared.node.Node.{Node}
 use Rattle.mls_hash.specs.SuiteHash.{hash_of}

@@ -1,6 +1,6 @@
 use Rattle.std.proofs.Common.{◌≡◌, ◌≤◌, length, map}
 use Rattle.mls_wire.specs.Limits.{input_limit}
-use Rattle.mls_nodes.specs.NodeModel.{entry_value}
+use Rattle.mls_nodes.specs.NodeValues.{entry_value}
 use Rattle.mls_nodes.proofs.RestOfTree.{ReadBefore}
 use Rattle.mls_hash.specs.SuiteHash.{hash_of, hash_length}
 use Rattle.mls_hash.specs.EncodedLeaves.{AreEntryHashes}

@@ -4,7 +4,8 @@ use Rattle.mls_wire.specs.Parsing.{list_at, vector_at}
 use Rattle.mls_nodes.specs.Extension.{extension}
 use Rattle.mls_nodes.specs.Layout.{credential, codes, capabilities, lifetime, source, leaf, unmerged, parent, node, required_capabilities, external_sender, group_context}
 use Rattle.mls_nodes.specs.Parsing.{credential_at, codes_at, required_capabilities_at, external_sender_at}
-use Rattle.mls_nodes.specs.ParsingInternal.{capabilities_at, extension_at, lifetime_at, source_at, leaf_node_at, unmerged_at, parent_node_at, node_model_at, group_context_at}
+use Rattle.mls_nodes.specs.ParsingInternal.{unmerged_at, parent_node_at, node_model_at, group_context_at}
+use Rattle.mls_nodes.specs.LeafParsing.{capabilities_at, extension_at, lifetime_at, source_at, leaf_node_at}
 use Rattle.mls_nodes.specs.NodesExact.{codes_exact, chain_exact, credential_exact, capabilities_exact, extension_exact, extensions_exact, lifetime_exact, source_exact, leaf_exact, unmerged_exact, parent_exact, node_exact, required_capabilities_exact, external_sender_exact, external_senders_exact, group_context_exact}
 use Rattle.mls_nodes.proofs.Trimming.{ratchet_tree_unambiguous}
 use Rattle.mls_nodes.proofs.laws.unambiguous.Goals as goal

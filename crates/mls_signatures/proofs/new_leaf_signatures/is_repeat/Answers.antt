@@ -16,5 +16,5 @@ returns-then-have_one_reference c = λ e.
       is_here = at_place leaves c.args.position c.index-leaves-position.result c.requires c.index-leaves-position.is;
       is_there = at_place leaves earlier c.index-leaves-earlier.result inside c.index-leaves-earlier.is;
       named = c.have_one_reference.ensures c.if-have_one_reference.true;
-      source = sym c.is_from_key_package.ensures ∙ e;
+      source = sym (rw c.source.ensures at c.is_from_key_package.ensures) ∙ e;
     }

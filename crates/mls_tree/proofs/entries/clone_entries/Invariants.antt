@@ -1,5 +1,5 @@
 use Rattle.std.proofs.Common.{◌≡◌, map, take}
-use Rattle.mls_nodes.specs.NodeModel.{entry_value}
+use Rattle.mls_nodes.specs.NodeValues.{entry_value}
 use Rattle.mls_tree.proofs.entries.clone_entries.Given as goal
 
 abbrev pub invariant-loop-entry : goal.invariant-loop-entry

@@ -1,5 +1,5 @@
 use Rattle.std.proofs.Common.{◌≡◌, arith, ap, ◌∙◌, ◌++◌, ◌-◌, map, length, replicate, None, vec_len}
-use Rattle.mls_nodes.specs.NodeModel.{entry_value}
+use Rattle.mls_nodes.specs.NodeValues.{entry_value}
 use Rattle.mls_nodes.specs.RatchetTreeEncoding.{full_size}
 use Rattle.mls_nodes.specs.FilledTree.{full_size-enough}
 use Rattle.mls_nodes.proofs.Entries.{blank_more, blanks_begin}

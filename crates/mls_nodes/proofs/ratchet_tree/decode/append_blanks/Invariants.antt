@@ -1,5 +1,5 @@
 use Rattle.std.proofs.Common.{◌≡◌, ◌≤◌, ◌-◌, ◌++◌, map, replicate, vec_len, None}
-use Rattle.mls_nodes.specs.NodeModel.{entry_value}
+use Rattle.mls_nodes.specs.NodeValues.{entry_value}
 use Rattle.mls_nodes.specs.RatchetTreeEncoding.{filled}
 use Rattle.mls_nodes.proofs.ratchet_tree.decode.append_blanks.Given as goal
 

@@ -1,7 +1,7 @@
 use Rattle.std.proofs.Common.{arith, map}
 use Rattle.std.proofs.lemmas.Result.{err_from_is_err_and}
 use Rattle.std.proofs.lemmas.List.{length-map}
-use Rattle.mls_nodes.specs.NodeModel.{entry_value}
+use Rattle.mls_nodes.specs.NodeValues.{entry_value}
 use Rattle.mls_nodes.proofs.Entries.{is_filled, tree_again, tree_few}
 use Rattle.mls_nodes.proofs.RestOfTree.{decode_fault}
 use Rattle.mls_nodes.proofs.ratchet_tree.decode.decode_ratchet_tree.Goals as goal

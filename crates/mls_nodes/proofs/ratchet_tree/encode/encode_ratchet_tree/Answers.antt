@@ -1,5 +1,5 @@
 use Rattle.std.proofs.Common.{map}
-use Rattle.mls_nodes.specs.NodeModel.{entry_value}
+use Rattle.mls_nodes.specs.NodeValues.{entry_value}
 use Rattle.mls_nodes.specs.RatchetTreeEncoding.{trimmed}
 use Rattle.mls_nodes.proofs.Trimming.{is_encoded, is_empty_tree, is_misplaced, is_too_long, is_over_a_limit, no_last_blank}
 use Rattle.mls_nodes.proofs.ratchet_tree.encode.encode_ratchet_tree.Goals as goal

@@ -1,7 +1,7 @@
 use Rattle.std.proofs.Common.{map, sym}
 use Rattle.std.proofs.lemmas.Bool.{eqb-true, eqb-false}
 use Rattle.std.proofs.lemmas.Result.{err_from_is_err_and}
-use Rattle.mls_nodes.specs.NodeModel.{entry_value}
+use Rattle.mls_nodes.specs.NodeValues.{entry_value}
 use Rattle.mls_nodes.proofs.Trimming.{none_at_all, some_at_all, misjudged, unwritten}
 use Rattle.mls_nodes.proofs.ratchet_tree.encode.encode_trimmed.Goals as goal
 

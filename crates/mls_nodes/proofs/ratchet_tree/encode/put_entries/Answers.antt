@@ -3,7 +3,7 @@ use Rattle.std.proofs.lemmas.Result.{err_from_is_err_and}
 use Rattle.std.proofs.lemmas.List.{length-map}
 use Rattle.mls_wire.specs.Encoding.{optional}
 use Rattle.mls_wire.specs.WriteSequences.{items_push, items_fails, items_all, nothing_put}
-use Rattle.mls_nodes.specs.NodeModel.{entry_value}
+use Rattle.mls_nodes.specs.NodeValues.{entry_value}
 use Rattle.mls_nodes.specs.Layout.{node}
 use Rattle.mls_nodes.proofs.Trimming.{entry_at}
 use Rattle.mls_nodes.proofs.ratchet_tree.encode.put_entries.Goals as goal

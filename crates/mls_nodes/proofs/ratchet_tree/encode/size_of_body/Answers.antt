@@ -1,7 +1,7 @@
 use Rattle.std.proofs.Common.{map, refl, arith}
 use Rattle.mls_wire.specs.Encoding.{optional}
 use Rattle.mls_wire.specs.EncodedSizes.{list_none}
-use Rattle.mls_nodes.specs.NodeModel.{entry_value}
+use Rattle.mls_nodes.specs.NodeValues.{entry_value}
 use Rattle.mls_nodes.specs.Layout.{node}
 use Rattle.mls_nodes.proofs.Drafted.{list_over}
 use Rattle.mls_nodes.proofs.ratchet_tree.encode.size_of_body.Goals as goal

@@ -2,7 +2,7 @@ use Rattle.std.proofs.Common.{◌∙◌, ap, map, Some, ℕ, arith}
 use Rattle.std.proofs.lemmas.List.{length-map}
 use Rattle.mls_wire.specs.Encoding.{optional}
 use Rattle.mls_wire.specs.EncodedSizes.{size_nothing, size_added, size_refused, size_all}
-use Rattle.mls_nodes.specs.NodeModel.{entry_value}
+use Rattle.mls_nodes.specs.NodeValues.{entry_value}
 use Rattle.mls_nodes.specs.Layout.{node}
 use Rattle.mls_nodes.proofs.Trimming.{entry_at}
 use Rattle.mls_nodes.proofs.ratchet_tree.encode.size_of_entries.Goals as goal

@@ -1,5 +1,5 @@
 use Rattle.std.proofs.Common.{◌≡◌, ◌≤◌, map, take, length}
-use Rattle.mls_nodes.specs.NodeModel.{entry_value}
+use Rattle.mls_nodes.specs.NodeValues.{entry_value}
 use Rattle.mls_nodes.specs.RatchetTreeEncoding.{trimmed}
 use Rattle.mls_nodes.proofs.ratchet_tree.encode.trimmed_entries.Given as goal
 

@@ -1,6 +1,6 @@
 use Rattle.std.proofs.Common.{◌∙◌, ◌+◌, sym, ap, refl, Bool}
 use Rattle.std.proofs.lemmas.Result.{err_from_is_err_and}
-use Rattle.mls_nodes.specs.NodeModel.{entry_value}
+use Rattle.mls_nodes.specs.NodeValues.{entry_value}
 use Rattle.mls_nodes.specs.ParsingInternal.{rest_at, reader_model}
 use Rattle.mls_nodes.specs.RatchetTreeReading.{with_first}
 use Rattle.mls_nodes.proofs.RestOfTree.{rest_crowded, rest_more, entry_encoded, entry_fault}

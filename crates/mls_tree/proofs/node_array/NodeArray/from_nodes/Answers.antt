@@ -1,6 +1,6 @@
 use Rattle.std.proofs.Common.{sym, ◌∙◌, arith, subst, refl, ◌≡◌, ◌+◌, ◌*◌, length, map}
 use Rattle.std.specs.Prelude.{slice_get}
-use Rattle.mls_nodes.specs.NodeModel.{entry_value}
+use Rattle.mls_nodes.specs.NodeValues.{entry_value}
 use Rattle.mls_tree.specs.NodeArray.{FitsNodeIndex, IsNoLength, ratchet_tree_in, tree_in}
 use Rattle.mls_tree.specs.Tree.{listing}
 use Rattle.mls_tree.specs.TreeInternal.{leaves_at}

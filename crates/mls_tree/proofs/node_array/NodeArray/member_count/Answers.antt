@@ -1,5 +1,5 @@
 use Rattle.std.proofs.Common.{length, map, ◌∙◌, sym, ap, arith}
-use Rattle.mls_nodes.specs.NodeModel.{entry_value}
+use Rattle.mls_nodes.specs.NodeValues.{entry_value}
 use Rattle.mls_tree.specs.Tree.{leaves_among, listing}
 use Rattle.mls_tree.proofs.Arrays.{listing-array}
 use Rattle.mls_tree.proofs.Members.{member_count-listing}

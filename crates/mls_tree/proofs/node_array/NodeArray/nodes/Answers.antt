@@ -1,5 +1,5 @@
 use Rattle.std.proofs.Common.{◌∙◌, ap, map}
-use Rattle.mls_nodes.specs.NodeModel.{entry_value}
+use Rattle.mls_nodes.specs.NodeValues.{entry_value}
 use Rattle.mls_tree.specs.Tree.{listing}
 use Rattle.mls_tree.proofs.Arrays.{listing-array}
 use Rattle.mls_tree.proofs.node_array.NodeArray.nodes.Goals as goal

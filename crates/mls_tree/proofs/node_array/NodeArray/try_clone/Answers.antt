@@ -1,5 +1,5 @@
 use Rattle.std.proofs.Common.{ap, ◌∙◌, map}
-use Rattle.mls_nodes.specs.NodeModel.{entry_value}
+use Rattle.mls_nodes.specs.NodeValues.{entry_value}
 use Rattle.mls_tree.specs.RatchetTreeInternal.{RatchetTree-same}
 use Rattle.mls_tree.proofs.Listings.{tree_in-seen, IsArrayOf-seen}
 use Rattle.mls_tree.proofs.node_array.NodeArray.try_clone.Goals as goal

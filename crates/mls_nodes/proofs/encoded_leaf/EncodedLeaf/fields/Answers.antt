@@ -1,0 +1,9 @@
+use Rattle.std.proofs.Common.{◌∙◌, sym}
+use Rattle.mls_nodes.proofs.StoredLeaves.{read_again}
+use Rattle.mls_nodes.specs.StoredLeaf.{stored_leaf}
+use Rattle.mls_nodes.proofs.encoded_leaf.EncodedLeaf.fields.Goals as goal
+
+pub unreachable-requires : goal.unreachable-requires
+unreachable-requires c =
+    let none = rw (c.in-Err.is, c.new.ensures, c.as_slice.ensures.value) at c.parse.ensures in
+    let bad = sym none ∙ read_again (stored_leaf c.self.inside.bytes.items) c.self.inside.bytes.items c.self.invariant.0 in absurd cc

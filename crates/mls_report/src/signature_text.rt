@@ -1,9 +1,11 @@
 //! The lines of `signatures`.
 
-ghost use Rattle.std.specs.Prelude.{◌≡◌, ◌++◌, IfOk, OnOk, option_map, string_bytes};
+ghost use Rattle.std.specs.Prelude.{◌≡◌, ◌++◌, codes, IfOk, OnOk, option_map, string_bytes};
+ghost use Rattle.std.specs.Fmt.{decimal};
 ghost use Rattle.sha2.specs.Sha256.{sha256};
 ghost use Rattle.mls_check.specs.Receipts.{receipt_input};
 ghost use Rattle.mls_report.specs.SignaturesReport as lines;
+ghost use Rattle.mls_report.specs.ValueTexts.{hex_text};
 
 use crate::value_text::hex_of;
 use mls_check::{SignatureCheck, receipt};
@@ -28,17 +30,68 @@ fn receipt_text(alloc: Global, needed: &SignatureToVerify) -> Result<String, All
     }
 }
 
+/// Appends a space, and bytes in lower-case hexadecimal, or `-` if there are none.
+fn push_hex(alloc: Global, text: &mut String, bytes: &[u8]) -> Result<(), AllocError>
+    ensures { OnOk result (string_bytes text.new
+        ≡ string_bytes text.old ++ (codes " " ++ hex_text bytes.now)) }
+{
+    let hex = hex_of(alloc, bytes)?;
+    text.push_str(" ")?;
+    text.push_str(hex.as_str())
+}
+
+/// Appends the receipt of a needed signature, or `-` if it can have none, and the suite.
+fn push_receipt(
+    alloc: Global,
+    text: &mut String,
+    needed: &SignatureToVerify,
+) -> Result<(), AllocError>
+    ensures { let input = receipt_input needed.now.suite needed.now.key needed.now.content
+        needed.now.signature in
+        OnOk result (string_bytes text.new ≡ string_bytes text.old
+        ++ (lines.receipt_text (option_map sha256 input) ++ (codes " " ++ decimal needed.now.suite))) }
+{
+    let suite = needed.suite;
+    let receipt = receipt_text(alloc, needed)?;
+    let front = format!(in alloc; "{receipt} {suite}")?;
+    text.push_str(front.as_str())
+}
+
+/// Returns a number of bytes that the line of a needed signature does not exceed.
+fn line_limit(needed: &SignatureToVerify) -> usize {
+    let content = needed.content.as_slice().len();
+    let others = needed.key.as_slice().len() + needed.signature.as_slice().len();
+    content
+        .saturating_add(others)
+        .saturating_mul(2)
+        .saturating_add(80)
+}
+
+/// Appends the line of a needed signature. Memory for it is taken at once, since what is signed may be long.
+fn push_signature_line(
+    alloc: Global,
+    text: &mut String,
+    needed: &SignatureToVerify,
+) -> Result<(), AllocError>
+    ensures { OnOk result (string_bytes text.new
+        ≡ string_bytes text.old ++ lines.signature_line needed.now) }
+{
+    text.reserve(line_limit(needed))?;
+    push_receipt(alloc, text, needed)?;
+    push_hex(alloc, text, needed.key.as_slice())?;
+    push_hex(alloc, text, needed.content.as_slice())?;
+    push_hex(alloc, text, needed.signature.as_slice())?;
+    text.push_str("\n")
+}
+
 /// Returns the line of a needed signature: its receipt or `-`, the suite, the key, the SignContent (RFC 9420, 5.1.2) and
 /// the signature.
 pub fn signature_line(alloc: Global, needed: &SignatureToVerify) -> Result<String, AllocError>
     ensures { IfOk result (λ text. string_bytes text ≡ lines.signature_line needed.now) }
 {
-    let suite = needed.suite;
-    let receipt = receipt_text(alloc, needed)?;
-    let key = hex_of(alloc, needed.key.as_slice())?;
-    let content = hex_of(alloc, needed.content.as_slice())?;
-    let signature = hex_of(alloc, needed.signature.as_slice())?;
-    format!(in alloc; "{receipt} {suite} {key} {content} {signature}\n")
+    let mut line = String::new(alloc);
+    push_signature_line(alloc, &mut line, needed)?;
+    Ok(line)
 }
 
 /// Appends the line of a needed signature, unless `receipts` cover it.
@@ -56,8 +109,7 @@ pub fn put_line<R: SignatureCheck>(
     if receipts.good(needed.suite, key, content, needed.signature.as_slice()) {
         return Ok(());
     }
-    let line = signature_line(alloc, needed)?;
-    text.push_str(line.as_str())
+    push_signature_line(alloc, text, needed)
 }
 
 /// Returns the lines of needed signatures that `receipts` don't cover, in the order of the list.

@@ -37,7 +37,7 @@ use Rattle.mls_signatures.specs.AddedLeaves.{reference_of_entry, reference_at, l
 use Rattle.mls_signatures.specs.SignaturesToVerify.{labeled_signatures, leaf_signatures, non_blank_leaf_signatures, signatures_at}
 use Rattle.mls_signatures.specs.declared.added_leaves.AddedLeaf.{AddedLeaf}
 use Rattle.mls_signatures.specs.declared.signature_to_verify.SignatureToVerify.{SignatureToVerify}
-use Rattle.mls_signatures.proofs.Repeats.{AllMet, all_front, all_behind, all_itself, extends-none, extends-more, extends-push, extends-skip}
+use Rattle.mls_signatures.proofs.Repeats.{AllMet, all_front, all_behind, all_itself, extends-none, extends-more, extends-skip}
 
 -- ---- references
 
@@ -309,9 +309,9 @@ module _ (suite : ℕ) (group_id : List ℕ) where
               (all_front (old ++ before) (of_index t (get_or js i 0)) (of_index t x) (known.met x g))
 
       -- a new index
-      pub walked-push : (new : List SignatureToVerify) → new ≡ list ++ of_index t (get_or js i 0) → Walked t old js (i + 1) new next
+      pub walked-push : (new : List SignatureToVerify) → AppendsSignatures list (of_index t (get_or js i 0)) new → Walked t old js (i + 1) new next
       walked-push new e = record {
-        same = subst (λ ws. AppendsSignatures old ws new) (sym more) (extends-push old before list known.same (of_index t (get_or js i 0)) new e);
+        same = subst (λ ws. AppendsSignatures old ws new) (sym more) (extends-more old before list known.same (of_index t (get_or js i 0)) new e);
         met = λ x c. subst (λ ws. AllMet (old ++ ws) (of_index t x)) (sym more) (met_next x c);
       }
 
@@ -375,8 +375,8 @@ module _ (suite : ℕ) (group_id : List ℕ) where
         ∙ added_signatures-more (take i xs) x
 
     -- one more
-    pub added-push : (new : List SignatureToVerify) → new ≡ list ++ of_leaf x → AppendsSignatures old (added_signatures suite group_id (take (i + 1) xs)) new
-    added-push new e = subst (λ ws. AppendsSignatures old ws new) (sym next) (extends-push old (added_signatures suite group_id (take i xs)) list known (of_leaf x) new e)
+    pub added-push : (new : List SignatureToVerify) → AppendsSignatures list (of_leaf x) new → AppendsSignatures old (added_signatures suite group_id (take (i + 1) xs)) new
+    added-push new e = subst (λ ws. AppendsSignatures old ws new) (sym next) (extends-more old (added_signatures suite group_id (take i xs)) list known (of_leaf x) new e)
 
     -- one that came before
     pub added-skip : AreNamedAlike xs → IsRepeat xs i → AppendsSignatures old (added_signatures suite group_id (take (i + 1) xs)) list
@@ -400,11 +400,11 @@ module _ (suite : ℕ) (group_id : List ℕ) where
 
   -- those of the replaced leaves, of the added ones, and others
   pub all_extends : (t : Tree) (js : List ℕ) (xs : List AddedLeaf) → AreAdded t xs → (old first next new rest : List SignatureToVerify)
-      → AppendsSignatures old (signatures_at suite group_id t js) first → AppendsSignatures first (added_signatures suite group_id xs) next → new ≡ next ++ rest
+      → AppendsSignatures old (signatures_at suite group_id t js) first → AppendsSignatures first (added_signatures suite group_id xs) next → AppendsSignatures next rest new
       → AppendsSignatures old (signatures_at suite group_id t (js ++ indices xs) ++ rest) new
   all_extends t js xs added old first next new rest e f g =
       let replaced = signatures_at suite group_id t js in
       let both = extends-more old replaced first e (added_signatures suite group_id xs) next f in
       subst (λ ws. AppendsSignatures old (ws ++ rest) new)
       (ap (λ ws. replaced ++ ws) (added-are t xs added) ∙ sym (signatures_at-both t js (indices xs)))
-      (extends-push old (replaced ++ added_signatures suite group_id xs) next both rest new g)
+      (extends-more old (replaced ++ added_signatures suite group_id xs) next both rest new g)

@@ -1,5 +1,5 @@
 -- Signatures that a loop appends, and the leaves that a commit's list adds or replaces.
-use Rattle.std.proofs.Common.{drop, get_or, length, ◌≡◌, ◌∙◌, ℕ, zero, suc, ◌+◌, ◌-◌, ◌<◌, ◌≤◌, List, [], ◌∷◌, ◌++◌, Option, Some, None, refl, sym, ap, append_assoc, append-nil, add-zero, add-suc, add-one, arith}
+use Rattle.std.proofs.Common.{drop, get_or, length, ◌≡◌, ◌∙◌, ℕ, zero, suc, ◌+◌, ◌-◌, ◌<◌, ◌≤◌, List, [], ◌∷◌, ◌++◌, Option, Some, None, refl, sym, ap, subst, append_assoc, append-nil, add-zero, add-suc, add-one, arith}
 use Rattle.std.specs.Prelude.{option_and_then}
 use Rattle.std.proofs.lemmas.List.{drop_more, drop_all}
 use Rattle.mls_nodes.specs.declared.leaf.LeafNode.{LeafNode}
@@ -8,8 +8,10 @@ use Rattle.mls_check.proofs.Leaves.{leaf_at-here, leaf_at-left, leaf_at-right}
 use Rattle.mls_apply.specs.declared.list_item.ListItem.{ListItem}
 use Rattle.mls_apply.specs.ListRules.{replaced_leaf}
 use Rattle.mls_apply.specs.AppliedList.{outcome, with_members, new_members, without_adds}
-use Rattle.mls_signatures.specs.SignaturesToVerify.{index_before, replaced_leaves, non_blank_leaf_signatures, tree_signatures}
+use Rattle.mls_signatures.specs.AddedLeaves.{AppendsSignatures}
+use Rattle.mls_signatures.specs.SignaturesToVerify.{deduplicated, index_before, replaced_leaves, non_blank_leaf_signatures, tree_signatures}
 use Rattle.mls_signatures.specs.declared.signature_to_verify.SignatureToVerify.{SignatureToVerify}
+use Rattle.mls_signatures.proofs.Repeats.{deduplicated-behind, extends-more}
 
 -- ---- lists one behind another, for `count` numbers from `first` on
 
@@ -70,22 +72,22 @@ module _ (suite : ℕ) (group_id : List ℕ) where
       ∙ joined-both (of_leaf_in 0 t) 0 n (leaf_count t - n)
       ∙ ap (λ k. signatures_below t n ++ joined (of_leaf_in 0 t) k (leaf_count t - n)) at
 
-  module _ (t : Tree) (n : ℕ) (old now : List SignatureToVerify) (known : now ≡ old ++ signatures_below t n) where
-    pub below-next : (new : List SignatureToVerify) (o : Option LeafNode) → leaf_at 0 t n ≡ o → new ≡ now ++ non_blank_leaf_signatures suite group_id n o
-        → new ≡ old ++ signatures_below t (n + 1)
+  module _ (t : Tree) (n : ℕ) (old now : List SignatureToVerify) (known : AppendsSignatures old (signatures_below t n) now) where
+    pub below-next : (new : List SignatureToVerify) (o : Option LeafNode) → leaf_at 0 t n ≡ o → AppendsSignatures now (non_blank_leaf_signatures suite group_id n o) new
+        → AppendsSignatures old (signatures_below t (n + 1)) new
     below-next new o e is =
         let at : 0 + n ≡ n = omega arith in
-        is
-        ∙ ap (λ (ws : List SignatureToVerify). ws ++ non_blank_leaf_signatures suite group_id n o) known
-        ∙ ap (λ (v : Option LeafNode). (old ++ signatures_below t n) ++ non_blank_leaf_signatures suite group_id n v) (sym e)
-        ∙ append_assoc old (signatures_below t n) (of_leaf_in 0 t n)
-        ∙ ap (λ (ws : List SignatureToVerify). old ++ (signatures_below t n ++ ws)) (ap (of_leaf_in 0 t) (sym at))
-        ∙ ap (λ k. old ++ signatures_below t k) (sym (add-one n))
+        let next : signatures_below t n ++ non_blank_leaf_signatures suite group_id n o ≡ signatures_below t (n + 1) =
+        ap (λ (v : Option LeafNode). signatures_below t n ++ non_blank_leaf_signatures suite group_id n v) (sym e)
+        ∙ ap (λ (ws : List SignatureToVerify). signatures_below t n ++ ws) (ap (of_leaf_in 0 t) (sym at))
+        ∙ ap (λ k. signatures_below t k) (sym (add-one n)) in
+        subst (λ ws. AppendsSignatures old ws new) next
+        (extends-more old (signatures_below t n) now known (non_blank_leaf_signatures suite group_id n o) new is)
 
-    pub below-all : leaf_count t ≤ n → n ≤ leaf_count t → now ≡ old ++ tree_signatures suite group_id 0 t
+    pub below-all : leaf_count t ≤ n → n ≤ leaf_count t → AppendsSignatures old (tree_signatures suite group_id 0 t) now
     below-all low high =
         let all : n ≡ leaf_count t = omega arith in
-        known ∙ ap (λ k. old ++ signatures_below t k) all ∙ ap (λ (ws : List SignatureToVerify). old ++ ws) (sym (tree-joined 0 t))
+        subst (λ ws. AppendsSignatures old ws now) (ap (λ k. signatures_below t k) all ∙ sym (tree-joined 0 t)) known
 
 -- ---- lists that are gone over
 
@@ -101,6 +103,23 @@ module _ {A Y : Type 0} (f : List A → List Y) (g : A → List Y) (step : (x : 
 
   pub walked-all : length xs ≤ k → now ≡ whole
   walked-all end = sym (append-nil now) ∙ ap (λ (ws : List Y). now ++ ws) (sym none ∙ ap f (sym (drop_all k xs end))) ∙ known
+
+-- signatures that are appended for each item of a list
+module _ {A : Type 0} (f : List A → List SignatureToVerify) (g : A → List SignatureToVerify) (step : (x : A) (xs : List A) → f (x ∷ xs) ≡ g x ++ f xs) (none : f [] ≡ [])
+    (xs : List A) (old : List SignatureToVerify) (k : ℕ) (now : List SignatureToVerify) (known : AppendsSignatures old (f xs) (now ++ f (drop k xs))) where
+  pub each-next : (x d : A) → k < length xs → x ≡ get_or xs k d → (new : List SignatureToVerify) → AppendsSignatures now (g x) new
+      → AppendsSignatures old (f xs) (new ++ f (drop (k + 1) xs))
+  each-next x d low is new e =
+      deduplicated-behind new (now ++ g x) (f (drop (k + 1) xs)) e
+      ∙ ap deduplicated
+      (append_assoc now (g x) (f (drop (k + 1) xs))
+      ∙ ap (λ (ws : List SignatureToVerify). now ++ ws) (sym (step x (drop (k + 1) xs)))
+      ∙ ap (λ (ys : List A). now ++ f ys) (ap (λ (y : A). y ∷ drop (k + 1) xs) is ∙ sym (drop_more xs k d low)))
+      ∙ known
+
+  pub each-all : length xs ≤ k → AppendsSignatures old (f xs) now
+  each-all end =
+      ap deduplicated (sym (append-nil now) ∙ ap (λ (ws : List SignatureToVerify). now ++ ws) (sym none ∙ ap f (sym (drop_all k xs end)))) ∙ known
 
 before_rest : (o : Option ℕ) (js : List ℕ) → index_before o js ≡ index_before o [] ++ js
 before_rest None js = refl

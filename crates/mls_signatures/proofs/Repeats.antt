@@ -1,8 +1,9 @@
 -- Signatures that are left out of a list, since an equal one is in it.
 use Rattle.std.proofs.Common.{◌≡◌, ◌∙◌, ℕ, List, [], ◌∷◌, ◌++◌, Bool, true, false, cond, not, refl, sym, ap, append_assoc, append-nil}
-use Rattle.std.specs.Prelude.{◌==◌, ◌&&◌, ◌||◌, ⊤}
+use Rattle.std.specs.Prelude.{◌==◌, ◌&&◌, ◌||◌, ⊤, Result, OnOk}
 use Rattle.std.proofs.lemmas.Bool.{eq-eqb}
 use Rattle.std.proofs.lemmas.List.Folds.{list_any-append}
+use Rattle.std.proofs.lemmas.Result.{on_ok_weaker}
 use Rattle.std.proofs.lemmas.Slice.Eq.{bytes_eq-Decides}
 use Rattle.mls_signatures.specs.AddedLeaves.{AppendsSignatures}
 use Rattle.mls_signatures.specs.SignaturesToVerify.{is_same, without_signature, deduplicated}
@@ -77,6 +78,26 @@ deduplicated-behind xs ys (q ∷ qs) e =
     ∙ deduplicated-behind (xs ++ q ∷ []) (ys ++ q ∷ []) qs one
     ∙ ap deduplicated (append_assoc ys (q ∷ []) qs)
 
+-- a list without its duplicates has none
+again_more : (xs : List SignatureToVerify) (q : SignatureToVerify) → deduplicated (deduplicated xs) ≡ deduplicated xs → (m : Bool) → is_met xs q ≡ m
+    → deduplicated (deduplicated xs ++ cond m [] (q ∷ [])) ≡ deduplicated xs ++ cond m [] (q ∷ [])
+again_more xs q same true e = ap deduplicated (append-nil (deduplicated xs)) ∙ same ∙ sym (append-nil (deduplicated xs))
+again_more xs q same false e = deduplicated-more (deduplicated xs) q ∙ (λ i. same i ++ cond ((met_deduplicated xs q ∙ e) i) [] (q ∷ []))
+
+again_one : (xs : List SignatureToVerify) (q : SignatureToVerify) → deduplicated (deduplicated xs) ≡ deduplicated xs
+    → deduplicated (deduplicated (xs ++ q ∷ [])) ≡ deduplicated (xs ++ q ∷ [])
+again_one xs q same = ap deduplicated (deduplicated-more xs q) ∙ again_more xs q same (is_met xs q) refl ∙ sym (deduplicated-more xs q)
+
+again_behind : (xs qs : List SignatureToVerify) → deduplicated (deduplicated xs) ≡ deduplicated xs → deduplicated (deduplicated (xs ++ qs)) ≡ deduplicated (xs ++ qs)
+again_behind xs [] same = ap (λ (ws : List SignatureToVerify). deduplicated (deduplicated ws)) (append-nil xs) ∙ same ∙ sym (ap deduplicated (append-nil xs))
+again_behind xs (q ∷ qs) same =
+    ap (λ (ws : List SignatureToVerify). deduplicated (deduplicated ws)) (sym (append_assoc xs (q ∷ []) qs))
+    ∙ again_behind (xs ++ q ∷ []) qs (again_one xs q same)
+    ∙ ap deduplicated (append_assoc xs (q ∷ []) qs)
+
+pub deduplicated-again : (qs : List SignatureToVerify) → deduplicated (deduplicated qs) ≡ deduplicated qs
+deduplicated-again qs = again_behind [] qs refl
+
 -- what is in a list already
 pub deduplicated-met : (ws qs : List SignatureToVerify) → AllMet ws qs → deduplicated (ws ++ qs) ≡ deduplicated ws
 deduplicated-met ws [] m = ap deduplicated (append-nil ws)
@@ -92,6 +113,9 @@ deduplicated-met ws (q ∷ qs) m =
 pub extends-none : (old : List SignatureToVerify) → AppendsSignatures old [] old
 extends-none old = ap deduplicated (sym (append-nil old))
 
+pub extends-once : (old qs mid new : List SignatureToVerify) → mid ≡ old ++ qs → new ≡ deduplicated mid → AppendsSignatures old qs new
+extends-once old qs mid new e less = ap deduplicated less ∙ deduplicated-again mid ∙ ap deduplicated e
+
 pub extends-by : (old qs new : List SignatureToVerify) → new ≡ old ++ qs → AppendsSignatures old qs new
 extends-by old qs new e = ap deduplicated e
 
@@ -99,8 +123,10 @@ module _ (old ws now : List SignatureToVerify) (known : AppendsSignatures old ws
   pub extends-more : (qs new : List SignatureToVerify) → AppendsSignatures now qs new → AppendsSignatures old (ws ++ qs) new
   extends-more qs new e = e ∙ deduplicated-behind now (old ++ ws) qs known ∙ ap deduplicated (append_assoc old ws qs)
 
-  pub extends-push : (qs new : List SignatureToVerify) → new ≡ now ++ qs → AppendsSignatures old (ws ++ qs) new
-  extends-push qs new e = extends-more qs new (extends-by now qs new e)
+  -- by a call that may fail
+  pub extends-then : {A E : Type 0} (result : Result A E) (qs new : List SignatureToVerify) → OnOk result (AppendsSignatures now qs new)
+      → OnOk result (AppendsSignatures old (ws ++ qs) new)
+  extends-then result qs new = on_ok_weaker result (extends-more qs new)
 
   pub extends-skip : (qs : List SignatureToVerify) → AllMet (old ++ ws) qs → AppendsSignatures old (ws ++ qs) now
   extends-skip qs m = known ∙ sym (deduplicated-met (old ++ ws) qs m) ∙ ap deduplicated (append_assoc old ws qs)

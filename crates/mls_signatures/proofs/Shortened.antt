@@ -43,14 +43,23 @@ content_case g content true e =
     with-without g content (leb-true (length g + 4) (length content) parts.0) ((bytes_eq-Decides (take (length g) (drop (length content - (length g + 4)) content)) g).0 parts.1)
 content_case g content false e = refl
 
-pub restored_content-shortened : (g content : List ℕ) → restored_content g (shortened_content g content) ≡ content
+restored_content-shortened : (g content : List ℕ) → restored_content g (has_group_id g content) (shortened_content g content) ≡ content
 restored_content-shortened g content = content_case g content (has_group_id g content) refl
 
 -- ---- signatures
 
 pub restored-shortened : (g : List ℕ) (q : SignatureToVerify) → restored g (shortened g q) ≡ q
 restored-shortened g q =
-    λ i. record { suite = q.suite; key = q.key; content = restored_content-shortened g q.content i; signature = q.signature }
+    let content = shortened_content g q.content in
+    let rest : drop (length q.key) (q.key ++ (q.signature ++ content)) ≡ q.signature ++ content = drop-append_seam q.key (q.signature ++ content) in
+    let stored : drop (length q.key + length q.signature) (q.key ++ (q.signature ++ content)) ≡ content =
+    sym (drop-drop (length q.signature) (length q.key) (q.key ++ (q.signature ++ content))) ∙ ap (drop (length q.signature)) rest ∙ drop-append_seam q.signature content in
+    λ i. record {
+      suite = q.suite;
+      key = take-append_seam q.key (q.signature ++ content) i;
+      content = (ap (restored_content g (has_group_id g q.content)) stored ∙ restored_content-shortened g q.content) i;
+      signature = (ap (take (length q.signature)) rest ∙ take-append_seam q.signature content) i;
+    }
 
 pub is_shortened : (g : List ℕ) (q : SignatureToVerify) (x : ShortenedSignature) → x ≡ shortened g q → IsShortened g x
 is_shortened g q x e = ap (λ (y : ShortenedSignature). shortened g (restored g y)) e ∙ ap (shortened g) (restored-shortened g q) ∙ sym e
@@ -74,32 +83,39 @@ restored-push g xs q x ys e push =
 -- whether what is stored of two signatures is equal
 abbrev pub is_same_stored : ShortenedSignature → ShortenedSignature → Bool
 is_same_stored a b =
-    a.suite == b.suite && beq a.content.is_shortened b.content.is_shortened && bytes_eq a.key b.key && bytes_eq a.signature b.signature
-    && bytes_eq a.content.bytes b.content.bytes
+    a.suite == b.suite && beq a.is_shortened b.is_shortened && a.key_len == b.key_len && a.signature_len == b.signature_len && bytes_eq a.bytes b.bytes
 
 stored_is : (a b : ShortenedSignature) → is_same_stored a b ≡ true → a ≡ b
 stored_is a b e =
-    let four = and_parts (a.suite == b.suite && beq a.content.is_shortened b.content.is_shortened && bytes_eq a.key b.key && bytes_eq a.signature b.signature) (bytes_eq a.content.bytes b.content.bytes) e in
-    let three = and_parts (a.suite == b.suite && beq a.content.is_shortened b.content.is_shortened && bytes_eq a.key b.key) (bytes_eq a.signature b.signature) four.0 in
-    let two = and_parts (a.suite == b.suite && beq a.content.is_shortened b.content.is_shortened) (bytes_eq a.key b.key) three.0 in
-    let one = and_parts (a.suite == b.suite) (beq a.content.is_shortened b.content.is_shortened) two.0 in
+    let four = and_parts (a.suite == b.suite && beq a.is_shortened b.is_shortened && a.key_len == b.key_len && a.signature_len == b.signature_len) (bytes_eq a.bytes b.bytes) e in
+    let three = and_parts (a.suite == b.suite && beq a.is_shortened b.is_shortened && a.key_len == b.key_len) (a.signature_len == b.signature_len) four.0 in
+    let two = and_parts (a.suite == b.suite && beq a.is_shortened b.is_shortened) (a.key_len == b.key_len) three.0 in
+    let one = and_parts (a.suite == b.suite) (beq a.is_shortened b.is_shortened) two.0 in
     let suite = eqb-true a.suite b.suite one.0 in
-    let flag = (booleans_Decides a.content.is_shortened b.content.is_shortened).0 one.1 in
-    let key = (bytes_eq-Decides a.key b.key).0 two.1 in
-    let signature = (bytes_eq-Decides a.signature b.signature).0 three.1 in
-    let bytes = (bytes_eq-Decides a.content.bytes b.content.bytes).0 four.1 in
-    λ i. record { suite = suite i; key = key i; content = record { is_shortened = flag i; bytes = bytes i }; signature = signature i }
+    let flag = (booleans_Decides a.is_shortened b.is_shortened).0 one.1 in
+    let key = eqb-true a.key_len b.key_len two.1 in
+    let signature = eqb-true a.signature_len b.signature_len three.1 in
+    let bytes = (bytes_eq-Decides a.bytes b.bytes).0 four.1 in
+    λ i. record { suite = suite i; is_shortened = flag i; key_len = key i; signature_len = signature i; bytes = bytes i }
 
 stored_itself : (a : ShortenedSignature) → is_same_stored a a ≡ true
 stored_itself a =
-    and_from (a.suite == a.suite && beq a.content.is_shortened a.content.is_shortened && bytes_eq a.key a.key && bytes_eq a.signature a.signature) (bytes_eq a.content.bytes a.content.bytes)
-    (and_from (a.suite == a.suite && beq a.content.is_shortened a.content.is_shortened && bytes_eq a.key a.key) (bytes_eq a.signature a.signature)
-    (and_from (a.suite == a.suite && beq a.content.is_shortened a.content.is_shortened) (bytes_eq a.key a.key)
-    (and_from (a.suite == a.suite) (beq a.content.is_shortened a.content.is_shortened) (eq-eqb a.suite a.suite refl)
-    ((booleans_Decides a.content.is_shortened a.content.is_shortened).1 refl))
-    ((bytes_eq-Decides a.key a.key).1 refl))
-    ((bytes_eq-Decides a.signature a.signature).1 refl))
-    ((bytes_eq-Decides a.content.bytes a.content.bytes).1 refl)
+    and_from (a.suite == a.suite && beq a.is_shortened a.is_shortened && a.key_len == a.key_len && a.signature_len == a.signature_len) (bytes_eq a.bytes a.bytes)
+    (and_from (a.suite == a.suite && beq a.is_shortened a.is_shortened && a.key_len == a.key_len) (a.signature_len == a.signature_len)
+    (and_from (a.suite == a.suite && beq a.is_shortened a.is_shortened) (a.key_len == a.key_len)
+    (and_from (a.suite == a.suite) (beq a.is_shortened a.is_shortened) (eq-eqb a.suite a.suite refl)
+    ((booleans_Decides a.is_shortened a.is_shortened).1 refl))
+    (eq-eqb a.key_len a.key_len refl))
+    (eq-eqb a.signature_len a.signature_len refl))
+    ((bytes_eq-Decides a.bytes a.bytes).1 refl)
+
+-- the key and the signature are within what is stored
+pub parts_within : (g : List ℕ) (x : ShortenedSignature) → IsShortened g x → x.key_len + x.signature_len ≤ length x.bytes
+parts_within g x is =
+    let q = restored g x in
+    let long : length q.key + length q.signature ≤ length (q.key ++ (q.signature ++ shortened_content g q.content)) =
+    omega (arith, length-append q.key (q.signature ++ shortened_content g q.content), length-append q.signature (shortened_content g q.content)) in
+    subst (λ (y : ShortenedSignature). y.key_len + y.signature_len ≤ length y.bytes) is long
 
 -- two signatures are equal if and only if what is stored of them is
 pub same-stored : (g : List ℕ) (a b : ShortenedSignature) → IsShortened g a → IsShortened g b → is_same_stored a b ≡ is_same (restored g a) (restored g b)

@@ -24,17 +24,17 @@ use Rattle.mls_signatures.proofs.Shortened.{is_same_stored, same-stored}
 -- ---- what a set holds of a signature
 
 abbrev pub Parts : Type 0
-Parts = ℕ × Bool × Bor (List ℕ) × Bor (List ℕ) × Bor (List ℕ)
+Parts = ℕ × Bool × ℕ × ℕ × Bor (List ℕ)
 
 -- their order
 abbrev pub by_parts : Parts → Parts → Ordering
 by_parts a b =
-    ordering_then (ordering_then (ordering_then (ordering_then (nat_cmp a.0 b.0) (bool_cmp a.1 b.1)) (slice_cmp nat_cmp a.2.now b.2.now)) (slice_cmp nat_cmp a.3.now b.3.now))
+    ordering_then (ordering_then (ordering_then (ordering_then (nat_cmp a.0 b.0) (bool_cmp a.1 b.1)) (nat_cmp a.2 b.2)) (nat_cmp a.3 b.3))
     (slice_cmp nat_cmp a.4.now b.4.now)
 
 -- what is stored with these parts
 abbrev pub of_parts : Parts → ShortenedSignature
-of_parts p = record { suite = p.0; key = p.2.now; content = record { is_shortened = p.1; bytes = p.4.now }; signature = p.3.now }
+of_parts p = record { suite = p.0; is_shortened = p.1; key_len = p.2; signature_len = p.3; bytes = p.4.now }
 
 is_eq-bool_cmp : (a b : Bool) → is_eq (bool_cmp a b) ≡ beq a b
 is_eq-bool_cmp false false = refl
@@ -46,13 +46,13 @@ by_parts-same : (a b : Parts) → is_eq (by_parts a b) ≡ is_same_stored (of_pa
 by_parts-same a b =
     let one = nat_cmp a.0 b.0 in
     let two = bool_cmp a.1 b.1 in
-    let three = slice_cmp nat_cmp a.2.now b.2.now in
-    let four = slice_cmp nat_cmp a.3.now b.3.now in
+    let three = nat_cmp a.2 b.2 in
+    let four = nat_cmp a.3 b.3 in
     let five = slice_cmp nat_cmp a.4.now b.4.now in
     sym (tied_then (ordering_then (ordering_then (ordering_then one two) three) four) five)
     ∙ (λ i. (sym (tied_then (ordering_then (ordering_then one two) three) four)
     ∙ (λ j. (sym (tied_then (ordering_then one two) three)
-    ∙ (λ k. (sym (tied_then one two) ∙ (λ l. sym (unsigned_ties a.0 b.0) l && is_eq-bool_cmp a.1 b.1 l)) k && is_eq-slice_cmp a.2.now b.2.now k)) j && is_eq-slice_cmp a.3.now b.3.now j)) i && is_eq-slice_cmp a.4.now b.4.now i)
+    ∙ (λ k. (sym (tied_then one two) ∙ (λ l. sym (unsigned_ties a.0 b.0) l && is_eq-bool_cmp a.1 b.1 l)) k && sym (unsigned_ties a.2 b.2) k)) j && sym (unsigned_ties a.3 b.3) j)) i && is_eq-slice_cmp a.4.now b.4.now i)
 
 -- ---- what is among what is stored
 

@@ -2,7 +2,6 @@
 -- LeafNodeTBS ends for update and commit (RFC 9420, 7.2). Internal: no public contract uses this. `g`: the group id.
 use Rattle.std.specs.Prelude.{◌≡◌, ℕ, ◌+◌, ◌-◌, ◌&&◌, nat_le, if◌then◌else◌, Bool, List, ◌++◌, length, take, drop, map, All}
 use Rattle.std.specs.Str.{bytes_eq}
-use Rattle.mls_signatures.specs.declared.shortened_content.ShortenedContent.{ShortenedContent}
 use Rattle.mls_signatures.specs.declared.shortened_signature.ShortenedSignature.{ShortenedSignature}
 use Rattle.mls_signatures.specs.declared.signature_to_verify.SignatureToVerify.{SignatureToVerify}
 
@@ -24,15 +23,12 @@ abbrev pub with_group_id : List ℕ → List ℕ → List ℕ
 with_group_id g bytes = take (length bytes - 4) bytes ++ (g ++ drop (length bytes - 4) bytes)
 
 -- `shortened_content g content` is `content` as a list stores it.
-abbrev pub shortened_content : List ℕ → List ℕ → ShortenedContent
-shortened_content g content = record {
-  is_shortened = has_group_id g content;
-  bytes = if has_group_id g content then without_group_id g content else content;
-}
+abbrev pub shortened_content : List ℕ → List ℕ → List ℕ
+shortened_content g content = if has_group_id g content then without_group_id g content else content
 
--- `restored_content g x` is what is signed, of which a list stores `x`.
-abbrev pub restored_content : List ℕ → ShortenedContent → List ℕ
-restored_content g x = if x.is_shortened then with_group_id g x.bytes else x.bytes
+-- `restored_content g b bytes` is what is signed, of which a list stores `bytes`; `b`: whether the group id is left out.
+abbrev pub restored_content : List ℕ → Bool → List ℕ → List ℕ
+restored_content g b bytes = if b then with_group_id g bytes else bytes
 
 -- ---- signatures
 
@@ -40,18 +36,19 @@ restored_content g x = if x.is_shortened then with_group_id g x.bytes else x.byt
 abbrev pub shortened : List ℕ → SignatureToVerify → ShortenedSignature
 shortened g q = record {
   suite = q.suite;
-  key = q.key;
-  content = shortened_content g q.content;
-  signature = q.signature;
+  is_shortened = has_group_id g q.content;
+  key_len = length q.key;
+  signature_len = length q.signature;
+  bytes = q.key ++ (q.signature ++ shortened_content g q.content);
 }
 
 -- `restored g x` is the signature of which a list stores `x`.
 abbrev pub restored : List ℕ → ShortenedSignature → SignatureToVerify
 restored g x = record {
   suite = x.suite;
-  key = x.key;
-  content = restored_content g x.content;
-  signature = x.signature;
+  key = take x.key_len x.bytes;
+  content = restored_content g x.is_shortened (drop (x.key_len + x.signature_len) x.bytes);
+  signature = take x.signature_len (drop x.key_len x.bytes);
 }
 
 -- `restored_all g xs` is the signatures of which a list stores `xs`.

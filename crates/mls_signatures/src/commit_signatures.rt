@@ -39,8 +39,7 @@ fn push_entry_signatures(
     entry: &ProposalOrRef,
     list: &mut SignatureList,
 ) -> Result<(), OutOfMemory>
-    ensures { OnOk result (list.new ≡ list.old
-        ++ entry_signatures context.now committer entry.now) }
+    ensures { OnOk result (AppendsSignatures list.old (entry_signatures context.now committer entry.now) list.new) }
 {
     match entry {
         ProposalOrRef::Proposal(proposal) => {
@@ -58,8 +57,7 @@ fn push_entries_signatures(
     entries: &[ProposalOrRef],
     list: &mut SignatureList,
 ) -> Result<(), OutOfMemory>
-    ensures { OnOk result (list.new ≡ list.old
-        ++ entries_signatures context.now committer entries.now) }
+    ensures { OnOk result (AppendsSignatures list.old (entries_signatures context.now committer entries.now) list.new) }
 {
     for entry in entries {
         push_entry_signatures(alloc, context, committer, entry, list)?;
@@ -115,8 +113,7 @@ fn push_path_signature(
     path: &Option<UpdatePath>,
     list: &mut SignatureList,
 ) -> Result<(), OutOfMemory>
-    ensures { OnOk result (list.new ≡ list.old
-        ++ path_signatures context.now committer path.now) }
+    ensures { OnOk result (AppendsSignatures list.old (path_signatures context.now committer path.now) list.new) }
 {
     let Some(path) = path else {
         return Ok(());

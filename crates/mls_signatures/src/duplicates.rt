@@ -1,6 +1,6 @@
 //! Signatures without their duplicates.
 
-ghost use Rattle.std.specs.Prelude.{◌≡◌, ℕ, IfOk, List, length};
+ghost use Rattle.std.specs.Prelude.{◌≡◌, ℕ, IfOk, OnOk, OnErr, List, length};
 ghost use Rattle.mls_signatures.specs.SignaturesToVerify.{deduplicated};
 ghost use Rattle.mls_signatures.specs.ShortenedSignatures.{AreShortened, restored_all};
 ghost use Rattle.mls_signatures.specs.Marks.{marked};
@@ -16,14 +16,17 @@ fn first_marks(alloc: Global, list: &[ShortenedSignature]) -> Result<Vec<bool>, 
     ensures marked { (g : List ℕ) → AreShortened g list.now → IfOk result (λ marks.
         marked marks.items (restored_all g list.now) ≡ deduplicated (restored_all g list.now)) }
 {
-    let mut seen: BTreeSet<(u16, bool, &[u8], &[u8], &[u8])> = BTreeSet::new(alloc);
+    let mut seen: BTreeSet<(u16, bool, u32, u32, &[u8])> = BTreeSet::new(alloc);
     let mut marks = Vec::new(alloc);
     for entry in list {
-        let is_shortened = entry.content.is_shortened;
-        let key = entry.key.as_slice();
-        let signature = entry.signature.as_slice();
-        let bytes = entry.content.bytes.as_slice();
-        marks.push(seen.insert((entry.suite, is_shortened, key, signature, bytes))?)?;
+        let bytes = entry.bytes.as_slice();
+        marks.push(seen.insert((
+            entry.suite,
+            entry.is_shortened,
+            entry.key_len,
+            entry.signature_len,
+            bytes,
+        ))?)?;
     }
     Ok(marks)
 }
@@ -43,24 +46,17 @@ fn keep_marked(list: &mut Vec<ShortenedSignature>, marks: &[bool])
     list.truncate(kept);
 }
 
-/// Returns the signatures that are equal to no earlier one, in their order.
-pub(crate) fn without_duplicates(
+/// Removes the signatures that are equal to an earlier one. If memory runs out, the list is unchanged.
+pub(crate) fn remove_duplicates(
     alloc: Global,
-    list: Vec<ShortenedSignature>,
-) -> Result<Vec<ShortenedSignature>, OutOfMemory>
-    ensures shortened { (g : List ℕ) → AreShortened g list.items
-        → IfOk result (λ v. AreShortened g v.items) }
-    ensures signatures { (g : List ℕ) → AreShortened g list.items
-        → IfOk result (λ v. restored_all g v.items ≡ deduplicated (restored_all g list.items)) }
+    list: &mut Vec<ShortenedSignature>,
+) -> Result<(), OutOfMemory>
+    ensures shortened { (g : List ℕ) → AreShortened g list.old.items → AreShortened g list.new.items }
+    ensures signatures { (g : List ℕ) → AreShortened g list.old.items → OnOk result
+        (restored_all g list.new.items ≡ deduplicated (restored_all g list.old.items)) }
+    ensures unchanged_on_error { OnErr result (list.new.items ≡ list.old.items) }
 {
-    let marks = match first_marks(alloc, list.as_slice()) {
-        Ok(marks) => marks,
-        Err(memory) => {
-            drop(list);
-            return Err(memory);
-        }
-    };
-    let mut kept = list;
-    keep_marked(&mut kept, marks.as_slice());
-    Ok(kept)
+    let marks = first_marks(alloc, list.as_slice())?;
+    keep_marked(list, marks.as_slice());
+    Ok(())
 }

@@ -1,9 +1,10 @@
 //! The signatures of an external commit after the message's own (RFC 9420, 12.4.3.2), appended to a list.
 
-ghost use Rattle.std.specs.Prelude.{◌≡◌, ◌++◌, OnOk};
+ghost use Rattle.std.specs.Prelude.{◌≡◌, OnOk};
 ghost use Rattle.mls_tree.specs.TreeOperations.{added_leaf};
 ghost use Rattle.mls_apply.specs.AppliedList.{outcome};
 ghost use Rattle.mls_apply.specs.Staged.{IsSettled};
+ghost use Rattle.mls_signatures.specs.AddedLeaves.{AppendsSignatures};
 ghost use Rattle.mls_signatures.specs.SignaturesToVerify.{join_list_signatures, seated_signatures};
 
 use crate::push_signatures::push_leaf_signature;
@@ -43,8 +44,7 @@ fn apply_and_push_seated_signature(
     tree: &mut StagedTree,
     list: &mut SignatureList,
 ) -> Result<(), OutOfMemory>
-    ensures signatures { OnOk result (list.new ≡ list.old
-        ++ seated_signatures external.now.context.now external.now.path.now (outcome items.now tree.old.tree)) }
+    ensures signatures { OnOk result (AppendsSignatures list.old (seated_signatures external.now.context.now external.now.path.now (outcome items.now tree.old.tree)) list.new) }
     ensures base { tree.new.base ≡ tree.old.base }
 {
     let added = match tree.apply_list(alloc, items) {
@@ -75,8 +75,7 @@ fn push_seated_signature(
     list: &mut SignatureList,
 ) -> Result<(), OutOfMemory>
     requires { IsSettled tree.old }
-    ensures signatures { OnOk result (list.new ≡ list.old
-        ++ seated_signatures external.now.context.now external.now.path.now (outcome items.now tree.old.tree)) }
+    ensures signatures { OnOk result (AppendsSignatures list.old (seated_signatures external.now.context.now external.now.path.now (outcome items.now tree.old.tree)) list.new) }
     ensures base { tree.new.base ≡ tree.old.base }
     ensures tree { tree.new.tree ≡ tree.old.tree }
     ensures settled { IsSettled tree.new }
@@ -95,9 +94,8 @@ pub(crate) fn push_external_commit_signature(
     list: &mut SignatureList,
 ) -> Result<(), OutOfMemory>
     requires { IsSettled tree.old }
-    ensures signatures { OnOk result (list.new ≡ list.old
-        ++ join_list_signatures external.now.context.now tree.old.tree external.now.commit.now
-        external.now.path.now) }
+    ensures signatures { OnOk result (AppendsSignatures list.old (join_list_signatures external.now.context.now tree.old.tree external.now.commit.now
+        external.now.path.now) list.new) }
     ensures base { tree.new.base ≡ tree.old.base }
     ensures tree { tree.new.tree ≡ tree.old.tree }
     ensures settled { IsSettled tree.new }

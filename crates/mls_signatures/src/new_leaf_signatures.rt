@@ -3,7 +3,7 @@
 //! A list may name one large Add many times. Then its leaf node is at many leaves, with one signature. So the leaf nodes are
 //! borrowed from the proposals, and the signature of such a leaf node is appended once.
 
-ghost use Rattle.std.specs.Prelude.{◌≡◌, ◌<◌, ◌++◌, OnOk, length, true};
+ghost use Rattle.std.specs.Prelude.{◌≡◌, ◌<◌, OnOk, length, true};
 ghost use Rattle.std.specs.Option.{option_copied};
 ghost use Rattle.mls_tree.specs.Tree.{Tree, leaf_at};
 ghost use Rattle.mls_signatures.specs.AddedLeaves.{AreNamedAlike, AppendsSignatures, HaveOneName, IsMapOf, IsRepeat, added_signatures};
@@ -47,8 +47,7 @@ fn push_signature_after(
 ) -> Result<(), OutOfMemory>
     ensures { let suite = context.now.cipher_suite in
         (t : Tree) → IsMapOf t after.now.tree.now.tree after.now.added.now
-        → OnOk result (list.new ≡ list.old
-        ++ non_blank_leaf_signatures suite context.now.group_id index (leaf_at 0 t index)) }
+        → OnOk result (AppendsSignatures list.old (non_blank_leaf_signatures suite context.now.group_id index (leaf_at 0 t index)) list.new) }
 {
     match leaf_after(after, index) {
         Some(leaf) => push_leaf_signature(alloc, context, index, leaf, list),

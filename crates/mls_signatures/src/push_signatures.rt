@@ -1,7 +1,8 @@
 //! The signature of one thing that is signed (RFC 9420, 5.1.2), those of a start and those of a proposal, appended to a list.
 
-ghost use Rattle.std.specs.Prelude.{◌≡◌, ◌++◌, OnOk};
+ghost use Rattle.std.specs.Prelude.{◌≡◌, OnOk};
 ghost use Rattle.mls_tree.specs.Tree.{leaf_at};
+ghost use Rattle.mls_signatures.specs.AddedLeaves.{AppendsSignatures};
 ghost use Rattle.mls_signatures.specs.SignaturesToVerify.{leaf_signatures, package_signatures, framed_content_signatures, info_signatures, non_blank_leaf_signatures, tree_signatures, is_supported_context, all_start_signatures, proposal_signatures, update_signatures};
 ghost use Rattle.mls_apply.specs.Senders.{member_index};
 
@@ -25,8 +26,7 @@ pub(crate) fn push_leaf_signature(
     leaf: &EncodedLeaf,
     list: &mut SignatureList,
 ) -> Result<(), OutOfMemory>
-    ensures { OnOk result (list.new ≡ list.old
-        ++ leaf_signatures context.now.cipher_suite context.now.group_id index leaf.now) }
+    ensures { OnOk result (AppendsSignatures list.old (leaf_signatures context.now.cipher_suite context.now.group_id index leaf.now) list.new) }
 {
     let signature = leaf_signature(alloc, context, index, leaf)?;
     list.push_optional(alloc, signature)
@@ -41,8 +41,8 @@ fn push_non_blank_leaf_signature(
     list: &mut SignatureList,
 ) -> Result<(), OutOfMemory>
     ensures { let suite = context.now.cipher_suite in
-        OnOk result (list.new ≡ list.old ++ non_blank_leaf_signatures
-        suite context.now.group_id index (leaf_at 0 tree.now.tree index)) }
+        OnOk result (AppendsSignatures list.old (non_blank_leaf_signatures
+        suite context.now.group_id index (leaf_at 0 tree.now.tree index)) list.new) }
 {
     let signature = non_blank_leaf_signature(alloc, context, tree, index)?;
     list.push_optional(alloc, signature)
@@ -56,8 +56,7 @@ pub(crate) fn push_tree_signatures(
     list: &mut SignatureList,
 ) -> Result<(), OutOfMemory>
     ensures { let suite = context.now.cipher_suite in
-        OnOk result (list.new ≡ list.old
-        ++ tree_signatures suite context.now.group_id 0 tree.now.tree) }
+        OnOk result (AppendsSignatures list.old (tree_signatures suite context.now.group_id 0 tree.now.tree) list.new) }
 {
     for index in 0..tree.leaf_count() {
         push_non_blank_leaf_signature(alloc, context, tree, index, list)?;
@@ -72,8 +71,7 @@ fn push_info_signature(
     tree: &PublicTree,
     list: &mut SignatureList,
 ) -> Result<(), OutOfMemory>
-    ensures { OnOk result (list.new ≡ list.old
-        ++ info_signatures info.now (leaf_at 0 tree.now.tree info.now.signer)) }
+    ensures { OnOk result (AppendsSignatures list.old (info_signatures info.now (leaf_at 0 tree.now.tree info.now.signer)) list.new) }
 {
     let signature = info_signature(alloc, info, tree)?;
     list.push_optional(alloc, signature)
@@ -93,8 +91,7 @@ pub(crate) fn push_start_signatures(
     tree: &PublicTree,
     list: &mut SignatureList,
 ) -> Result<(), OutOfMemory>
-    ensures { OnOk result (list.new ≡ list.old
-        ++ all_start_signatures info.now tree.now.tree) }
+    ensures { OnOk result (AppendsSignatures list.old (all_start_signatures info.now tree.now.tree) list.new) }
 {
     if !is_supported_context(&info.context) {
         return Ok(());
@@ -110,7 +107,7 @@ fn push_package_signature(
     key_package: &KeyPackage,
     list: &mut SignatureList,
 ) -> Result<(), OutOfMemory>
-    ensures { OnOk result (list.new ≡ list.old ++ package_signatures suite key_package.now) }
+    ensures { OnOk result (AppendsSignatures list.old (package_signatures suite key_package.now) list.new) }
 {
     let signature = package_signature(alloc, suite, key_package)?;
     list.push_optional(alloc, signature)
@@ -125,8 +122,7 @@ pub(crate) fn push_framed_content_signature(
     auth: &Authenticated,
     list: &mut SignatureList,
 ) -> Result<(), OutOfMemory>
-    ensures { OnOk result (list.new ≡ list.old
-        ++ framed_content_signatures context.now key.now auth.now) }
+    ensures { OnOk result (AppendsSignatures list.old (framed_content_signatures context.now key.now auth.now) list.new) }
 {
     let signature = framed_content_signature(alloc, context, key, auth)?;
     list.push_optional(alloc, signature)
@@ -140,8 +136,7 @@ fn push_update_signature(
     leaf: &EncodedLeaf,
     list: &mut SignatureList,
 ) -> Result<(), OutOfMemory>
-    ensures { OnOk result (list.new ≡ list.old
-        ++ update_signatures context.now (member_index sender) leaf.now) }
+    ensures { OnOk result (AppendsSignatures list.old (update_signatures context.now (member_index sender) leaf.now) list.new) }
 {
     match sender {
         Sender::Member(index) => push_leaf_signature(alloc, context, index, leaf, list),
@@ -159,8 +154,7 @@ pub(crate) fn push_proposal_signatures(
     proposal: &Proposal,
     list: &mut SignatureList,
 ) -> Result<(), OutOfMemory>
-    ensures { OnOk result (list.new ≡ list.old
-        ++ proposal_signatures context.now sender proposal.now) }
+    ensures { OnOk result (AppendsSignatures list.old (proposal_signatures context.now sender proposal.now) list.new) }
 {
     match proposal {
         Proposal::Add(key_package) => {

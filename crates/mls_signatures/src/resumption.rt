@@ -1,6 +1,7 @@
 //! The signatures of a resumption from a stored state.
 
-ghost use Rattle.std.specs.Prelude.{◌≡◌, ◌++◌, IfOk, OnOk};
+ghost use Rattle.std.specs.Prelude.{◌≡◌, IfOk, OnOk};
+ghost use Rattle.mls_signatures.specs.AddedLeaves.{AppendsSignatures};
 ghost use Rattle.mls_signatures.specs.SignaturesToVerify.{pending_signatures, all_resumption_signatures, resumption_signatures};
 
 use crate::push_signatures::{
@@ -20,8 +21,7 @@ fn push_pending_signatures(
     known: &[KnownProposal],
     list: &mut SignatureList,
 ) -> Result<(), OutOfMemory>
-    ensures { OnOk result (list.new ≡ list.old
-        ++ pending_signatures context.now known.now) }
+    ensures { OnOk result (AppendsSignatures list.old (pending_signatures context.now known.now) list.new) }
 {
     for pending in known {
         push_proposal_signatures(alloc, context, pending.sender, &pending.proposal, list)?;
@@ -37,8 +37,7 @@ fn push_resumption_signatures(
     known: &[KnownProposal],
     list: &mut SignatureList,
 ) -> Result<(), OutOfMemory>
-    ensures { OnOk result (list.new ≡ list.old
-        ++ all_resumption_signatures context.now tree.now.tree known.now) }
+    ensures { OnOk result (AppendsSignatures list.old (all_resumption_signatures context.now tree.now.tree known.now) list.new) }
 {
     if !is_supported_context(context) {
         return Ok(());

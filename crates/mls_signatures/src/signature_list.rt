@@ -2,15 +2,19 @@
 
 ghost use Rattle.std.specs.Prelude.{◌≡◌, ◌<◌, ◌++◌, ◌∷◌, ◌↔◌, [], Some, IfOk, IsTrue, OnOk, length, slice_get};
 ghost use Rattle.std.specs.Option.{option_to_list};
+ghost use Rattle.mls_signatures.specs.AddedLeaves.{AppendsSignatures};
 ghost use Rattle.mls_signatures.specs.SignaturesToVerify.{deduplicated};
 
-use crate::duplicates::without_duplicates;
+use crate::duplicates::remove_duplicates;
 use crate::shortened_signature::ShortenedSignature;
 use crate::signature_to_verify::SignatureToVerify;
 use mls_check::OutOfMemory;
 use mls_wire::{Opaque, copy_of};
 use std::alloc::Global;
 use std::marker::Model;
+
+/// The number of signatures at which duplicates are removed for the first time.
+const FIRST_LIMIT: usize = 1_024;
 
 /// A list of signatures that have to be verified, of one group.
 ///
@@ -21,6 +25,8 @@ use std::marker::Model;
 pub struct SignatureList {
     group_id: Opaque,
     signatures: Vec<ShortenedSignature>,
+    /// The number of signatures at which duplicates are removed next.
+    limit: usize,
 }
 
 impl Model for SignatureList {
@@ -46,6 +52,7 @@ impl SignatureList {
         SignatureList {
             group_id,
             signatures: Vec::new(alloc),
+            limit: FIRST_LIMIT,
         }
     }
 
@@ -57,6 +64,7 @@ impl SignatureList {
         Ok(SignatureList {
             group_id,
             signatures: Vec::new(alloc),
+            limit: FIRST_LIMIT,
         })
     }
 
@@ -86,25 +94,45 @@ impl SignatureList {
         self.signatures[index].restored(alloc, self.group_id.as_slice())
     }
 
+    /// Removes the signatures that are equal to an earlier one. If memory runs out, the list is unchanged.
+    fn remove_duplicates(&mut self, alloc: Global) -> Result<(), OutOfMemory>
+        ensures { OnOk result (self.new ≡ deduplicated self.old) }
+    {
+        remove_duplicates(alloc, &mut self.signatures)?;
+        self.limit = FIRST_LIMIT.saturating_add(self.signatures.len().saturating_mul(2));
+        Ok(())
+    }
+
     /// Appends a signature.
-    fn push(&mut self, alloc: Global, needed: SignatureToVerify) -> Result<(), OutOfMemory>
-        ensures { OnOk result (self.new ≡ self.old ++ needed ∷ []) }
+    fn append(&mut self, alloc: Global, needed: &SignatureToVerify) -> Result<(), OutOfMemory>
+        ensures { OnOk result (self.new ≡ self.old ++ needed.now ∷ []) }
     {
         let shortened = ShortenedSignature::new(alloc, self.group_id.as_slice(), needed)?;
         self.signatures.push(shortened)?;
         Ok(())
     }
 
-    /// Appends a signature, if there is one.
+    /// Appends a signature. Once the list has twice as many as after the last time, duplicates are removed.
+    fn push(&mut self, alloc: Global, needed: &SignatureToVerify) -> Result<(), OutOfMemory>
+        ensures { OnOk result (AppendsSignatures self.old (needed.now ∷ []) self.new) }
+    {
+        self.append(alloc, needed)?;
+        if self.signatures.len() < self.limit {
+            return Ok(());
+        }
+        self.remove_duplicates(alloc)
+    }
+
+    /// Appends a signature, if there is one. Duplicates may be removed.
     pub(crate) fn push_optional(
         &mut self,
         alloc: Global,
         needed: Option<SignatureToVerify>,
     ) -> Result<(), OutOfMemory>
-        ensures { OnOk result (self.new ≡ self.old ++ option_to_list needed) }
+        ensures { OnOk result (AppendsSignatures self.old (option_to_list needed) self.new) }
     {
         match needed {
-            Some(needed) => self.push(alloc, needed),
+            Some(needed) => self.push(alloc, &needed),
             None => Ok(()),
         }
     }
@@ -113,17 +141,11 @@ impl SignatureList {
     pub(crate) fn deduplicated(self, alloc: Global) -> Result<SignatureList, OutOfMemory>
         ensures { IfOk result (λ list. list ≡ deduplicated self) }
     {
-        let SignatureList {
-            group_id,
-            signatures,
-        } = self;
-        match without_duplicates(alloc, signatures) {
-            Ok(signatures) => Ok(SignatureList {
-                group_id,
-                signatures,
-            }),
+        let mut list = self;
+        match list.remove_duplicates(alloc) {
+            Ok(()) => Ok(list),
             Err(memory) => {
-                drop(group_id);
+                drop(list);
                 Err(memory)
             }
         }

@@ -1,6 +1,6 @@
 //! The signatures of a start and of a message, without duplicates.
 
-ghost use Rattle.std.specs.Prelude.{◌≡◌, ◌++◌, IfOk, OnOk};
+ghost use Rattle.std.specs.Prelude.{◌≡◌, IfOk, OnOk};
 ghost use Rattle.std.specs.Option.{option_to_list};
 ghost use Rattle.mls_tree.specs.Tree.{leaf_at};
 ghost use Rattle.mls_apply.specs.Staged.{IsSettled};
@@ -176,8 +176,8 @@ fn push_outside_proposal_signatures(
     list: &mut SignatureList,
 ) -> Result<(), OutOfMemory>
     ensures { let auth = frame.now.auth.now in
-        OnOk result (list.new ≡ list.old ++ outside_proposal_signatures context.now auth
-        auth.content.sender frame.now.key.now proposal.now) }
+        OnOk result (AppendsSignatures list.old (outside_proposal_signatures context.now auth
+        auth.content.sender frame.now.key.now proposal.now) list.new) }
 {
     let sender = frame.auth.content().sender;
     if !may_propose(sender, proposal) {
@@ -195,8 +195,8 @@ fn push_outside_content_signatures(
     list: &mut SignatureList,
 ) -> Result<(), OutOfMemory>
     ensures { let auth = frame.now.auth.now in
-        OnOk result (list.new ≡ list.old ++ outside_content_signatures context.now auth
-        auth.content.sender frame.now.key.now auth.content.content) }
+        OnOk result (AppendsSignatures list.old (outside_content_signatures context.now auth
+        auth.content.sender frame.now.key.now auth.content.content) list.new) }
 {
     match &frame.auth.content().content {
         Content::Application(_) => Ok(()),
@@ -215,8 +215,8 @@ fn push_outside_signatures(
     list: &mut SignatureList,
 ) -> Result<(), OutOfMemory>
     ensures { let content = auth.now.content in
-        OnOk result (list.new ≡ list.old ++ outside_signatures context.now auth.now content.sender
-        (outside_key context.now content.sender content.content)) }
+        OnOk result (AppendsSignatures list.old (outside_signatures context.now auth.now content.sender
+        (outside_key context.now content.sender content.content)) list.new) }
 {
     let content = auth.content();
     let Some(key) = outside_key(alloc, context, content.sender, &content.content)? else {
@@ -240,8 +240,7 @@ fn push_join_signatures(
     list: &mut SignatureList,
 ) -> Result<(), OutOfMemory>
     requires { IsSettled tree.old }
-    ensures signatures { OnOk result (list.new ≡ list.old
-        ++ join_content_signatures context.now tree.old.tree auth.now auth.now.content.content) }
+    ensures signatures { OnOk result (AppendsSignatures list.old (join_content_signatures context.now tree.old.tree auth.now auth.now.content.content) list.new) }
     ensures base { tree.new.base ≡ tree.old.base }
     ensures tree { tree.new.tree ≡ tree.old.tree }
     ensures settled { IsSettled tree.new }

@@ -9,12 +9,13 @@ loop-entry-preserved c =
     let list = c.args.list.now in
     let at = c.loop-entry.entry-index in
     let w = c.entry-item.result in
-    let p : Parts = (w.suite, w.content.is_shortened, c.as_slice-key.result, c.as_slice-signature.result, c.as_slice-bytes.result) in
+    let p : Parts = (w.suite, w.is_shortened, w.key_len, w.signature_len, c.as_slice-bytes.result) in
     let is : of_parts p ≡ w = λ i. record {
       suite = w.suite;
-      key = c.as_slice-key.ensures.bytes i;
-      content = record { is_shortened = w.content.is_shortened; bytes = c.as_slice-bytes.ensures i };
-      signature = c.as_slice-signature.ensures.bytes i;
+      is_shortened = w.is_shortened;
+      key_len = w.key_len;
+      signature_len = w.signature_len;
+      bytes = c.as_slice-bytes.ensures i;
     } in
     let next : take (at + 1) list ≡ take at list ++ w ∷ [] =
     take_more list at w c.loop-entry-test.true ∙ ap (λ (x : ShortenedSignature). take at list ++ x ∷ []) (sym c.entry-item.is) in

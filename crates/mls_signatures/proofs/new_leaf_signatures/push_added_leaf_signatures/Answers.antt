@@ -1,6 +1,6 @@
-use Rattle.std.proofs.Common.{◌∙◌, ◌+◌, take, ap, arith, refl, sym, subst}
+use Rattle.std.proofs.Common.{◌+◌, take, ap, arith, refl, sym, subst}
 use Rattle.mls_signatures.specs.AddedLeaves.{AppendsSignatures, IsRepeat, added_signatures}
-use Rattle.mls_signatures.proofs.AddedLeaves.{added-push, added-skip, added-all}
+use Rattle.mls_signatures.proofs.AddedLeaves.{of_leaf, added-push, added-skip, added-all}
 use Rattle.mls_signatures.proofs.Repeats.{extends-none}
 use Rattle.mls_signatures.proofs.new_leaf_signatures.push_added_leaf_signatures.Goals.{then-not-is_repeat+in_ok-push_leaf_signature, else-not-is_repeat}
 use Rattle.mls_signatures.proofs.new_leaf_signatures.push_added_leaf_signatures.Goals as goal
@@ -23,7 +23,7 @@ loop-leaf-preserved c =
         at = ap (λ n. n + 1) c.loop-leaf.invariant.at;
         walked =
             added-push context.cipher_suite context.group_id old xs i c.loop-leaf.list known c.leaf-item.result c.loop-leaf-test.true c.leaf-item.is
-            c.if-not-is_repeat.list (w.list-is ∙ w.in_ok-push_leaf_signature.ensures);
+            c.if-not-is_repeat.list (subst (λ l. AppendsSignatures c.loop-leaf.list (of_leaf context.cipher_suite context.group_id c.leaf-item.result) l) (sym w.list-is) w.in_ok-push_leaf_signature.ensures);
       }
       | else-not-is_repeat w ↦ record {
         at = ap (λ n. n + 1) c.loop-leaf.invariant.at;

@@ -1,6 +1,7 @@
-use Rattle.std.proofs.Common.{◌≡◌, ◌∙◌, ◌+◌, Bool, not, true, false, refl, sym, subst}
+use Rattle.std.proofs.Common.{◌≡◌, ◌∙◌, ◌+◌, get_or, Bool, not, true, false, refl, sym, subst}
 use Rattle.std.proofs.lemmas.Bool.{false≢true}
-use Rattle.mls_signatures.proofs.AddedLeaves.{Walked, walked-start, walked-push, walked-skip, walked-all}
+use Rattle.mls_signatures.specs.AddedLeaves.{AppendsSignatures}
+use Rattle.mls_signatures.proofs.AddedLeaves.{Walked, of_index, walked-start, walked-push, walked-skip, walked-all}
 use Rattle.mls_signatures.proofs.new_leaf_signatures.push_replaced_leaf_signatures.Goals.{then-is_new+in_ok-push_signature_after, else-is_new}
 use Rattle.mls_signatures.proofs.new_leaf_signatures.push_replaced_leaf_signatures.Goals as goal
 
@@ -24,7 +25,7 @@ loop-index-preserved c = λ t m.
       | then-is_new+in_ok-push_signature_after w ↦
           walked-push context.cipher_suite context.group_id t old js i c.loop-index.list c.loop-index.seen known c.loop-index-test.true
           c.insert.new.self c.in_ok-is_new.ensures.updates.0 c.if-is_new.list
-          (w.list-is ∙ w.in_ok-push_signature_after.ensures t m)
+          (subst (λ l. AppendsSignatures c.loop-index.list (of_index context.cipher_suite context.group_id t (get_or js i 0)) l) (sym w.list-is) (w.in_ok-push_signature_after.ensures t m))
       | else-is_new w ↦
           subst
           (λ l. Walked context.cipher_suite context.group_id t old js (i + 1) l c.insert.new.self)

@@ -1,7 +1,11 @@
 use Rattle.std.proofs.Common.{arith, refl}
 use Rattle.mls_tree.specs.Tree.{leaf_at}
 use Rattle.mls_signatures.proofs.LeafLists.{below-next, below-all}
+use Rattle.mls_signatures.proofs.Repeats.{extends-none}
 use Rattle.mls_signatures.proofs.push_signatures.push_tree_signatures.Goals as goal
+
+pub loop-index-init : goal.loop-index-init
+loop-index-init c = extends-none c.args.list.now
 
 pub loop-index-preserved : goal.loop-index-preserved
 loop-index-preserved c =

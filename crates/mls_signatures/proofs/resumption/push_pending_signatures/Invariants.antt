@@ -1,8 +1,9 @@
-use Rattle.std.proofs.Common.{◌≡◌, ◌++◌, drop}
+use Rattle.std.proofs.Common.{◌++◌, drop}
+use Rattle.mls_signatures.specs.AddedLeaves.{AppendsSignatures}
 use Rattle.mls_signatures.specs.SignaturesToVerify.{pending_signatures}
 use Rattle.mls_signatures.proofs.resumption.push_pending_signatures.Given as goal
 
 abbrev pub invariant-loop-pending : goal.invariant-loop-pending
 invariant-loop-pending l =
-    l.list ++ pending_signatures l.context (drop l.pending-index l.known)
-    ≡ l.initial.list ++ pending_signatures l.context l.known
+    AppendsSignatures l.initial.list (pending_signatures l.context l.known)
+    (l.list ++ pending_signatures l.context (drop l.pending-index l.known))

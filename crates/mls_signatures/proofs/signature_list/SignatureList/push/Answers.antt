@@ -1,18 +1,13 @@
-use Rattle.std.proofs.Common.{◌∙◌, ap, List}
-use Rattle.std.specs.Prelude.{◌++◌, ◌∷◌, []}
-use Rattle.mls_signatures.specs.declared.signature_to_verify.SignatureToVerify.{SignatureToVerify}
-use Rattle.mls_signatures.proofs.Shortened.{shortened-push, restored-push}
+use Rattle.std.specs.Prelude.{◌∷◌, []}
+use Rattle.std.proofs.lemmas.Result.{on_ok_weaker}
+use Rattle.mls_signatures.proofs.Repeats.{extends-by, extends-once}
 use Rattle.mls_signatures.proofs.signature_list.SignatureList.push.Goals as goal
 
-pub invariant_of-self-2 : goal.invariant_of-self-2
-invariant_of-self-2 c =
-    let i = c.self.inside in
-    shortened-push i.group_id i.signatures.items c.args.needed c.in_ok-shortened.shortened c.push.new.self.items
-    (rw c.as_slice.ensures.bytes at c.in_ok-shortened.ensures) c.in_ok-push.ensures.items c.self.invariant
+pub returns-then-len-self : goal.returns-then-len-self
+returns-then-len-self c = extends-by c.args.self.now (c.args.needed.now ∷ []) c.append.new.self c.in_ok-append.ensures
 
 pub returns : goal.returns
 returns c =
-    let i = c.self.inside in
-    restored-push i.group_id i.signatures.items c.args.needed c.in_ok-shortened.shortened c.push.new.self.items
-    (rw c.as_slice.ensures.bytes at c.in_ok-shortened.ensures) c.in_ok-push.ensures.items
-    ∙ ap (λ (list : List SignatureToVerify). list ++ c.args.needed ∷ []) c.self.view_is
+    on_ok_weaker c.remove_duplicates.result
+    (extends-once c.args.self.now (c.args.needed.now ∷ []) c.append.new.self c.remove_duplicates.new.self c.in_ok-append.ensures)
+    c.remove_duplicates.ensures

@@ -13,7 +13,7 @@ ghost use Rattle.mls_apply.specs.PathParents.{away_at, changed, path_hash_at, pa
 ghost use Rattle.mls_apply.specs.PathModel.{change_of, path_parents_model};
 
 use crate::leaf_changes::blank_direct_path;
-use mls_hash::{HashFault, Suite, fill_hashes, parent_hash_of, tree_hash};
+use mls_hash::{HashFault, Suite, fill_hashes, filled_hash, parent_hash_of, tree_hash};
 use mls_nodes::{EncodedLeaf, ParentNode, Unmerged};
 use mls_tree::{HashValue, Journal, Part, PublicTree};
 use mls_wire::{Opaque, Shared};
@@ -76,6 +76,41 @@ pub(crate) fn fill(alloc: Global, suite: Suite, tree: &mut PublicTree) -> Result
         Err(HashFault::OutOfMemory) => Err(AllocError),
         Err(_) => unreachable!(),
     }
+}
+
+/// Fills the hash cache of a tree at a node index, and below it.
+fn fill_subtree(
+    alloc: Global,
+    suite: Suite,
+    tree: &mut PublicTree,
+    node_index: u32,
+) -> Result<(), AllocError>
+    requires there { IsSome (subtree_at 0 tree.old.tree node_index) }
+    ensures tree { tree.new.tree ≡ tree.old.tree }
+{
+    match filled_hash(alloc, suite, tree, node_index) {
+        Ok(_) => Ok(()),
+        Err(HashFault::OutOfMemory) => Err(AllocError),
+        Err(_) => unreachable!(),
+    }
+}
+
+/// Fills the hash cache of a tree at the children on the copath of a leaf, of the parents at these node indices above it, and
+/// below these children. The leaf and the parents above it, which a path replaces, are not hashed.
+pub(crate) fn fill_copath(
+    alloc: Global,
+    suite: Suite,
+    tree: &mut PublicTree,
+    above: &PathNodeIndices<'_>,
+) -> Result<(), AllocError>
+    requires parents { All (IsParentNodeIndex tree.old.tree) above.now.node_indices.now }
+    ensures tree { tree.new.tree ≡ tree.old.tree }
+{
+    for node_index in above.node_indices {
+        let away = copath_child(tree, above.leaf, *node_index);
+        fill_subtree(alloc, suite, tree, away)?;
+    }
+    Ok(())
 }
 
 /// Returns the tree hash of the subtree at a node index.

@@ -18,7 +18,9 @@ use crate::committer_path::CommitterPath;
 use crate::fault::ApplyFault;
 use crate::leaf_changes::leaf_of;
 use crate::list_application::Applied;
-use crate::new_parents::{NewNodes, NewParents, PathNodeIndices, fill, new_parents, put_path};
+use crate::new_parents::{
+    NewNodes, NewParents, PathNodeIndices, fill_copath, new_parents, put_path,
+};
 use crate::path_rules::{has_new_keys, have_counts};
 use mls_hash::Suite;
 use mls_index::TreeIndex;
@@ -255,7 +257,7 @@ fn new_nodes(
 
 /// Returns the new nodes of a path that satisfies the rules of [`fitting_node_indices`] and [`check_keys_and_counts`], if
 /// it satisfies the last rule for paths. The path's nodes are those at `node_indices`. The hashes that the tree caches of
-/// its subtrees are filled before this rule is checked, and only then: parent hashes take them.
+/// the subtrees on the copath are filled before this rule is checked, and only then: parent hashes take them.
 ///
 /// # Errors
 ///
@@ -279,7 +281,11 @@ pub(crate) fn filled_nodes(
     ensures refused { IfErr result (λ e. e ≢ ApplyFault.OutOfMemory
         → committer_path_refusal (hash_of suite) tree.old.tree path.now ≡ Some e) }
 {
-    fill(alloc, suite, tree)?;
+    let above = PathNodeIndices {
+        leaf: path.leaf,
+        node_indices,
+    };
+    fill_copath(alloc, suite, tree, &above)?;
     new_nodes(alloc, suite, tree, node_indices, path)
 }
 

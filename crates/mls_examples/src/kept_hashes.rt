@@ -4,7 +4,7 @@ use crate::support::{
     TWO_LEAVES, TWO_LEAVES_HASH, TWO_OF_FOUR, bytes, expect_text, have, joined_leaf, leaf_node,
     list_text, suite, text, tree_text, tree_with,
 };
-use mls_hash::{Suite, decode_with_leaf_hashes, fill_hashes, tree_hash};
+use mls_hash::{HashFault, Suite, decode_with_leaf_hashes, fill_hashes, filled_hash, tree_hash};
 use mls_nodes::{decode_ratchet_tree, encode_ratchet_tree};
 use mls_tree::{HashKind, PublicTree};
 use std::alloc::Global;
@@ -167,6 +167,24 @@ fn hashes_of_a_kind_are_kept(rt: HostRuntime) {
     let stayed = filled(&rt, alloc, (4, 6));
     let expected = have(&rt, format!(in alloc; "3 0 {LONG_ROOT} {LONG_ROOT}"));
     expect_text(&rt, stayed, expected.as_str());
+}
+
+/// The hash of a subtree is filled with those below it, and no other. There is none of a node that is not there.
+#[test]
+fn hashes_of_a_subtree_are_filled(rt: HostRuntime) {
+    let alloc = rt.alloc();
+    let mut tree = tree_with(&rt, alloc, TWO_OF_FOUR);
+    let anew = whole_text_anew(&rt, alloc, &tree);
+    let computed = have(&rt, tree_hash(alloc, suite(&rt), &tree, 1));
+    let filled = have(&rt, filled_hash(alloc, suite(&rt), &mut tree, 1));
+    let expected = text(&rt, alloc, computed.as_slice());
+    expect_text(&rt, text(&rt, alloc, filled.as_slice()), expected.as_str());
+    expect_text(&rt, empty_node_indices(&rt, alloc, &tree), "[3, 4, 5, 6]");
+    expect_text(&rt, whole_text(&rt, alloc, &tree), anew.as_str());
+    match filled_hash(alloc, suite(&rt), &mut tree, 7) {
+        Err(HashFault::NoSuchNode) => {}
+        _ => panic!(rt; "no node"),
+    }
 }
 
 /// Checks of which node indices a tree that is read caches no hash, and how many hashes are filled after. The hashes that

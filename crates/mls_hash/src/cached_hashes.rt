@@ -1,6 +1,6 @@
 //! The hash cache of a tree: reading it, and filling its empty slots (RFC 9420, 7.8).
 
-ghost use Rattle.std.specs.Prelude.{◌≡◌, ◌≢◌, ◌+◌, ◌*◌, Some, OnOk, IfOk, IfErr, IfSome, slice_get};
+ghost use Rattle.std.specs.Prelude.{◌≡◌, ◌≢◌, ◌↔◌, ◌⊎◌, ◌+◌, ◌*◌, None, Some, Err, IsSome, OnOk, IfOk, IfErr, IfSome, slice_get};
 ghost use Rattle.mls_tree.specs.HashCache.{empty_count, hash_in, AreAllFilled};
 ghost use Rattle.mls_tree.specs.Tree.{leaf_count, subtree_at};
 ghost use Rattle.mls_hash.specs.SuiteHash.{hash_of, kind_of};
@@ -136,4 +136,36 @@ pub fn fill_hashes(alloc: Global, suite: Suite, tree: &mut PublicTree) -> Result
         fill_each(alloc, suite, tree, &mut writer)?;
     }
     Ok(empty)
+}
+
+/// Returns the tree hash of the subtree at a node index (RFC 9420, 7.8), and fills the empty slots of the tree's hash cache
+/// that it takes: that of the subtree, and those below it down to filled ones. The cache is then one of the suite's hash
+/// function; one of another hash function is dropped. The nodes are unchanged.
+///
+/// # Errors
+///
+/// `NoSuchNode` if and only if the tree has no such node, which is checked first, or `OutOfMemory`. Some slots may have been
+/// filled.
+pub fn filled_hash(
+    alloc: Global,
+    suite: Suite,
+    tree: &mut PublicTree,
+    node_index: u32,
+) -> Result<HashValue, HashFault>
+    ensures hash { IfOk result
+        (λ h. tree_hash_at (hash_of suite) tree.old.tree node_index ≡ Some h) }
+    ensures tree { tree.new.tree ≡ tree.old.tree }
+    ensures kind { OnOk result (tree.new.kind ≡ Some (kind_of suite)) }
+    ensures filled { OnOk result (IsSome (hash_in (slice_get tree.new.slots node_index))) }
+    ensures no_such_node { (result ≡ Err HashFault.NoSuchNode)
+        ↔ (subtree_at 0 tree.old.tree node_index ≡ None) }
+    ensures possible_errors { IfErr result
+        (λ e. (e ≡ HashFault.NoSuchNode) ⊎ (e ≡ HashFault.OutOfMemory)) }
+{
+    if tree.part(node_index).is_none() {
+        return Err(HashFault::NoSuchNode);
+    }
+    tree.reserve_hashes(alloc, suite.kind())?;
+    let mut writer = Writer::new(alloc);
+    fill(alloc, suite, tree, node_index, &mut writer)
 }

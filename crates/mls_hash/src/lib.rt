@@ -5,7 +5,7 @@
 //! computed on the same tree, without a copy. [`SubtreeHashes`] stores the tree hashes of all subtrees, and
 //! [`OriginalHashes`] those from which parent hashes are computed. So a walk over all parents hashes a subtree again
 //! only if leaves are left out, and then once. [`fill_hashes`] stores the tree hashes in the tree itself, where
-//! [`tree_hash`] reads them.
+//! [`tree_hash`] reads them, and [`filled_hash`] those of a subtree.
 #![tactic(auto)]
 
 mod cached_hashes;
@@ -23,7 +23,7 @@ mod subtree_hashes;
 mod suite;
 mod tree_hashes;
 
-pub use cached_hashes::fill_hashes;
+pub use cached_hashes::{fill_hashes, filled_hash};
 pub use decode::decode_with_leaf_hashes;
 pub use digest::{hash, ref_hash};
 pub use fault::HashFault;

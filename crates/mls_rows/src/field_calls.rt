@@ -70,7 +70,10 @@ fn put_extensions_left(
 
 /// Adds certificates, one after the other.
 fn put_certificates(alloc: Global, out: &mut String, mut left: Reader<'_>) -> Result<(), RowFault> {
-    while !left.at_end() {
+    for _ in 0..left.left().len() {
+        if left.at_end() {
+            break;
+        }
         let Ok(certificate) = left.read_vec() else {
             return Err(RowFault::TwoResults);
         };

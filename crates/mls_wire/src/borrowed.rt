@@ -7,7 +7,7 @@ ghost use Rattle.mls_wire.specs.EncodedItems.{items_of, stored_items, Parses};
 ghost use Rattle.mls_wire.specs.Parsing.{items_at, list_at, number_at, vector_at};
 
 use crate::encoded_items::{EncodedItems, Skip, count_items};
-use crate::fault::WireFault;
+use crate::fault::{WireFault, WireFaultKind};
 use crate::reader::Reader;
 use std::marker::{Model, PhantomData};
 
@@ -111,7 +111,14 @@ impl<'a, T: Skip> ItemsRef<'a, T> {
     pub fn parse(reader: &mut Reader<'a>) -> Result<ItemsRef<'a, T>, WireFault>
         ensures { Parses (list_at T.reading) reader.old reader.new result }
     {
+        let at = reader.position();
         let body = reader.next_sub()?;
+        if T::is_uneven(body.len()) {
+            return Err(WireFault {
+                kind: WireFaultKind::OddLength,
+                at,
+            });
+        }
         count_items::<T>(body.fork())?;
         Ok(ItemsRef::new(body.left()))
     }

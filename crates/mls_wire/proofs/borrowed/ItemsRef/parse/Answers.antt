@@ -1,5 +1,6 @@
-use Rattle.std.proofs.Common.{refl}
+use Rattle.std.proofs.Common.{refl, sym, ◌∙◌}
 use Rattle.std.proofs.lemmas.Result.{err_from_is_err_and}
+use Rattle.mls_wire.specs.ListsExact.{list_uneven}
 use Rattle.mls_wire.specs.StoredItems.{no_list, no_items, all_items, counted_are_some, at_any_offset, stored_of}
 use Rattle.mls_wire.proofs.borrowed.ItemsRef.parse.Goals as goal
 
@@ -7,6 +8,12 @@ pub returns-in_err-body : goal.returns-in_err-body
 returns-in_err-body g c =
     let p = err_from_is_err_and c.from_residual.result c.from_residual.ensures.1 in
     rw p.1 (no_list g.T.Decode.reading c.args.reader.now c.in_err-body.ensures.0)
+
+pub returns-then-is_uneven : goal.returns-then-is_uneven
+returns-then-is_uneven g c =
+    list_uneven g.T.Decode.encoding g.T.Decode.reading g.met.T.Decode.exact c.args.reader.now c.in_ok-body.body _
+    c.in_ok-body.ensures
+    (λ xs t e l. c.is_uneven.ensures c.if-is_uneven.true xs t e (l ∙ sym c.len.ensures))
 
 pub returns-in_err-count_items : goal.returns-in_err-count_items
 returns-in_err-count_items g c =

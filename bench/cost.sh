@@ -6,7 +6,8 @@
 # start each message takes. The script fails
 #
 # - at a growth beyond n^1.35, and if a message takes a greater part of a start than cost.py allows
-# - beyond 25 bytes a byte
+# - beyond 25 bytes a byte; if a message touches much of the group, only if that is also more than half of the memory of the
+#   start
 # - at a fault, and if a run takes 100 seconds.
 #
 # A time below 0.25 seconds and a memory below 8 MB are too small to be compared.
@@ -48,6 +49,7 @@ tell() {
         {
             seconds[NR] = $1 > $4 ? $1 - $4 : 0
             memory = $2 > $5 ? ($2 - $5) * 1024 : 0
+            group = $5 * 1024
             fault = fault || $3 || $1 >= 99
             bytes = $7
             part = $8 && $4 > 0 ? seconds[NR] / $8 / $4 : 0
@@ -59,7 +61,7 @@ tell() {
             each = memory / bytes
             slow = seconds[NR] >= 0.25 && (growth > 1.35 || part > share)
             last = (share ? sprintf("%.1f %% of a start  ", 100 * part) : "") last
-            large = memory > 8000000 && each > 25
+            large = memory > 8000000 && each > 25 && !(share && memory < group / 2)
             failed = fault || slow || large
             printf "%-31s %9d B %7.2f s  n^%.2f %7.1f MB %6.1f  %s%s\n", name, bytes, seconds[NR], growth,
                 memory / 1000000, each, last, failed ? "  FAILED" : ""

@@ -239,25 +239,25 @@ def full_group_of_many_refused_19(put):
 @shape
 def credential_lacked_by_the_last(put):
     """Commits that add one with a type of credential that only the last member of a nearly blank tree does not list.
-    The leaves may not be searched for each commit."""
-    last = put.full(262_144) - 1
+    What the leaves list may be searched for it, but not be read again."""
+    last = 262_143
     group = Sparse(last + 1, [0, last])
     group.set_leaf(0, new_leaf("made", 0, capabilities=BOTH))
     leaf = new_leaf("joined", capabilities=BOTH)._replace(credential=b"\x00\x02" + vector(b""))
-    return put.replay(group, [commit(group, [inline(add(leaf))])] * put.size(250))
+    return put.replay(group, [commit(group, [inline(add(leaf))])] * put.size(250), share=0.01)
 
 
 @shape
 def required_unmet_by_the_last(put):
-    """Commits that require an extension that all members list except the last one. The lists of the leaves may not be
-    searched for each commit."""
-    count = put.full(16_384)
+    """Commits that require an extension that all members list except the last one. Each member's lists have to be
+    searched, but nothing else may be checked again."""
+    count = 16_384
     group = with_capabilities(Group(count), LISTING)
     group.set_leaf(count - 1, new_leaf("made", count - 1))
     group.renewed = lambda index: new_leaf("renewed", index, group.epoch, capabilities=LISTING)
     renew_paths(group, range(0, count, 16))
     body = extensions_of([(3, vector(number(0xF000, 2)) + vector(b"") * 2)])
-    return put.replay(group, [commit_with_path(frozen(group), [inline(body)])] * put.size(60))
+    return put.replay(group, [commit_with_path(frozen(group), [inline(body)])] * put.size(60), share=0.05)
 
 
 # ---- signatures: the output repeats what is large, so it is a product, and the memory may not be

@@ -7,3 +7,4 @@ pub mod WriteLaws
 pub mod Sized
 mod Edited
 mod ShortLists
+mod CountedCodes

@@ -1,6 +1,6 @@
 //! Lists that are stored as the bytes that encode them.
 
-ghost use Rattle.std.specs.Prelude.{◌≡◌, ◌↔◌, ◌≤◌, [], None, Some, IfErr, IfOk, IsTrue, MatchResult, length, option_map};
+ghost use Rattle.std.specs.Prelude.{◌≡◌, ◌↔◌, ◌≤◌, [], None, Some, IfErr, IfOk, IfSome, IsTrue, MatchResult, length, option_map};
 ghost use Rattle.mls_wire.specs.EncodedItems.{Skips};
 ghost use Rattle.mls_wire.specs.Encoding.{list, vector};
 ghost use Rattle.mls_wire.specs.Limits.{vector_limit};
@@ -25,6 +25,14 @@ pub trait Skip: Decode {
     /// If and only if no value is encoded there. The reader may then have moved.
     fn skip(reader: &mut Reader<'_>) -> Result<(), WireFault>
         ensures { Skips Self.reading reader.old reader.new result };
+
+    /// Returns how many values are encoded, one after the other, up to the end, if the number of bytes alone determines it.
+    fn count_by_len(_body: &Reader<'_>) -> Option<usize>
+        ensures { IfSome result (λ count.
+            option_map length (items_at Self.reading (length _body.now.left) _body.now) ≡ Some count) }
+    {
+        None
+    }
 }
 
 /// A list that fits into one vector, as [`Items`](crate::Items) is (RFC 9420, 2.1.2). It is stored as the bytes that
@@ -60,6 +68,9 @@ pub(crate) fn count_items<T: Skip>(mut body: Reader<'_>) -> Result<usize, WireFa
         (λ count. option_map length (items_at T.reading (length body.entry.left) body.entry) ≡ Some count)
         (λ _. items_at T.reading (length body.entry.left) body.entry ≡ None) }
 {
+    if let Some(count) = T::count_by_len(&body) {
+        return Ok(count);
+    }
     let mut count = 0;
     while !body.at_end() {
         T::skip(&mut body)?;
@@ -195,6 +206,10 @@ impl Skip for u16 {
     fn skip(reader: &mut Reader<'_>) -> Result<(), WireFault> {
         reader.next_u16()?;
         Ok(())
+    }
+
+    fn count_by_len(body: &Reader<'_>) -> Option<usize> {
+        body.pairs()
     }
 }
 

@@ -1,6 +1,6 @@
 //! Reading from left to right.
 
-ghost use Rattle.std.specs.Prelude.{◌≡◌, ◌+◌, ◌≤◌, ◌<◌, ◌^◌, ◌↔◌, ℕ, List, [], length, IsTrue, ◌≢◌, MatchOption, MatchResult, Some, None, take, drop};
+ghost use Rattle.std.specs.Prelude.{◌≡◌, ◌+◌, ◌*◌, ◌≤◌, ◌<◌, ◌^◌, ◌↔◌, ℕ, List, [], length, IfSome, IsTrue, ◌≢◌, MatchOption, MatchResult, Some, None, take, drop};
 ghost use Rattle.std.specs.Int.{Width, w8, w16, w32, w64, byte_len, from_be_bytes};
 ghost use Rattle.mls_wire.specs.Faults.{trailing_at};
 ghost use Rattle.mls_wire.specs.Input.{Input, at, skip};
@@ -48,6 +48,16 @@ fn cut(bytes: &[u8], count: usize) -> Option<(&[u8], &[u8])>
         return None;
     }
     Some(bytes.split_at(count))
+}
+
+/// Returns how many pairs the bytes are, if no byte is left over.
+fn pairs(bytes: &[u8]) -> Option<usize>
+    ensures { IfSome result (λ count. (length bytes.now ≡ 2 * count) × IsBytes bytes.now) }
+{
+    if bytes.len() % 2 != 0 {
+        return None;
+    }
+    Some(bytes.len() / 2)
 }
 
 impl<'a> Reader<'a> {
@@ -98,6 +108,13 @@ impl<'a> Reader<'a> {
         ensures { result ≡ length self.now.left }
     {
         self.left.len()
+    }
+
+    /// Returns how many pairs of bytes are left, if no byte is left over.
+    pub(crate) fn pairs(&self) -> Option<usize>
+        ensures { IfSome result (λ count. (length self.now.left ≡ 2 * count) × IsBytes self.now.left) }
+    {
+        pairs(self.left)
     }
 
     /// Returns a second reader of the same bytes, at the same offset.

@@ -2,6 +2,7 @@ pub mod Inputs
 pub mod Lines
 pub mod Lookups
 pub mod Leaves
+pub mod Plain
 pub mod Used
 pub mod Differing
 pub mod Neighbours
@@ -28,6 +29,7 @@ pub mod SortedLists
 pub mod Walks
 pub mod Resolutions
 pub mod Contents
+pub mod ContentLengths
 pub mod Entering
 pub mod Everywhere
 pub mod Carrying

@@ -6,6 +6,7 @@ ghost use Rattle.std.specs.List.Sorted.{IsStrictlyIncreasing};
 ghost use Rattle.mls_check.specs.LeafValidation.{is_default_extension, is_default_proposal, contains_code, supports_extension, supports_proposal, supports_credential, supports_own_extensions, supports_required};
 ghost use Rattle.mls_check.specs.SortedRequirements.{requirements_of};
 
+use crate::credential_types::{BASIC, X509};
 use crate::signatures::OutOfMemory;
 use crate::sorted_codes::{has_code, lists_code, sorted_leaf_codes};
 use crate::sorted_requirements::SortedRequirements;
@@ -32,10 +33,31 @@ fn supports_proposal(listed: &[u16], kind: u16) -> bool
 }
 
 /// Returns whether a leaf supports a credential type.
-pub fn supports_credential(leaf: &EncodedLeaf, kind: u16) -> bool
+pub(crate) fn supports_credential(leaf: &EncodedLeaf, kind: u16) -> bool
     ensures { result ≡ supports_credential leaf.now kind }
 {
     lists_code(&leaf.capabilities().credentials, kind)
+}
+
+/// Which types of credentials a leaf supports (RFC 9420, 5.3 and 7.2).
+#[derive(Clone, Copy, Debug)]
+pub struct SupportedCredentials {
+    /// Basic credentials.
+    pub basic: bool,
+    /// Certificates.
+    pub x509: bool,
+}
+
+/// Returns which types of credentials a leaf supports. The leaf node is read once.
+pub fn supported_credentials(leaf: &EncodedLeaf) -> SupportedCredentials
+    ensures basic { result.basic ≡ supports_credential leaf.now 1 }
+    ensures x509 { result.x509 ≡ supports_credential leaf.now 2 }
+{
+    let capabilities = leaf.capabilities();
+    SupportedCredentials {
+        basic: lists_code(&capabilities.credentials, BASIC),
+        x509: lists_code(&capabilities.credentials, X509),
+    }
 }
 
 /// Returns whether the type of each of these extensions is supported if these types are listed.

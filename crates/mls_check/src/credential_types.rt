@@ -9,10 +9,10 @@ use mls_nodes::{CredentialBody, EncodedLeaf};
 use mls_tree::PublicTree;
 
 /// The code of basic credentials.
-const BASIC: u16 = 1;
+pub(crate) const BASIC: u16 = 1;
 
 /// The code of x509 credentials.
-const X509: u16 = 2;
+pub(crate) const X509: u16 = 2;
 
 /// Which credential types the non-blank leaves of a tree have.
 #[derive(Clone, Copy, Debug)]

@@ -11,6 +11,7 @@ pub mod laws;
 mod members;
 mod node_count;
 mod parent_hash_validity;
+mod plain_leaves;
 mod receipt_set;
 mod receipts;
 mod signature_keys;
@@ -22,7 +23,9 @@ mod tree_validation;
 mod unmerged_consistency;
 mod unmerged_order;
 
-pub use capability_support::{supports_credential, supports_own_extensions, supports_required};
+pub use capability_support::{
+    SupportedCredentials, supported_credentials, supports_own_extensions, supports_required,
+};
 pub use credential_types::first_unsupported_credential;
 pub use distinct_keys::has_distinct_keys;
 pub use group_tree::{GroupTreeFault, validate_group_tree};

@@ -1,16 +1,17 @@
 //! Leaf node validation (RFC 9420, 7.3).
 
-ghost use Rattle.std.specs.Prelude.{◌≡◌, ℕ, ◌≤◌, true, length, IfOk, IfErr, IfSome, IsErr, OnOk};
+ghost use Rattle.std.specs.Prelude.{◌≡◌, ℕ, ◌<◌, ◌≤◌, ◌^◌, true, length, IfOk, IfErr, IfSome, IsErr, IsSomeAnd, OnOk};
+ghost use Rattle.std.specs.Bool.{OnTrue};
 ghost use Rattle.mls_wire.specs.Limits.{vector_limit};
 ghost use Rattle.mls_wire.specs.Encoding.{◌⊕◌, length_form, vector};
 ghost use Rattle.mls_wire.specs.WriteContracts.{Puts};
 ghost use Rattle.mls_nodes.specs.LeafNodeTBS.{leaf_tbs};
 ghost use Rattle.mls_tree.specs.Tree.{leaf_at};
 ghost use Rattle.mls_check.specs.Signatures.{VerifyFn};
-ghost use Rattle.mls_check.specs.LeafValidation.{LeavesAreValid, IsMemberFault, FindsFailing, supports_own_extensions, supports_required, is_leaf_signed};
+ghost use Rattle.mls_check.specs.LeafValidation.{LeavesAreValid, IsMemberFault, FindsFailing, supports_required, is_leaf_signed};
 
-use crate::capability_support::{supports_own_extensions, supports_required};
-use crate::credential_types::first_unsupported_credential;
+use crate::capability_support::supports_required;
+use crate::plain_leaves::{are_plain, first_unlisted_extension, first_unsupported};
 use crate::signature_keys::first_repeated_signature_key;
 use crate::signatures::{OutOfMemory, SignatureCheck};
 use crate::sorted_requirements::SortedRequirements;
@@ -84,13 +85,14 @@ pub fn validate_members<C: SignatureCheck>(
         (λ e. IsMemberFault (C.meaning checker.now) suite group_id.now requirements.now
         tree.now.tree e) }
 {
-    if let Some(leaf) = first_unlisted_extension(alloc, tree)? {
+    let are_plain = are_plain(tree);
+    if let Some(leaf) = first_unlisted_extension(alloc, tree, are_plain)? {
         return Err(MemberFault::ExtensionUnlisted(leaf));
     }
     if let Some(leaf) = first_unmet_requirement(alloc, tree, requirements)? {
         return Err(MemberFault::RequirementUnmet(leaf));
     }
-    if let Some(leaf) = first_unsupported_credential(tree) {
+    if let Some(leaf) = first_unsupported(tree, are_plain) {
         return Err(MemberFault::CredentialUnsupported(leaf));
     }
     if let Some(leaf) = first_repeated_signature_key(alloc, tree)? {
@@ -100,20 +102,6 @@ pub fn validate_members<C: SignatureCheck>(
         return Err(MemberFault::LeafSignature(leaf));
     }
     Ok(())
-}
-
-/// Returns the smallest leaf index of a leaf with an extension that its capabilities do not list.
-fn first_unlisted_extension(alloc: Global, tree: &PublicTree) -> Result<Option<u32>, OutOfMemory>
-    ensures { IfOk result (FindsFailing (λ _ x. supports_own_extensions x) tree.now.tree) }
-{
-    for index in 0..tree.leaf_count() {
-        if let Some(leaf) = tree.leaf(index) {
-            if !supports_own_extensions(alloc, leaf)? {
-                return Ok(Some(index));
-            }
-        }
-    }
-    Ok(None)
 }
 
 /// Returns the smallest leaf index of a leaf whose capabilities lack what the group requires (RFC 9420, 7.3).
@@ -156,6 +144,16 @@ fn put_content(
     put_leaf_tbs(alloc, leaf, group_id, index, draft)
 }
 
+/// Returns `true` only if the LeafNodeTBS of a leaf (RFC 9420, 7.2) is short enough for a SignContent, whatever the
+/// index of the leaf. It may return `false` although it is. It adds up lengths and does not read the leaf node.
+fn has_short_tbs(leaf: &EncodedLeaf, group_id: &Opaque) -> bool
+    ensures { OnTrue result ((index : ℕ) → index < 2 ^ 32
+        → IsSomeAnd (leaf_tbs leaf.now group_id.now index) (λ tbs. length tbs ≤ vector_limit)) }
+{
+    // The length of the group id takes at most four bytes, and the leaf index takes four.
+    leaf.encoded_len() + group_id.as_slice().len() as u64 + 8 <= MAX_BODY as u64
+}
+
 /// Returns whether a leaf is signed, as [`is_leaf_signed`]. What is signed is written into `content`, which serves for
 /// many leaves.
 #[tactic(auto, unfolding(crate::specs::LeafValidation::is_leaf_signed))]
@@ -173,6 +171,9 @@ fn is_signed_in<C: SignatureCheck>(
     ensures memory { IsErr result
         → IfSome (leaf_tbs leaf.now group_id.now index) (λ tbs. length tbs ≤ vector_limit) }
 {
+    if checker.accepts_all() && has_short_tbs(leaf, group_id) {
+        return Ok(true);
+    }
     let len = leaf_tbs_len(leaf, group_id, index);
     if len > MAX_BODY as u64 {
         return Ok(false);

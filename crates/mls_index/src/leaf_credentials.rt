@@ -5,16 +5,10 @@ ghost use Rattle.mls_tree.specs.Tree.{leaf_at};
 ghost use Rattle.mls_index.specs.LeafCredentials.{LeafClass, class_of, blank_class, class_at};
 ghost use Rattle.mls_index.specs.LeafCredentialsInternal.{support_each_other, lacks_used, FindsLacking};
 
-use mls_check::supports_credential;
+use mls_check::supported_credentials;
 use mls_nodes::{CredentialBody, EncodedLeaf};
 use mls_tree::PublicTree;
 use std::alloc::{AllocError, Global};
-
-/// The code of basic credentials.
-const BASIC: u16 = 1;
-
-/// The code of x509 credentials.
-const X509: u16 = 2;
 
 /// The class of a leaf: which credential type it has, and which it does not support.
 #[derive(Clone, Copy, Debug)]
@@ -42,8 +36,9 @@ impl LeafClass {
     fn of(leaf: &EncodedLeaf) -> LeafClass
         ensures { result ≡ class_of (Some leaf.now) }
     {
-        let lacks_basic = !supports_credential(leaf, BASIC);
-        let lacks_x509 = !supports_credential(leaf, X509);
+        let supported = supported_credentials(leaf);
+        let lacks_basic = !supported.basic;
+        let lacks_x509 = !supported.x509;
         match leaf.credential().body() {
             CredentialBody::Basic(_) => LeafClass {
                 has_basic: true,

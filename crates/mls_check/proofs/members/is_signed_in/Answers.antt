@@ -1,6 +1,7 @@
 use Rattle.std.proofs.Common.{◌∙◌, sym, arith}
+use Rattle.mls_nodes.specs.LeafNodeTBS.{leaf_tbs}
 use Rattle.mls_nodes.proofs.Drafted.{drafted}
-use Rattle.mls_tree.proofs.Entering.{true_gives}
+use Rattle.mls_check.proofs.ContentLengths.{at_most_length}
 use Rattle.mls_check.proofs.Contents.{is_leaf_signed-all, is_leaf_signed-over, is_leaf_signed-content, sized_content-there}
 use Rattle.mls_check.proofs.members.is_signed_in.Goals as goal
 
@@ -8,10 +9,14 @@ pub returns-then-len-clause-good : goal.returns-then-len-clause-good
 returns-then-len-clause-good g c =
     sym (is_leaf_signed-over _ c.args.suite c.args.group_id.now c.args.index c.args.leaf.now c.leaf_tbs_len-len.result c.leaf_tbs_len-len.ensures.length c.if-len.true)
 
-pub returns-then-accepts_all-clause-good : goal.returns-then-accepts_all-clause-good
-returns-then-accepts_all-clause-good g c =
-    sym (is_leaf_signed-all _ c.args.suite c.args.group_id.now c.args.index c.args.leaf.now c.leaf_tbs_len-len.result c.leaf_tbs_len-len.ensures.length c.if-len.false
-    (true_gives c.accepts_all.result c.if-accepts_all.true c.accepts_all.ensures))
+pub returns-then-has_short_tbs-clause-good : goal.returns-then-has_short_tbs-clause-good
+returns-then-has_short_tbs-clause-good g c =
+    let tbs = at_most_length (leaf_tbs c.args.leaf.now c.args.group_id.now c.args.index) 1073741823 (c.if-has_short_tbs.ensures c.args.index c.ranges.index.fits) in
+    sym (is_leaf_signed-all _ c.args.suite c.args.group_id.now c.args.index c.args.leaf.now tbs.0 tbs.1 tbs.2 c.if-accepts_all.ensures)
+
+pub returns-then-accepts_all-2-clause-good : goal.returns-then-accepts_all-2-clause-good
+returns-then-accepts_all-2-clause-good g c =
+    sym (is_leaf_signed-all _ c.args.suite c.args.group_id.now c.args.index c.args.leaf.now c.leaf_tbs_len-len.result c.leaf_tbs_len-len.ensures.length c.if-len.false c.if-accepts_all-2.ensures)
 
 pub unreachable-requires : goal.unreachable-requires
 unreachable-requires g c =

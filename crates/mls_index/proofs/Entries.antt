@@ -3,7 +3,7 @@ use Rattle.std.proofs.Common.{◌≡◌, ◌≢◌, ◌∙◌, ◌⊎◌, ℕ, �
 use Rattle.std.specs.Prelude.{◌||◌, ◌&&◌}
 use Rattle.std.specs.List.{list_any, filter, AllByRecursion}
 use Rattle.std.specs.List.Sorted.{IsStrictlySortedBy}
-use Rattle.std.specs.BTreeSet.{contains, Updates, IsUnchanged, keys_between}
+use Rattle.std.specs.BTreeSet.{contains, IsFromIterResult, Updates, IsUnchanged, keys_between}
 use Rattle.std.specs.BTreeMap.{is_at}
 use Rattle.std.specs.BTreeMap.Range.{range_contains}
 use Rattle.std.specs.declared.cmp.Ordering.TheVariants.{Less}
@@ -135,6 +135,31 @@ lists-added es b p c q h =
         | inr never ↦ absurd (false≢true never)
       ]
     ]
+
+-- ---- a set that is made of a list
+
+any_same : (f g : ℕ × ℕ → Bool) → ((e : ℕ × ℕ) → f e ≡ g e) → (es : List (ℕ × ℕ)) → list_any f es ≡ list_any g es
+any_same f g same [] = refl
+any_same f g same (e ∷ es) = λ i. same e i || any_same f g same es i
+
+at_own : (b p : ℕ) → is_at (entry_cmp (b, p)) (b, p) ≡ true
+at_own b p = grind (arith, nat_tests)
+
+same_test : (b p : ℕ) (e : ℕ × ℕ) → is_at (entry_cmp (b, p)) e ≡ is_entry b p e
+same_test b p e = elim (cases_Bool (is_at (entry_cmp (b, p)) e)) [
+  | inl at ↦ (let same = same_entry b p e.0 e.1 at in at ∙ sym (and_both (eqb e.0 b) (eqb e.1 p) (subst (λ c. eqb c b ≡ true) same.0 (own b)) (subst (λ q. eqb q p ≡ true) same.1 (own p))))
+  | inr off ↦ elim (cases_Bool (is_entry b p e)) [
+    | inl hit ↦
+        (let same = is_entry-same b p e hit in
+        let there : is_at (entry_cmp (b, p)) e ≡ true = subst (λ c. is_at (entry_cmp (b, p)) (c, e.1) ≡ true) (sym same.0) (subst (λ q. is_at (entry_cmp (b, p)) (b, q) ≡ true) (sym same.1) (at_own b p)) in
+        absurd (false≢true (sym off ∙ there)))
+    | inr miss ↦ off ∙ sym miss
+  ]
+]
+
+pub from_list : (es : List (ℕ × ℕ)) (n : BTreeSet (ℕ × ℕ)) → IsFromIterResult entry_cmp es n → (b p : ℕ) → has_entry n b p ≡ contains_entry es b p
+unfolding has_entry contains_entry
+from_list es n made b p = made.0 (b, p) ∙ any_same (is_at (entry_cmp (b, p))) (is_entry b p) (same_test b p) es
 
 -- the first of a list, or one of the others
 pub lists-first : (e : ℕ × ℕ) (es : List (ℕ × ℕ)) (b p : ℕ) → contains_entry (e ∷ es) b p ≡ true → (e.1 ≡ p) ⊎ (contains_entry es b p ≡ true)

@@ -11,11 +11,12 @@ use Rattle.mls_check.proofs.Repeats.{no_key_above}
 use Rattle.mls_index.specs.NodeKeys.{node_key, fingerprint_at}
 use Rattle.mls_index.specs.IncrementalCheck.{contains_node_index}
 use Rattle.mls_index.specs.KeyTable.{has_entry, contains_entry, base_at, TableHasBase, IsTableOf, TableContainsKeys}
-use Rattle.mls_index.specs.KeyTableInternal.{AreSameBut, TableIndexesFirst, IsSettling, HasStaged, HasLeft, ContainsKeysBut}
+use Rattle.mls_index.specs.KeyTableInternal.{AreSameBut, HasListed, ListsFirst, ListsAll, listed_at, IsSettling, HasStaged, HasLeft, ContainsKeysBut}
 use Rattle.mls_index.specs.declared.node_key.KeyKind.{KeyKind}
 use Rattle.mls_index.specs.declared.node_key.KeyKind.TheVariants.{Encryption, Signature}
+use Rattle.mls_index.specs.declared.key_table.KeyList.{KeyList}
 use Rattle.mls_index.specs.declared.key_table.KeyTable.{KeyTable}
-use Rattle.mls_index.proofs.Entries.{WithEntry, WithoutEntry, no_entries, lists-nil, lists-kept, lists-last, lists-added, listed-other}
+use Rattle.mls_index.proofs.Entries.{WithEntry, WithoutEntry, lists-nil, lists-kept, lists-last, lists-added, listed-other}
 
 -- ---- beginnings at places
 
@@ -120,48 +121,90 @@ only_from x k cases b p has none = elim (cases b p has) [
 
 -- ---- a table is made
 
-pub filled-first : (x : ℕ → Option ℕ) (k : KeyTable) → k.entries.keys ≡ [] → k.fingerprints ≡ [] → k.came.items ≡ [] → TableIndexesFirst x 0 k
-filled-first x k entries fingerprints came = record {
+listed-last : (k n : KeyList) (o : Option ℕ) → n.fingerprints ≡ k.fingerprints ++ o ∷ [] → listed_at n (length k.fingerprints) ≡ o
+unfolding listed_at
+listed-last k n o e = ap (λ xs. unwrap_or (slice_get xs (length k.fingerprints)) None) e ∙ get-last k.fingerprints o
+
+listed-before : (k n : KeyList) (o : Option ℕ) → n.fingerprints ≡ k.fingerprints ++ o ∷ [] → (p : ℕ) → p < length k.fingerprints
+    → listed_at n p ≡ listed_at k p
+unfolding listed_at
+listed-before k n o e p low = ap (λ xs. unwrap_or (slice_get xs p) None) e ∙ get-before k.fingerprints (o ∷ []) p low
+
+listed-beyond : (k : KeyList) (p : ℕ) → length k.fingerprints ≤ p → listed_at k p ≡ None
+unfolding listed_at
+listed-beyond k p high = get-beyond k.fingerprints p high
+
+pub listed-first : (x : ℕ → Option ℕ) (k : KeyList) → k.entries.items ≡ [] → k.fingerprints ≡ [] → ListsFirst x 0 k
+listed-first x k entries fingerprints = record {
   count = ap length fingerprints;
   base = λ p low. absurd (omega (arith, low));
   all = λ b p low e. absurd (omega (arith, low));
-  only = λ b p has. absurd (no_entries k.entries entries b p has);
-  none_came = came;
+  only = λ b p has. absurd (lists-nil k.entries.items entries b p has);
 }
 
-pub filled-more : (x : ℕ → Option ℕ) (k n : KeyTable) (p : ℕ) (o : Option ℕ) → x p ≡ o → n.fingerprints ≡ k.fingerprints ++ o ∷ []
-    → HasStaged o p k.entries n.entries → n.came.items ≡ k.came.items → TableIndexesFirst x p k → TableIndexesFirst x (p + 1) n
-filled-more x k n p o is e w came h = record {
+pub listed-more : (x : ℕ → Option ℕ) (k n : KeyList) (p : ℕ) (o : Option ℕ) → x p ≡ o → n.fingerprints ≡ k.fingerprints ++ o ∷ []
+    → HasListed o p k.entries.items n.entries.items → ListsFirst x p k → ListsFirst x (p + 1) n
+listed-more x k n p o is e w h = record {
   count = ap length e ∙ length-last k.fingerprints o ∙ ap (λ m. m + 1) h.count;
   base = λ q low. elim (cases_eq q p) [
-    | inl same ↦ ap (base_at n) (same ∙ sym h.count) ∙ base-last k n o e ∙ sym is ∙ ap x (sym same)
+    | inl same ↦ ap (listed_at n) (same ∙ sym h.count) ∙ listed-last k n o e ∙ sym is ∙ ap x (sym same)
     | inr other ↦
         (let less : q < p = omega (arith, low, other) in
-        base-before k n o e q (subst (λ m. q < m) (sym h.count) less) ∙ h.base q less)
+        listed-before k n o e q (subst (λ m. q < m) (sym h.count) less) ∙ h.base q less)
   ];
   all = λ b q low there. elim (cases_eq q p) [
-    | inl same ↦ subst (λ r. has_entry n.entries b r ≡ true) (sym same) (w.here b (sym is ∙ ap x (sym same) ∙ there))
+    | inl same ↦ subst (λ r. contains_entry n.entries.items b r ≡ true) (sym same) (w.here b (sym is ∙ ap x (sym same) ∙ there))
     | inr other ↦ (let less : q < p = omega (arith, low, other) in w.remaining b q (h.all b q less there))
   ];
   only = λ b q has. elim (w.only b q has) [
     | inl had ↦ (let old = h.only b q had in let low : q < p + 1 = omega (arith, old.0) in (low, old.1))
     | inr new ↦ (let low : q < p + 1 = omega (arith, new.1) in (low, ap x (sym new.1) ∙ is ∙ new.0))
   ];
-  none_came = came ∙ h.none_came;
 }
 
-pub filled-all : (kind : KeyKind) (t : Tree) (n : ℕ) (k : KeyTable) → n + 1 ≡ 2 * leaf_count t → TableIndexesFirst (fingerprint_at kind t) n k → IsTableOf (fingerprint_at kind t) k
-filled-all kind t n k e h = record {
+pub listed-all : (kind : KeyKind) (t : Tree) (n : ℕ) (k : KeyList) → n + 1 ≡ 2 * leaf_count t → ListsFirst (fingerprint_at kind t) n k → ListsAll (fingerprint_at kind t) k
+listed-all kind t n k e h = record {
+  base = λ p. elim (cases_lt p n) [
+    | inl low ↦ h.base p low
+    | inr high ↦ listed-beyond k p (subst (λ m. m ≤ p) (sym h.count) high) ∙ sym (fingerprint_at-above kind t n p e high)
+  ];
+  all = λ b p is. h.all b p (fingerprint_at-low kind t n p b e is) is;
+  only = λ b p has. (h.only b p has).1;
+}
+
+-- one more in the list
+pub list-some : (b p : ℕ) (es fs : List (ℕ × ℕ)) → fs ≡ es ++ (b, p) ∷ [] → HasListed (Some b) p es fs
+list-some b p es fs e = record {
+  here = λ c f. subst (λ d. contains_entry fs d p ≡ true) (same_Some b c f) (subst (λ gs. contains_entry gs b p ≡ true) (sym e) (lists-last es b p));
+  remaining = λ c q had. subst (λ gs. contains_entry gs c q ≡ true) (sym e) (lists-kept es ((b, p) ∷ []) c q had);
+  only = λ c q has. elim (lists-added es b p c q (subst (λ gs. contains_entry gs c q ≡ true) e has)) [
+    | inl had ↦ inl had
+    | inr new ↦ inr (ap Some new.0, new.1)
+  ];
+}
+
+pub list-none : (p : ℕ) (es : List (ℕ × ℕ)) → HasListed None p es es
+list-none p es = record {
+  here = λ c f. absurd (none-some c f);
+  remaining = λ c q had. had;
+  only = λ c q has. inl has;
+}
+
+base-listed : (k : KeyList) (t : KeyTable) → t.fingerprints ≡ k.fingerprints → (p : ℕ) → base_at t p ≡ listed_at k p
+unfolding base_at listed_at
+base-listed k t e p = ap (λ xs. unwrap_or (slice_get xs p) None) e
+
+-- a table of the keys in a list
+pub table-made : (x : ℕ → Option ℕ) (k : KeyList) (t : KeyTable) → ListsAll x k → t.fingerprints ≡ k.fingerprints → t.came.items ≡ []
+    → ((b p : ℕ) → has_entry t.entries b p ≡ contains_entry k.entries.items b p) → IsTableOf x t
+table-made x k t h fingerprints came entries = record {
   between = record {
-    base = λ p. elim (cases_lt p n) [
-      | inl low ↦ h.base p low
-      | inr high ↦ base-beyond k p (subst (λ m. m ≤ p) (sym h.count) high) ∙ sym (fingerprint_at-above kind t n p e high)
-    ];
-    all = λ b p is. h.all b p (fingerprint_at-low kind t n p b e is) is;
-    only = λ b p has old. (h.only b p has).1;
-    new = λ b p came. absurd (lists-nil k.came.items h.none_came b p came);
+    base = λ p. base-listed k t fingerprints p ∙ h.base p;
+    all = λ b p is. entries b p ∙ h.all b p is;
+    only = λ b p has old. h.only b p (sym (entries b p) ∙ has);
+    new = λ b p new. absurd (lists-nil t.came.items came b p new);
   };
-  none_came = h.none_came;
+  none_came = came;
 }
 
 -- ---- keys come

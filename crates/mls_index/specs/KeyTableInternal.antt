@@ -1,10 +1,11 @@
 -- Steps of making and changing a key table. The keys are given as a function `x` or `y`: from a node index to the
 -- fingerprint of the key there, if there is one. Internal: no public contract uses this.
-use Rattle.std.specs.Prelude.{◌≡◌, ◌≢◌, ◌⊎◌, ℕ, ◌<◌, List, [], Bool, true, false, Option, Some, length}
+use Rattle.std.specs.Prelude.{◌≡◌, ◌≢◌, ◌⊎◌, ℕ, ◌<◌, List, [], Bool, true, false, Option, Some, None, length, slice_get, unwrap_or}
 use Rattle.std.specs.BTreeSet.{BTreeSet}
 use Rattle.std.specs.Coded.{Coded-set, coded_bool, coded_ℕ, coded_option, coded_list, coded×}
 use Rattle.mls_index.specs.IncrementalCheck.{contains_node_index}
 use Rattle.mls_index.specs.KeyTable.{has_entry, contains_entry, base_at, TableHasBase, IsTableOf, TableContainsKeys}
+use Rattle.mls_index.specs.declared.key_table.KeyList.{KeyList}
 use Rattle.mls_index.specs.declared.key_table.KeyTable.{KeyTable}
 
 -- `AreSameBut node_indices x y`: both functions are equal outside the listed node indices.
@@ -38,13 +39,28 @@ IsTableOf-prop x k g h = λ i. record {
   none_came = entries_set k.came.items [] g.none_came h.none_came i;
 }
 
--- `TableIndexesFirst x n k`: the table has the keys of `x` at the node indices below n.
-pub record TableIndexesFirst (x : ℕ → Option ℕ) (n : ℕ) (k : KeyTable) : Type 0 where
+-- `listed_at k p` is the fingerprint in a list of keys for a node index.
+unfoldable pub listed_at : KeyList → ℕ → Option ℕ
+listed_at k p = unwrap_or (slice_get k.fingerprints p) None
+
+-- `ListsFirst x n k`: the list has the keys of `x` at the node indices below n.
+pub record ListsFirst (x : ℕ → Option ℕ) (n : ℕ) (k : KeyList) : Type 0 where
   pub count : length k.fingerprints ≡ n
-  pub base : (p : ℕ) → p < n → base_at k p ≡ x p
-  pub all : (b p : ℕ) → p < n → x p ≡ Some b → has_entry k.entries b p ≡ true
-  pub only : (b p : ℕ) → has_entry k.entries b p ≡ true → (p < n) × (x p ≡ Some b)
-  pub none_came : k.came.items ≡ []
+  pub base : (p : ℕ) → p < n → listed_at k p ≡ x p
+  pub all : (b p : ℕ) → p < n → x p ≡ Some b → contains_entry k.entries.items b p ≡ true
+  pub only : (b p : ℕ) → contains_entry k.entries.items b p ≡ true → (p < n) × (x p ≡ Some b)
+
+-- `ListsAll x k`: the list has the keys of `x`, and no others.
+pub record ListsAll (x : ℕ → Option ℕ) (k : KeyList) : Type 0 where
+  pub base : (p : ℕ) → listed_at k p ≡ x p
+  pub all : (b p : ℕ) → x p ≡ Some b → contains_entry k.entries.items b p ≡ true
+  pub only : (b p : ℕ) → contains_entry k.entries.items b p ≡ true → x p ≡ Some b
+
+-- `HasListed o p es fs`: the entries `fs` are `es` with one more, if there is a fingerprint for the node index.
+pub record HasListed (o : Option ℕ) (p : ℕ) (es fs : List (ℕ × ℕ)) : Type 0 where
+  pub here : (b : ℕ) → o ≡ Some b → contains_entry fs b p ≡ true
+  pub remaining : (b q : ℕ) → contains_entry es b q ≡ true → contains_entry fs b q ≡ true
+  pub only : (b q : ℕ) → contains_entry fs b q ≡ true → (contains_entry es b q ≡ true) ⊎ ((o ≡ Some b) × (p ≡ q))
 
 -- `IsSettling y rest k`: the base of the table becomes `y`. The node indices in `rest` and the added entries are left
 -- to do.

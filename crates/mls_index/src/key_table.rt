@@ -4,7 +4,7 @@ ghost use Rattle.std.specs.Prelude.{◌≡◌, ◌<◌, ◌≤◌, ◌+◌, ◌^
 ghost use Rattle.mls_index.specs.NodeKeys.{fingerprint_at, HasKey, IsUniqueKey};
 ghost use Rattle.mls_index.specs.RepeatedKeysInternal.{FindsOther};
 ghost use Rattle.mls_index.specs.KeyTable.{has_entry, base_at, TableHasBase, IsTableOf, TableContainsKeys};
-ghost use Rattle.mls_index.specs.KeyTableInternal.{AreSameBut, ContainsKeysBut, TableIndexesFirst, IsSettling, HasStaged, HasLeft};
+ghost use Rattle.mls_index.specs.KeyTableInternal.{AreSameBut, ContainsKeysBut, HasListed, ListsFirst, ListsAll, IsSettling, HasStaged, HasLeft};
 
 use crate::fingerprints::Fingerprints;
 use crate::node_key::{
@@ -26,18 +26,18 @@ pub(crate) struct KeyTable {
     came: Vec<(u64, u32)>,
 }
 
-/// Adds the entry of a key at a node index, if there is one.
+/// Appends the entry of a key at a node index, if there is one.
 fn put_entry(
-    entries: &mut BTreeSet<(u64, u32)>,
+    entries: &mut Vec<(u64, u32)>,
     number: Option<u64>,
     node_index: u32,
 ) -> Result<(), AllocError>
-    ensures { OnOk result (HasStaged number node_index entries.old entries.new) }
+    ensures { OnOk result (HasListed number node_index entries.old.items entries.new.items) }
 {
     let Some(number) = number else {
         return Ok(());
     };
-    entries.insert((number, node_index))?;
+    entries.push((number, node_index))?;
     Ok(())
 }
 
@@ -58,32 +58,40 @@ fn leave_entry(
     }
 }
 
-impl KeyTable {
-    /// Returns a table of no keys. Does not allocate.
-    fn new(alloc: Global) -> KeyTable
-        ensures { (x : ℕ → Option ℕ) → TableIndexesFirst x 0 result }
+/// The keys of one kind of a tree, in order of node index.
+#[derive(Drop)]
+struct KeyList {
+    /// The fingerprint of each key, and its node index.
+    entries: Vec<(u64, u32)>,
+    /// By node index, the fingerprint of the key there.
+    fingerprints: Fingerprints,
+}
+
+impl KeyList {
+    /// Returns the list of no keys. Does not allocate.
+    fn new(alloc: Global) -> KeyList
+        ensures { (x : ℕ → Option ℕ) → ListsFirst x 0 result }
     {
-        KeyTable {
-            entries: BTreeSet::new(alloc),
+        KeyList {
+            entries: Vec::new(alloc),
             fingerprints: Fingerprints::new(alloc),
-            came: Vec::new(alloc),
         }
     }
 
-    /// Adds the next node index of the base tree, with the fingerprint of its key.
+    /// Appends the next node index, with the fingerprint of its key.
     fn append(&mut self, number: Option<u64>, node_index: u32) -> Result<(), AllocError>
         ensures { OnOk result ((x : ℕ → Option ℕ) → x node_index ≡ number
-            → TableIndexesFirst x node_index self.old → TableIndexesFirst x (node_index + 1) self.new) }
+            → ListsFirst x node_index self.old → ListsFirst x (node_index + 1) self.new) }
     {
         put_entry(&mut self.entries, number, node_index)?;
         self.fingerprints.push(number)?;
         Ok(())
     }
 
-    /// Adds the node indices of a tree, one after the other.
+    /// Appends the node indices of a tree, one after the other.
     fn fill(&mut self, tree: &PublicTree, kind: KeyKind) -> Result<(), AllocError>
-        requires { TableIndexesFirst (fingerprint_at kind tree.now.tree) 0 self.old }
-        ensures { OnOk result (IsTableOf (fingerprint_at kind tree.now.tree) self.new) }
+        requires { ListsFirst (fingerprint_at kind tree.now.tree) 0 self.old }
+        ensures { OnOk result (ListsAll (fingerprint_at kind tree.now.tree) self.new) }
     {
         for node_index in 0..node_index_count(tree) {
             self.append(fingerprint_at(tree, kind, node_index), node_index)?;
@@ -91,7 +99,18 @@ impl KeyTable {
         Ok(())
     }
 
-    /// Returns the table of a tree's keys.
+    /// Returns the list of a tree's keys.
+    fn of(alloc: Global, tree: &PublicTree, kind: KeyKind) -> Result<KeyList, AllocError>
+        ensures { IfOk result (ListsAll (fingerprint_at kind tree.now.tree)) }
+    {
+        let mut list = KeyList::new(alloc);
+        list.fill(tree, kind)?;
+        Ok(list)
+    }
+}
+
+impl KeyTable {
+    /// Returns the table of a tree's keys. They are sorted at once, which is faster than to insert them one by one.
     pub(crate) fn of(
         alloc: Global,
         tree: &PublicTree,
@@ -99,9 +118,16 @@ impl KeyTable {
     ) -> Result<KeyTable, AllocError>
         ensures { IfOk result (IsTableOf (fingerprint_at kind tree.now.tree)) }
     {
-        let mut table = KeyTable::new(alloc);
-        table.fill(tree, kind)?;
-        Ok(table)
+        let KeyList {
+            entries,
+            fingerprints,
+        } = KeyList::of(alloc, tree, kind)?;
+        let entries = BTreeSet::from_iter(alloc, entries)?;
+        Ok(KeyTable {
+            entries,
+            fingerprints,
+            came: Vec::new(alloc),
+        })
     }
 
     /// Makes entries for the fingerprints at this many node indices.

@@ -1,12 +1,10 @@
 use Rattle.std.proofs.Common.{sym, subst}
-use Rattle.mls_index.specs.KeyTableInternal.{HasStaged}
-use Rattle.mls_index.proofs.Entries.{staged}
-use Rattle.mls_index.proofs.Tables.{put-some}
+use Rattle.mls_index.specs.KeyTableInternal.{HasListed}
+use Rattle.mls_index.proofs.Tables.{list-some}
 use Rattle.mls_index.proofs.key_table.put_entry.Goals as goal
 
 pub returns : goal.returns
 returns c =
-    let s = c.args.entries.now in
-    let n = c.insert.new.self in
-    subst (λ o. HasStaged o c.args.node_index s n) (sym c.in-Some.is)
-    (put-some c.in-Some.number c.args.node_index s n (staged s n c.in-Some.number c.args.node_index c.in_ok-insert.ensures.updates))
+    let es = c.args.entries.now.items in
+    let fs = c.push.new.self.items in
+    subst (λ o. HasListed o c.args.node_index es fs) (sym c.in-Some.is) (list-some c.in-Some.number c.args.node_index es fs c.in_ok-push.ensures.items)

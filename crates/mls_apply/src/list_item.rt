@@ -106,7 +106,7 @@ pub fn resolve_list<'a>(
     ensures possible_errors { IfErr result (λ e.
         (e ≡ ApplyFault.UnknownReference) ⊎ (e ≡ ApplyFault.OutOfMemory)) }
 {
-    let mut items = Vec::new(alloc);
+    let mut items = Vec::with_capacity(alloc, commit.proposals.as_slice().len())?;
     let mut rest = commit.proposals.as_slice();
     while let Some((entry, tail)) = rest.split_first() {
         let Some(item) = entry_item(committer, known, entry) else {

@@ -12,6 +12,7 @@ use Rattle.std.proofs.lemmas.Bool.{eqb-true, eqb-false, false≢true}
 use Rattle.std.proofs.lemmas.List.{take_more, take_all, drop_all, map-append}
 use Rattle.std.proofs.lemmas.Option.{same_Some, none-some}
 use Rattle.mls_wire.specs.Encoding.{◌⊕◌}
+use Rattle.mls_nodes.specs.declared.context.GroupContext.{GroupContext}
 use Rattle.mls_nodes.specs.declared.leaf.LeafNode.{LeafNode}
 use Rattle.mls_nodes.specs.declared.leaf_source.LeafSource.{LeafSource}
 use Rattle.mls_nodes.specs.declared.leaf_source.LeafSource.TheVariants as sources
@@ -20,6 +21,7 @@ use Rattle.mls_nodes.specs.Layout.{unsigned_leaf}
 use Rattle.mls_tree.specs.Tree.{Tree, leaf_at}
 use Rattle.mls_msgs.specs.declared.framed_content.Sender.{Sender}
 use Rattle.mls_msgs.specs.declared.key_package.KeyPackage.{KeyPackage}
+use Rattle.mls_msgs.specs.declared.proposal.Proposal.{Proposal}
 use Rattle.mls_msgs.specs.declared.proposal.Proposal.TheVariants as proposals
 use Rattle.mls_msgs.specs.declared.proposal.ProposalOrRef.{ProposalOrRef}
 use Rattle.mls_msgs.specs.declared.proposal.ProposalOrRef.TheVariants as entries
@@ -33,11 +35,11 @@ use Rattle.mls_apply.specs.OutlineInternal.{AreAt}
 use Rattle.mls_apply.proofs.Adding.{no_add, same_members}
 use Rattle.mls_apply.proofs.Updating.{next_item}
 use Rattle.mls_apply.proofs.AddedLeaves.{outcome_members}
-use Rattle.mls_signatures.specs.AddedLeaves.{reference_of_entry, reference_at, leaf_of_add, leaf_in, NamesAre, HasNames, indices, leaf_nodes, name_of, AreAdded, IsNamedBy, AreNamedBy, AreNamedAlike, IsAfter, IsMapOf, added_signatures, IsRepeat, AppendsSignatures}
-use Rattle.mls_signatures.specs.SignaturesToVerify.{labeled_signatures, leaf_signatures, non_blank_leaf_signatures, signatures_at}
+use Rattle.mls_signatures.specs.AddedLeaves.{reference_of_entry, reference_at, leaf_of_add, leaf_in, NamesAre, ValuesAre, HasNames, indices, leaf_nodes, name_of, AreAdded, IsNamedBy, AreNamedBy, AreOfValues, AreNamedAlike, IsAfter, IsMapOf, added_signatures, IsRepeat, IsByValue, AppendsSignatures, IsListed, ListValues}
+use Rattle.mls_signatures.specs.SignaturesToVerify.{labeled_signatures, leaf_signatures, package_signatures, non_blank_leaf_signatures, signatures_at, proposal_signatures, entry_signatures, entries_signatures}
 use Rattle.mls_signatures.specs.declared.added_leaves.AddedLeaf.{AddedLeaf}
 use Rattle.mls_signatures.specs.declared.signature_to_verify.SignatureToVerify.{SignatureToVerify}
-use Rattle.mls_signatures.proofs.Repeats.{AllMet, all_front, all_behind, all_itself, extends-none, extends-more, extends-skip}
+use Rattle.mls_signatures.proofs.Repeats.{AllMet, all_front, all_behind, all_itself, appended-met, appended-still, met-appends, all-left, all-right, extends-none, extends-more, extends-skip}
 
 -- ---- references
 
@@ -86,6 +88,64 @@ pub resolved_names : (committer : Sender) (known : List KnownProposal) (es : Lis
     → resolved committer known es ≡ Some items → HasNames es items
 resolved_names committer known es items e = record { leaf_named = leaf_known known; are = names_resolved committer known es items e }
 
+-- ---- Adds by value
+
+module _ (context : GroupContext) (committer : Sender) (known : List KnownProposal) (new : List SignatureToVerify) where
+  value_listed : (p : Proposal) (x : LeafNode) → AllMet new (proposal_signatures context committer p) → leaf_of_add p ≡ Some x → IsListed context new x
+  value_listed (proposals.Add k) x met at =
+      let own = leaf_signatures context.cipher_suite context.group_id 0 k.leaf_node in
+      subst (IsListed context new) (same_Some k.leaf_node x at) (met-appends new own (all-left new own (package_signatures context.cipher_suite k) met))
+  value_listed (proposals.Update n) x met at = absurd (none-some x at)
+  value_listed (proposals.Remove n) x met at = absurd (none-some x at)
+  value_listed (proposals.ContextExtensions n) x met at = absurd (none-some x at)
+  value_listed (proposals.PreSharedKey n) x met at = absurd (none-some x at)
+  value_listed (proposals.ReInit n) x met at = absurd (none-some x at)
+  value_listed (proposals.ExternalInit n) x met at = absurd (none-some x at)
+
+  entry_listed : (y : ProposalOrRef) (it : ListItem) (x : LeafNode) → AllMet new (entry_signatures context committer y) → entry_item committer known y ≡ Some it
+      → reference_of_entry y ≡ None → leaf_of_add it.proposal ≡ Some x → IsListed context new x
+  entry_listed (entries.Proposal p) it x met is none at =
+      value_listed p x met (ap (λ (z : ListItem). leaf_of_add z.proposal) (same_Some (record { sender = committer; proposal = p }) it is) ∙ at)
+  entry_listed (entries.Reference r) it x met is none at = absurd (none-some r (sym none))
+
+  values_more : (y : ProposalOrRef) (ys : List ProposalOrRef) (it : ListItem) (more : List ListItem) → AllMet new (entry_signatures context committer y)
+      → entry_item committer known y ≡ Some it → ValuesAre (IsListed context new) ys more → ValuesAre (IsListed context new) (y ∷ ys) (it ∷ more)
+  values_more y ys it more met is rest zero x none at = entry_listed y it x met is none at
+  values_more y ys it more met is rest (suc i) x none at = rest i x none at
+
+  values_first : (y : ProposalOrRef) (ys : List ProposalOrRef) (items : List ListItem) (o : Option ListItem) (p : Option (List ListItem))
+      → AllMet new (entry_signatures context committer y) → entry_item committer known y ≡ o
+      → ((more : List ListItem) → p ≡ Some more → ValuesAre (IsListed context new) ys more) → with_first o p ≡ Some items
+      → ValuesAre (IsListed context new) (y ∷ ys) items
+  values_first y ys items None p met is rest f = absurd (none-some items f)
+  values_first y ys items (Some it) None met is rest f = absurd (none-some items f)
+  values_first y ys items (Some it) (Some more) met is rest f =
+      subst (λ zs. ValuesAre (IsListed context new) (y ∷ ys) zs) (same_Some (it ∷ more) items f) (values_more y ys it more met is (rest more refl))
+
+  pub values_resolved : (es : List ProposalOrRef) (items : List ListItem) → AllMet new (entries_signatures context committer es) → resolved committer known es ≡ Some items
+      → ValuesAre (IsListed context new) es items
+  values_resolved [] items met e = λ i x none at. absurd (none-some x (ap (λ zs. leaf_in zs i) (same_Some [] items e) ∙ at))
+  values_resolved (y ∷ ys) items met e =
+      let own = entry_signatures context committer y in
+      let others = entries_signatures context committer ys in
+      values_first y ys items (entry_item committer known y) (resolved committer known ys) (all-left new own others met) refl
+      (λ more rest. values_resolved ys more (all-right new own others met) rest) e
+
+pub resolved_values : (context : GroupContext) (committer : Sender) (known : List KnownProposal) (es : List ProposalOrRef) (items : List ListItem)
+    → resolved committer known es ≡ Some items → ListValues context committer es items
+resolved_values context committer known es items e = λ old new appends.
+    values_resolved context committer known new es items (appended-met old (entries_signatures context committer es) new appends) e
+
+-- they stay
+pub still_listed : (context : GroupContext) (old ws new : List SignatureToVerify) → AppendsSignatures old ws new → (x : LeafNode) → IsListed context old x → IsListed context new x
+still_listed context old ws new e x listed =
+    let own = leaf_signatures context.cipher_suite context.group_id 0 x in
+    met-appends new own (appended-still old ws new own e (appended-met old own old listed))
+
+pub values_map : (P Q : LeafNode → Type 0) (xs : List AddedLeaf) → ((x : LeafNode) → P x → Q x) → AreOfValues P xs → AreOfValues Q xs
+values_map P Q [] f h = tt
+values_map P Q (x ∷ xs) f h = (λ none. f x.leaf.now (h.0 none), values_map P Q xs f h.1)
+
 -- ---- a walk along the list
 
 leaf_in-at : (items : List ListItem) (i : ℕ) (x : ListItem) → i < length items → x ≡ get_or items i x → leaf_in items i ≡ leaf_of_add x.proposal
@@ -96,6 +156,10 @@ leaf_in-at (y ∷ ys) (suc i) x low is = leaf_in-at ys i x (omega arith) is
 named_more : (F : List ℕ → Option LeafNode) (xs : List AddedLeaf) (y : AddedLeaf) → AreNamedBy F xs → IsNamedBy F y → AreNamedBy F (xs ++ y ∷ [])
 named_more F [] y h n = (n, tt)
 named_more F (x ∷ xs) y h n = (h.0, named_more F xs y h.1 n)
+
+value_more : (P : LeafNode → Type 0) (xs : List AddedLeaf) (y : AddedLeaf) → AreOfValues P xs → (name_of y ≡ None → P y.leaf.now) → AreOfValues P (xs ++ y ∷ [])
+value_more P [] y h n = (n, tt)
+value_more P (x ∷ xs) y h n = (h.0, value_more P xs y h.1 n)
 
 length_more : {X : Type 0} (xs : List X) (x : X) → length (xs ++ x ∷ []) ≡ length xs + 1
 length_more [] x = refl
@@ -108,9 +172,10 @@ module _ (es : List ProposalOrRef) (items : List ListItem) (added : List ℕ) wh
     pub node_indices : indices leaves ≡ take (length leaves) added
     pub nodes : leaf_nodes leaves ++ new_members (drop i items) ≡ new_members items
     pub named : (F : List ℕ → Option LeafNode) → NamesAre F es items → AreNamedBy F leaves
+    pub values : (context : GroupContext) (qs : List SignatureToVerify) → ValuesAre (IsListed context qs) es items → AreOfValues (IsListed context qs) leaves
 
   pub collecting-start : Collecting 0 0 []
-  collecting-start = record { at = refl; node_indices = refl; nodes = refl; named = λ F n. tt }
+  collecting-start = record { at = refl; node_indices = refl; nodes = refl; named = λ F n. tt; values = λ context qs n. tt }
 
   module _ (enough : length added ≡ length (new_members items)) where
     counted : (i position : ℕ) (leaves : List AddedLeaf) → Collecting i position leaves
@@ -132,6 +197,7 @@ module _ (es : List ProposalOrRef) (items : List ListItem) (added : List ℕ) wh
             (sym (ap new_members (next_item items i x low is) ∙ same_members x.proposal (new_members (drop (i + 1) items)) (no_add x.proposal none)))
             ∙ k.nodes;
         named = k.named;
+        values = k.values;
       }
 
       module _ (p : KeyPackage) (e : x.proposal ≡ proposals.Add p) where
@@ -161,6 +227,11 @@ module _ (es : List ProposalOrRef) (items : List ListItem) (added : List ℕ) wh
           named = λ F n.
               named_more F leaves y (k.named F n)
               (λ r f. n i r (ap (reference_at es) (sym k.at) ∙ sym name ∙ f) ∙ leaf_in-at items i x low is ∙ ap leaf_of_add e ∙ ap Some (sym node));
+          values = λ context qs n.
+              value_more (IsListed context qs) leaves y (k.values context qs n)
+              (λ f.
+              subst (IsListed context qs) (sym node)
+              (n i p.leaf_node (ap (reference_at es) (sym k.at) ∙ sym name ∙ f) (leaf_in-at items i x low is ∙ ap leaf_of_add e)));
         }
 
     module _ (i position : ℕ) (leaves : List AddedLeaf) (k : Collecting i position leaves) (past : length items ≤ i) where
@@ -367,6 +438,11 @@ module _ (suite : ℕ) (group_id : List ℕ) where
   named-at F (x ∷ xs) zero y h is = subst (IsNamedBy F) (same_Some x y is) h.0
   named-at F (x ∷ xs) (suc k) y h is = named-at F xs k y h.1 is
 
+  value-at : (P : LeafNode → Type 0) (xs : List AddedLeaf) (k : ℕ) (y : AddedLeaf) → AreOfValues P xs → slice_get xs k ≡ Some y → name_of y ≡ None → P y.leaf.now
+  value-at P [] k y h is none = absurd (none-some y is)
+  value-at P (x ∷ xs) zero y h is none = subst (λ (z : AddedLeaf). P z.leaf.now) (same_Some x y is) (h.0 (ap name_of (same_Some x y is) ∙ none))
+  value-at P (x ∷ xs) (suc k) y h is none = value-at P xs k y h.1 is none
+
   module _ (old : List SignatureToVerify) (xs : List AddedLeaf) (i : ℕ) (list : List SignatureToVerify)
       (known : AppendsSignatures old (added_signatures suite group_id (take i xs)) list) (x : AddedLeaf) (low : i < length xs) (is : x ≡ get_or xs i x) where
     next : added_signatures suite group_id (take (i + 1) xs) ≡ added_signatures suite group_id (take i xs) ++ of_leaf x
@@ -377,6 +453,23 @@ module _ (suite : ℕ) (group_id : List ℕ) where
     -- one more
     pub added-push : (new : List SignatureToVerify) → AppendsSignatures list (of_leaf x) new → AppendsSignatures old (added_signatures suite group_id (take (i + 1) xs)) new
     added-push new e = subst (λ ws. AppendsSignatures old ws new) (sym next) (extends-more old (added_signatures suite group_id (take i xs)) list known (of_leaf x) new e)
+
+    abbrev before_it : List SignatureToVerify
+    before_it = added_signatures suite group_id (take i xs)
+
+    -- one that is met
+    skip-met : AllMet (old ++ before_it) (of_leaf x) → AppendsSignatures old (added_signatures suite group_id (take (i + 1) xs)) list
+    skip-met m = subst (λ ws. AppendsSignatures old ws list) (sym next) (extends-skip old before_it list known (of_leaf x) m)
+
+    -- one that came with its proposal
+    pub added-value : AreOfValues (λ n. AppendsSignatures old (leaf_signatures suite group_id 0 n) old) xs → IsByValue xs i
+        → AppendsSignatures old (added_signatures suite group_id (take (i + 1) xs)) list
+    added-value values v =
+        let here : v.here ≡ x = same_Some v.here x (sym v.is_here ∙ at_place xs i x low is) in
+        let own = leaf_signatures suite group_id 0 v.here.leaf.now in
+        let listed = value-at (λ n. AppendsSignatures old (leaf_signatures suite group_id 0 n) old) xs i v.here values v.is_here v.unnamed in
+        let same : own ≡ of_leaf x = no_index v.here.leaf.now 0 v.here.index v.source ∙ ap of_leaf here in
+        skip-met (all_front old before_it (of_leaf x) (subst (AllMet old) same (appended-met old own old listed)))
 
     -- one that came before
     pub added-skip : AreNamedAlike xs → IsRepeat xs i → AppendsSignatures old (added_signatures suite group_id (take (i + 1) xs)) list
@@ -391,8 +484,7 @@ module _ (suite : ℕ) (group_id : List ℕ) where
         ∙ ap of_leaf here in
         let met : AllMet (added_signatures suite group_id (take i xs)) (of_leaf x) =
         subst (AllMet (added_signatures suite group_id (take i xs))) same (met-before xs i repeat.at repeat.there repeat.before repeat.is_there) in
-        subst (λ ws. AppendsSignatures old ws list) (sym next)
-        (extends-skip old (added_signatures suite group_id (take i xs)) list known (of_leaf x) (all_behind old (added_signatures suite group_id (take i xs)) (of_leaf x) met))
+        skip-met (all_behind old before_it (of_leaf x) met)
 
   pub added-all : (old : List SignatureToVerify) (xs : List AddedLeaf) (i : ℕ) (list : List SignatureToVerify)
       → AppendsSignatures old (added_signatures suite group_id (take i xs)) list → length xs ≤ i → AppendsSignatures old (added_signatures suite group_id xs) list

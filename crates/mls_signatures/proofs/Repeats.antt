@@ -108,6 +108,34 @@ deduplicated-met ws (q ∷ qs) m =
     ∙ deduplicated-met (ws ++ q ∷ []) qs (all_front ws (q ∷ []) qs m.1)
     ∙ one
 
+-- ---- what is met in a list
+
+all_alike : (xs ys qs : List SignatureToVerify) → deduplicated xs ≡ deduplicated ys → AllMet xs qs → AllMet ys qs
+all_alike xs ys [] e m = tt
+all_alike xs ys (q ∷ qs) e m = (
+  sym (met_deduplicated ys q) ∙ ap (λ ws. is_met ws q) (sym e) ∙ met_deduplicated xs q ∙ m.0,
+  all_alike xs ys qs e m.1,
+)
+
+-- what was appended
+pub appended-met : (old qs new : List SignatureToVerify) → AppendsSignatures old qs new → AllMet new qs
+appended-met old qs new e = all_alike (old ++ qs) new qs (sym e) (all_behind old qs qs (all_itself qs))
+
+-- what was in the list before
+pub appended-still : (old ws new qs : List SignatureToVerify) → AppendsSignatures old ws new → AllMet old qs → AllMet new qs
+appended-still old ws new qs e m = all_alike (old ++ ws) new qs (sym e) (all_front old ws qs m)
+
+pub met-appends : (ws qs : List SignatureToVerify) → AllMet ws qs → AppendsSignatures ws qs ws
+met-appends ws qs m = sym (deduplicated-met ws qs m)
+
+pub all-left : (ws xs ys : List SignatureToVerify) → AllMet ws (xs ++ ys) → AllMet ws xs
+all-left ws [] ys m = tt
+all-left ws (x ∷ xs) ys m = (m.0, all-left ws xs ys m.1)
+
+pub all-right : (ws xs ys : List SignatureToVerify) → AllMet ws (xs ++ ys) → AllMet ws ys
+all-right ws [] ys m = m
+all-right ws (x ∷ xs) ys m = all-right ws xs ys m.1
+
 -- ---- a list that gets longer
 
 pub extends-none : (old : List SignatureToVerify) → AppendsSignatures old [] old

@@ -3,8 +3,10 @@ use Rattle.std.specs.Prelude.{◌≡◌, ℕ, zero, suc, ⊤, true, List, [], �
 use Rattle.std.specs.Borrow.{Bor}
 use Rattle.std.specs.BTreeMap.{BTreeMap, get}
 use Rattle.std.specs.Ordering.{nat_cmp}
+use Rattle.mls_nodes.specs.declared.context.GroupContext.{GroupContext}
 use Rattle.mls_nodes.specs.declared.leaf.LeafNode.{LeafNode}
 use Rattle.mls_tree.specs.Tree.{Tree, leaf_at}
+use Rattle.mls_msgs.specs.declared.framed_content.Sender.{Sender}
 use Rattle.mls_msgs.specs.declared.proposal.Proposal.{Proposal}
 use Rattle.mls_msgs.specs.declared.proposal.Proposal.TheVariants as proposals
 use Rattle.mls_msgs.specs.declared.proposal.ProposalOrRef.{ProposalOrRef}
@@ -12,7 +14,7 @@ use Rattle.mls_msgs.specs.declared.proposal.ProposalOrRef.TheVariants as entries
 use Rattle.mls_apply.specs.declared.list_item.ListItem.{ListItem}
 use Rattle.mls_apply.specs.Outline.{IsApart}
 use Rattle.mls_apply.specs.ProposalRules.{is_from_key_package}
-use Rattle.mls_signatures.specs.SignaturesToVerify.{leaf_signatures, deduplicated}
+use Rattle.mls_signatures.specs.SignaturesToVerify.{leaf_signatures, entries_signatures, deduplicated}
 use Rattle.mls_signatures.specs.declared.added_leaves.AddedLeaf.{AddedLeaf}
 use Rattle.mls_signatures.specs.declared.signature_to_verify.SignatureToVerify.{SignatureToVerify}
 
@@ -49,6 +51,10 @@ leaf_in (x ∷ xs) (suc i) = leaf_in xs i
 abbrev pub NamesAre : (List ℕ → Option LeafNode) → List ProposalOrRef → List ListItem → Type 0
 NamesAre F es items = (i : ℕ) (r : List ℕ) → reference_at es i ≡ Some r → F r ≡ leaf_in items i
 
+-- `ValuesAre P es items`: where an entry is no reference, and the item in its place has a leaf node, `P` holds of it.
+abbrev pub ValuesAre : (LeafNode → Type 0) → List ProposalOrRef → List ListItem → Type 0
+ValuesAre P es items = (i : ℕ) (x : LeafNode) → reference_at es i ≡ None → leaf_in items i ≡ Some x → P x
+
 -- `HasNames es items`: in a list with these entries, one reference stands for one leaf node.
 pub record HasNames (es : List ProposalOrRef) (items : List ListItem) : Type 0 where
   pub leaf_named : List ℕ → Option LeafNode
@@ -81,6 +87,11 @@ IsNamedBy F x = (r : List ℕ) → name_of x ≡ Some r → F r ≡ Some x.leaf.
 abbrev pub AreNamedBy : (List ℕ → Option LeafNode) → List AddedLeaf → Type 0
 AreNamedBy F [] = ⊤
 AreNamedBy F (x ∷ xs) = IsNamedBy F x × AreNamedBy F xs
+
+-- `AreOfValues P xs`: `P` holds of the leaf node of each of the leaves that has no reference.
+abbrev pub AreOfValues : (LeafNode → Type 0) → List AddedLeaf → Type 0
+AreOfValues P [] = ⊤
+AreOfValues P (x ∷ xs) = (name_of x ≡ None → P x.leaf.now) × AreOfValues P xs
 
 -- `AreNamedAlike xs`: leaves with one reference have one leaf node.
 pub record AreNamedAlike (xs : List AddedLeaf) : Type 0 where
@@ -121,6 +132,26 @@ pub record IsRepeat (xs : List AddedLeaf) (i : ℕ) : Type 0 where
   pub named : HaveOneName there here
   pub source : is_from_key_package here.leaf.now.source ≡ true
 
+-- `IsByValue xs i`: the leaf at position `i` has no reference, and its leaf node is from a KeyPackage.
+pub record IsByValue (xs : List AddedLeaf) (i : ℕ) : Type 0 where
+  pub here : AddedLeaf
+  pub is_here : slice_get xs i ≡ Some here
+  pub unnamed : name_of here ≡ None
+  pub source : is_from_key_package here.leaf.now.source ≡ true
+
+-- ---- signatures that a list has
+
 -- `AppendsSignatures old qs new`: without duplicates, `new` is `old` followed by `qs`.
 abbrev pub AppendsSignatures : List SignatureToVerify → List SignatureToVerify → List SignatureToVerify → Type 0
 AppendsSignatures old qs new = deduplicated new ≡ deduplicated (old ++ qs)
+
+-- `IsListed context qs x`: the list has the signature of the leaf node `x`, at leaf index 0. If the leaf node is from a
+-- KeyPackage, its signature depends on no leaf index.
+abbrev pub IsListed : GroupContext → List SignatureToVerify → LeafNode → Type 0
+IsListed context qs x = AppendsSignatures qs (leaf_signatures context.cipher_suite context.group_id 0 x) qs
+
+-- `ListValues context committer es items`: once the signatures of the entries are appended to a list, it has those of the
+-- leaf nodes of the Adds by value.
+abbrev pub ListValues : GroupContext → Sender → List ProposalOrRef → List ListItem → Type 0
+ListValues context committer es items = (old new : List SignatureToVerify)
+    → AppendsSignatures old (entries_signatures context committer es) new → ValuesAre (IsListed context new) es items

@@ -1,10 +1,12 @@
 //! The leaves that the Adds of a commit's list add (RFC 9420, 12.1.1). Their leaf nodes are borrowed from the proposals.
 
 ghost use Rattle.std.specs.Prelude.{◌≡◌, IfOk, List, Option, ℕ, length, option_map};
+ghost use Rattle.mls_nodes.specs.declared.context.GroupContext.{GroupContext};
 ghost use Rattle.mls_nodes.specs.declared.leaf.LeafNode.{LeafNode};
 ghost use Rattle.mls_tree.specs.Tree.{Tree};
 ghost use Rattle.mls_apply.specs.AppliedList.{new_members};
-ghost use Rattle.mls_signatures.specs.AddedLeaves.{AreNamedBy, IsAfter, IsMapOf, NamesAre, indices, leaf_nodes, reference_at, reference_of_entry};
+ghost use Rattle.mls_signatures.specs.AddedLeaves.{AreNamedBy, AreOfValues, IsAfter, IsListed, IsMapOf, NamesAre, ValuesAre, indices, leaf_nodes, reference_at, reference_of_entry};
+ghost use Rattle.mls_signatures.specs.declared.signature_to_verify.SignatureToVerify.{SignatureToVerify};
 
 use mls_apply::ListItem;
 use mls_check::OutOfMemory;
@@ -58,8 +60,10 @@ pub(crate) fn added_leaves<'a>(
     ensures leaf_nodes { IfOk result (λ v. leaf_nodes v.items ≡ new_members items.now) }
     ensures named { IfOk result (λ v. (F : List ℕ → Option LeafNode)
         → NamesAre F entries.now items.now → AreNamedBy F v.items) }
+    ensures by_value { IfOk result (λ v. (context : GroupContext) (qs : List SignatureToVerify)
+        → ValuesAre (IsListed context qs) entries.now items.now → AreOfValues (IsListed context qs) v.items) }
 {
-    let mut leaves = Vec::new(alloc);
+    let mut leaves = Vec::with_capacity(alloc, added.len())?;
     let mut position = 0;
     for item in items {
         if let Proposal::Add(key_package) = item.proposal {

@@ -7,7 +7,7 @@ ghost use Rattle.mls_apply.specs.Senders.{member_index};
 ghost use Rattle.mls_apply.specs.ResolvedList.{resolved};
 ghost use Rattle.mls_apply.specs.AppliedList.{outcome};
 ghost use Rattle.mls_apply.specs.Staged.{IsSettled};
-ghost use Rattle.mls_signatures.specs.AddedLeaves.{AreNamedAlike, AppendsSignatures, HasNames, IsAfter, indices};
+ghost use Rattle.mls_signatures.specs.AddedLeaves.{AreNamedAlike, AreOfValues, AppendsSignatures, HasNames, IsAfter, IsListed, ListValues, ValuesAre, indices};
 ghost use Rattle.mls_signatures.specs.SignaturesToVerify.{signatures_at, entry_signatures, entries_signatures, index_before, replaced_leaves, path_signatures, applied_list_signatures, commit_signatures};
 
 use crate::added_leaves::{AddedLeaf, added_leaves, leaves_by_index};
@@ -143,6 +143,9 @@ fn push_update_leaf_signatures(
 {
     let mut replaced = Vec::new(alloc);
     push_replaced_leaves(items, &mut replaced)?;
+    if replaced.is_empty() {
+        return Ok(());
+    }
     let added = leaves_by_index(alloc, outline.leaves)?;
     let after = TreeAfter {
         tree: outline.tree,
@@ -161,7 +164,8 @@ fn push_new_leaf_signatures(
     outline: &Outline<'_, '_>,
     list: &mut SignatureList,
 ) -> Result<(), OutOfMemory>
-    requires { AreNamedAlike outline.now.leaves.now }
+    requires named { AreNamedAlike outline.now.leaves.now }
+    requires listed { AreOfValues (IsListed commit.now.context.now list.old) outline.now.leaves.now }
     ensures { let context = commit.now.context.now in
         (t : Tree) → IsAfter t outline.now.tree.now.tree outline.now.leaves.now
         → OnOk result (AppendsSignatures list.old
@@ -189,6 +193,7 @@ fn apply_and_push_signatures(
     list: &mut SignatureList,
 ) -> Result<(), OutOfMemory>
     requires named { HasNames commit.now.commit.now.proposals items.now }
+    requires listed { ValuesAre (IsListed commit.now.context.now list.old) commit.now.commit.now.proposals items.now }
     ensures signatures { let context = commit.now.context.now in
         OnOk result (AppendsSignatures list.old
         (applied_list_signatures context commit.now.committer commit.now.commit.now.path items.now
@@ -225,6 +230,7 @@ fn push_applied_list_signatures(
     list: &mut SignatureList,
 ) -> Result<(), OutOfMemory>
     requires named { HasNames commit.now.commit.now.proposals items.now }
+    requires listed { ValuesAre (IsListed commit.now.context.now list.old) commit.now.commit.now.proposals items.now }
     requires settled { IsSettled tree.old }
     ensures signatures { let context = commit.now.context.now in
         OnOk result (AppendsSignatures list.old
@@ -248,6 +254,8 @@ fn push_list_signatures(
     list: &mut SignatureList,
 ) -> Result<(), OutOfMemory>
     requires named { HasNames commit.now.commit.now.proposals items.now }
+    requires values { ListValues commit.now.context.now (Member commit.now.committer)
+        commit.now.commit.now.proposals items.now }
     requires settled { IsSettled tree.old }
     ensures signatures { OnOk result (AppendsSignatures list.old
         (commit_signatures commit.now.context.now tree.old.tree commit.now.committer

@@ -3,10 +3,10 @@
 //! A list may name one large Add many times. Then its leaf node is at many leaves, with one signature. So the leaf nodes are
 //! borrowed from the proposals, and the signature of such a leaf node is appended once.
 
-ghost use Rattle.std.specs.Prelude.{◌≡◌, ◌<◌, OnOk, length, true};
+ghost use Rattle.std.specs.Prelude.{◌≡◌, ◌<◌, ◌⊎◌, OnOk, length, true};
 ghost use Rattle.std.specs.Option.{option_copied};
 ghost use Rattle.mls_tree.specs.Tree.{Tree, leaf_at};
-ghost use Rattle.mls_signatures.specs.AddedLeaves.{AreNamedAlike, AppendsSignatures, HaveOneName, IsMapOf, IsRepeat, added_signatures};
+ghost use Rattle.mls_signatures.specs.AddedLeaves.{AreNamedAlike, AreOfValues, AppendsSignatures, HaveOneName, IsByValue, IsListed, IsMapOf, IsRepeat, added_signatures};
 ghost use Rattle.mls_signatures.specs.SignaturesToVerify.{non_blank_leaf_signatures, signatures_at};
 
 use crate::added_leaves::AddedLeaf;
@@ -121,8 +121,29 @@ fn is_repeat(leaves: &[AddedLeaf<'_>], position: usize, earlier: Option<usize>) 
     have_one_reference(first, again) && is_from_key_package(&again.leaf.source())
 }
 
-/// Appends the signatures of added leaves, in their order. That of an Add from a KeyPackage that the list names again is not
-/// appended again.
+/// Returns whether the leaf at `position` is of an Add by value, and the signature of the leaf node depends on no leaf index.
+fn is_by_value(leaves: &[AddedLeaf<'_>], position: usize) -> bool
+    requires { position < length leaves.now }
+    ensures { result ≡ true → IsByValue leaves.now position }
+{
+    let leaf = &leaves[position];
+    match leaf.reference {
+        Some(_) => false,
+        None => is_from_key_package(&leaf.leaf.source()),
+    }
+}
+
+/// Returns whether the signature of the leaf at `position` was appended before: with its proposal by value, or as that of an
+/// earlier one of the leaves. `earlier` may be the position of a leaf with the same reference.
+fn is_listed(leaves: &[AddedLeaf<'_>], position: usize, earlier: Option<usize>) -> bool
+    requires { position < length leaves.now }
+    ensures { result ≡ true → IsByValue leaves.now position ⊎ IsRepeat leaves.now position }
+{
+    is_by_value(leaves, position) || is_repeat(leaves, position, earlier)
+}
+
+/// Appends the signatures of added leaves, in their order, to a list that has those of the proposals by value. That of an Add
+/// from a KeyPackage by value is not appended again, nor that of one which the list names again.
 pub(crate) fn push_added_leaf_signatures(
     alloc: Global,
     context: &GroupContext,
@@ -131,13 +152,14 @@ pub(crate) fn push_added_leaf_signatures(
 ) -> Result<(), OutOfMemory>
     requires { AreNamedAlike leaves.now }
     ensures { let suite = context.now.cipher_suite in
-        OnOk result (AppendsSignatures list.old (added_signatures suite context.now.group_id leaves.now) list.new) }
+        AreOfValues (IsListed context.now list.old) leaves.now
+        → OnOk result (AppendsSignatures list.old (added_signatures suite context.now.group_id leaves.now) list.new) }
 {
     let mut named: BTreeMap<&[u8], usize> = BTreeMap::new(alloc);
     let mut position = 0;
     for leaf in leaves {
         let earlier = note_reference(&mut named, leaf, position)?;
-        if !is_repeat(leaves, position, earlier) {
+        if !is_listed(leaves, position, earlier) {
             push_leaf_signature(alloc, context, leaf.index, leaf.leaf, list)?;
         }
         position += 1;

@@ -7,7 +7,7 @@ use Rattle.mls_signatures.proofs.added_leaves.added_leaves.Goals as goal
 
 pub loop-item-init : goal.loop-item-init
 loop-item-init c =
-    subst (λ leaves. Collecting c.args.entries.now c.args.items.now c.args.added.now 0 0 leaves) (sym c.new-leaves.ensures.items)
+    subst (λ leaves. Collecting c.args.entries.now c.args.items.now c.args.added.now 0 0 leaves) (sym c.in_ok-leaves.ensures.items)
     (collecting-start c.args.entries.now c.args.items.now c.args.added.now)
 
 pub bounds-added-len : goal.bounds-added-len
@@ -50,3 +50,6 @@ returns-clause-leaf_nodes c =
 
 pub returns-clause-named : goal.returns-clause-named
 returns-clause-named c = c.loop-item.invariant.named
+
+pub returns-clause-by_value : goal.returns-clause-by_value
+returns-clause-by_value c = c.loop-item.invariant.values

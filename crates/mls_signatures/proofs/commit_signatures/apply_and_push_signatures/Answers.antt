@@ -1,6 +1,6 @@
 use Rattle.std.proofs.Common.{◌≡◌, ◌∙◌, ◌++◌, ap, refl, subst, sym}
 use Rattle.std.specs.Prelude.{OnOk}
-use Rattle.mls_signatures.specs.AddedLeaves.{AppendsSignatures, IsAfter, indices, leaf_nodes}
+use Rattle.mls_signatures.specs.AddedLeaves.{AreOfValues, AppendsSignatures, IsAfter, IsListed, ValuesAre, indices, leaf_nodes}
 use Rattle.mls_apply.specs.AppliedList.{new_members}
 use Rattle.mls_signatures.specs.SignaturesToVerify.{path_signatures, replaced_leaves, signatures_at}
 use Rattle.mls_signatures.proofs.AddedLeaves.{outline_after, outline_count}
@@ -43,3 +43,11 @@ returns-clause-signatures c =
     (signatures_at context.cipher_suite context.group_id o.tree (replaced_leaves items ++ js) ++ path_signatures context commit.committer commit.commit.now.path)
     c.push_new_leaf_signatures-answer.new.list))
     node_indices (c.push_new_leaf_signatures-answer.ensures o.tree after))
+
+pub push_new_leaf_signatures-answer-requires-clause-listed : goal.push_new_leaf_signatures-answer-requires-clause-listed
+push_new_leaf_signatures-answer-requires-clause-listed c =
+    let commit = c.args.commit.now in
+    let context = commit.context.now in
+    let list = c.args.list.now in
+    subst (λ xs. AreOfValues (IsListed context list) xs) (sym c.as_slice-2.ensures.value)
+    (c.in_ok-leaves.ensures.by_value context list (subst (λ es. ValuesAre (IsListed context list) es c.args.items.now) (sym c.as_slice-entries.ensures) c.requires.listed))

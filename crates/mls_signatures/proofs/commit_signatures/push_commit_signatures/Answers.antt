@@ -1,7 +1,7 @@
 use Rattle.std.proofs.Common.{sym, subst}
 use Rattle.mls_msgs.specs.declared.framed_content.Sender.TheVariants.{Member}
-use Rattle.mls_signatures.specs.AddedLeaves.{HasNames}
-use Rattle.mls_signatures.proofs.AddedLeaves.{resolved_names}
+use Rattle.mls_signatures.specs.AddedLeaves.{HasNames, ListValues}
+use Rattle.mls_signatures.proofs.AddedLeaves.{resolved_names, resolved_values}
 use Rattle.mls_signatures.proofs.commit_signatures.push_commit_signatures.Goals as goal
 
 pub push_list_signatures-answer-requires-clause-named : goal.push_list_signatures-answer-requires-clause-named
@@ -11,3 +11,11 @@ push_list_signatures-answer-requires-clause-named c =
     let known = rw c.in-Some.is at c.in_ok-items.ensures in
     subst (λ items. HasNames entries items) (sym c.as_slice.ensures.value)
     (resolved_names (Member commit.committer) c.args.known.now entries c.in-Some.items.items (sym known))
+
+pub push_list_signatures-answer-requires-clause-values : goal.push_list_signatures-answer-requires-clause-values
+push_list_signatures-answer-requires-clause-values c =
+    let commit = c.args.commit.now in
+    let entries = commit.commit.now.proposals in
+    let known = rw c.in-Some.is at c.in_ok-items.ensures in
+    subst (λ items. ListValues commit.context.now (Member commit.committer) entries items) (sym c.as_slice.ensures.value)
+    (resolved_values commit.context.now (Member commit.committer) c.args.known.now entries c.in-Some.items.items (sym known))

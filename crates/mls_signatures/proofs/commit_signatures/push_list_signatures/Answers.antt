@@ -12,3 +12,7 @@ returns-clause-signatures c =
     (rw c.as_slice-entries.ensures at c.in_ok-push_entries_signatures.ensures) c.push_applied_list_signatures.result
     (applied_list_signatures context commit.committer commit.commit.now.path c.args.items.now (outcome c.args.items.now c.args.tree.now.tree))
     c.push_applied_list_signatures.new.list c.push_applied_list_signatures.ensures.signatures
+
+pub push_applied_list_signatures-requires-clause-listed : goal.push_applied_list_signatures-requires-clause-listed
+push_applied_list_signatures-requires-clause-listed c =
+    c.requires.values c.args.list.now c.push_entries_signatures.new.list (rw c.as_slice-entries.ensures at c.in_ok-push_entries_signatures.ensures)

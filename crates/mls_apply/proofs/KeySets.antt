@@ -1,24 +1,47 @@
--- Encryption keys in a set, for a walk along the list of the Adds that have them.
+-- Encryption keys in a set, each after its fingerprint, for a walk along the list of the Adds that have them.
 use Rattle.std.proofs.Common.{◌≡◌, ◌∙◌, ℕ, List, [], ◌∷◌, ◌++◌, Bool, true, false, cond, not, Bor, Ordering, BTreeSet, refl, sym, ap}
-use Rattle.std.specs.Prelude.{◌&&◌, ◌||◌}
+use Rattle.std.specs.Prelude.{◌==◌, ◌&&◌, ◌||◌}
 use Rattle.std.specs.List.{list_any}
 use Rattle.std.specs.Str.{bytes_eq}
-use Rattle.std.specs.Ordering.{nat_cmp}
+use Rattle.std.specs.Ordering.{nat_cmp, is_eq, ordering_then}
+use Rattle.std.specs.Cmp.{unsigned_ties}
 use Rattle.std.specs.Cmp.Lexicographic.{slice_cmp}
 use Rattle.std.specs.BTreeMap.{is_at}
 use Rattle.std.specs.BTreeSet.{contains, IsEmpty}
 use Rattle.std.proofs.lemmas.Bool.{false≢true}
+use Rattle.std.proofs.lemmas.Bool.Decides.{Decides-eqb}
 use Rattle.std.proofs.lemmas.Map.Text.{is_eq-slice_cmp}
 use Rattle.std.proofs.lemmas.Slice.Eq.{bytes_eq-Decides}
+use Rattle.mls_nodes.specs.Fingerprints.{fingerprint}
 use Rattle.mls_check.specs.DistinctKeys.{has_key, are_distinct}
+use Rattle.mls_apply.proofs.PskSets.{and_false, is_eq-then}
 
--- the order of a set of slices
-abbrev pub by_bytes : Bor (List ℕ) → Bor (List ℕ) → Ordering
-by_bytes x y = slice_cmp nat_cmp x.now y.now
+-- a number and a key, as a set holds them
+abbrev pub Entry : Type 0
+Entry = ℕ × Bor (List ℕ)
 
-and_false : (b : Bool) → (b && false) ≡ false
-and_false true = refl
-and_false false = refl
+-- their order
+abbrev pub by_number : Entry → Entry → Ordering
+by_number a b = ordering_then (nat_cmp a.0 b.0) (slice_cmp nat_cmp a.1.now b.1.now)
+
+-- the number is the fingerprint of the key
+abbrev pub HasFingerprint : Entry → Type 0
+HasFingerprint e = e.0 ≡ fingerprint e.1.now
+
+-- equal keys have equal fingerprints
+number_alike : (x y : List ℕ) → ((fingerprint x == fingerprint y) && bytes_eq x y) ≡ bytes_eq x y
+number_alike x y = go (bytes_eq x y) refl
+  where
+    go : (b : Bool) → bytes_eq x y ≡ b → ((fingerprint x == fingerprint y) && b) ≡ b
+    go true e = ap (λ c. c && true) ((Decides-eqb (fingerprint x) (fingerprint y)).1 (ap fingerprint ((bytes_eq-Decides x y).0 e)))
+    go false e = and_false (fingerprint x == fingerprint y)
+
+by_number-same : (a b : Entry) → HasFingerprint a → HasFingerprint b → is_eq (by_number a b) ≡ bytes_eq a.1.now b.1.now
+by_number-same a b p q =
+    is_eq-then (nat_cmp a.0 b.0) (slice_cmp nat_cmp a.1.now b.1.now)
+    ∙ (λ i. sym (unsigned_ties a.0 b.0) i && is_eq-slice_cmp a.1.now b.1.now i)
+    ∙ (λ i. (p i == q i) && bytes_eq a.1.now b.1.now)
+    ∙ number_alike a.1.now b.1.now
 
 either : (b c : Bool) → (b || c) ≡ cond b true c
 either true c = refl
@@ -93,15 +116,15 @@ not_distinct (x ∷ xs) y rest m = go (bytes_eq x y) refl (not_distinct xs y res
 -- ---- a walk along the list
 
 -- those of the list before are distinct, and the set has them
-pub record IsWalked (before : List (List ℕ)) (set : BTreeSet (Bor (List ℕ))) : Type 0 where
+pub record IsWalked (before : List (List ℕ)) (set : BTreeSet Entry) : Type 0 where
   pub distinct : are_distinct before ≡ true
-  pub all : (k : Bor (List ℕ)) → contains by_bytes set k ≡ has_key before k.now
+  pub all : (e : Entry) → HasFingerprint e → contains by_number set e ≡ has_key before e.1.now
 
-pub walk-start : (set : BTreeSet (Bor (List ℕ))) → IsEmpty set → IsWalked [] set
+pub walk-start : (set : BTreeSet Entry) → IsEmpty set → IsWalked [] set
 unfolding are_distinct
 walk-start set empty = record {
   distinct = refl;
-  all = λ k. ap (λ (ks : List (Bor (List ℕ))). list_any (is_at (by_bytes k)) ks) empty;
+  all = λ e h. ap (λ (es : List Entry). list_any (is_at (by_number e)) es) empty;
 }
 
 opposite : (a b : Bool) → a ≡ not b → a ≡ true → b ≡ false
@@ -112,18 +135,18 @@ met_before : (a b : Bool) → a ≡ not b → a ≡ false → b ≡ true
 met_before a true e f = refl
 met_before a false e f = absurd (false≢true (sym f ∙ e))
 
-module _ (before : List (List ℕ)) (set : BTreeSet (Bor (List ℕ))) (known : IsWalked before set) (k : Bor (List ℕ)) where
+module _ (before : List (List ℕ)) (set : BTreeSet Entry) (known : IsWalked before set) (e : Entry) (number : HasFingerprint e) where
   -- one more, which the set has not
-  pub walk-next : (new : BTreeSet (Bor (List ℕ))) (b : Bool) → b ≡ not (contains by_bytes set k) → b ≡ true
-      → ((q : Bor (List ℕ)) → contains by_bytes new q ≡ cond (is_at (by_bytes k) q) true (contains by_bytes set q)) → IsWalked (before ++ k.now ∷ []) new
-  walk-next new b e f added = record {
-    distinct = distinct_more before k.now known.distinct (sym (known.all k) ∙ opposite b (contains by_bytes set k) e f);
-    all = λ q.
+  pub walk-next : (new : BTreeSet Entry) (b : Bool) → b ≡ not (contains by_number set e) → b ≡ true
+      → ((q : Entry) → contains by_number new q ≡ cond (is_at (by_number e) q) true (contains by_number set q)) → IsWalked (before ++ e.1.now ∷ []) new
+  walk-next new b was f added = record {
+    distinct = distinct_more before e.1.now known.distinct (sym (known.all e number) ∙ opposite b (contains by_number set e) was f);
+    all = λ q h.
         added q
-        ∙ (λ i. cond (is_eq-slice_cmp k.now q.now i) true (known.all q i))
-        ∙ sym (has_more before k.now q.now);
+        ∙ (λ i. cond (by_number-same e q number h i) true (known.all q h i))
+        ∙ sym (has_more before e.1.now q.1.now);
   }
 
   -- one that the set has
-  pub walk-met : (b : Bool) → b ≡ not (contains by_bytes set k) → b ≡ false → (rest : List (List ℕ)) → are_distinct (before ++ k.now ∷ rest) ≡ false
-  walk-met b e f rest = not_distinct before k.now rest (sym (known.all k) ∙ met_before b (contains by_bytes set k) e f)
+  pub walk-met : (b : Bool) → b ≡ not (contains by_number set e) → b ≡ false → (rest : List (List ℕ)) → are_distinct (before ++ e.1.now ∷ rest) ≡ false
+  walk-met b was f rest = not_distinct before e.1.now rest (sym (known.all e number) ∙ met_before b (contains by_number set e) was f)

@@ -38,7 +38,7 @@ pub record HasParts (p : Parts) (id : PreSharedKeyId) : Type 0 where
   pub epoch : p.2 ≡ kind_epoch id.kind
   pub nonce : p.3.now ≡ id.nonce
 
-is_eq-then : (a b : Ordering) → is_eq (ordering_then a b) ≡ (is_eq a && is_eq b)
+pub is_eq-then : (a b : Ordering) → is_eq (ordering_then a b) ≡ (is_eq a && is_eq b)
 is_eq-then orders.Less b = refl
 is_eq-then orders.Equal b = refl
 is_eq-then orders.Greater b = refl
@@ -47,7 +47,7 @@ and_true : (b : Bool) → (b && true) ≡ b
 and_true true = refl
 and_true false = refl
 
-and_false : (b : Bool) → (b && false) ≡ false
+pub and_false : (b : Bool) → (b && false) ≡ false
 and_false true = refl
 and_false false = refl
 

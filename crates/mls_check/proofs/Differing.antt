@@ -1,21 +1,20 @@
 -- Numbers that all differ, and keys that do because their beginnings do.
-use Rattle.std.proofs.Common.{◌≡◌, ◌≢◌, ◌↔◌, ℕ, ◌+◌, ◌-◌, ◌<◌, ◌≤◌, Bool, true, false, List, [], ◌∷◌, ◌++◌, length, take, drop, replicate, Option, Some, None, inl, inr, refl, sym, ap, ◌∙◌, arith, eqb, length-append}
+use Rattle.std.proofs.Common.{◌≡◌, ◌≢◌, ◌↔◌, ℕ, ◌+◌, ◌<◌, Bool, true, false, List, [], ◌∷◌, ◌++◌, length, Option, Some, None, inl, inr, refl, sym, ◌∙◌, arith, eqb, length-append}
 use Rattle.std.specs.Prelude.{AllPairs, IsTrue}
 use Rattle.std.specs.Bool.{OnTrue}
 use Rattle.std.specs.List.{Contains}
 use Rattle.std.specs.List.Sorted.{IsPermutation, IsNonDecreasing, IsStrictlyIncreasing}
-use Rattle.std.specs.Int.{w64, from_be_bytes}
-use Rattle.std.proofs.Math.Seq.{get_or-append_seam, take-append-add}
+use Rattle.std.proofs.Math.Seq.{get_or-append_seam}
 use Rattle.std.proofs.lemmas.Bool.{cases_lt}
 use Rattle.std.proofs.lemmas.Bool.Decides.{Decides-eqb, nat_tests}
 use Rattle.std.proofs.lemmas.Option.{same_Some, none-some}
-use Rattle.std.proofs.lemmas.List.{take-append-le, take-replicate, drop-replicate, get_or_append_left}
+use Rattle.std.proofs.lemmas.List.{get_or_append_left}
 use Rattle.std.proofs.lemmas.List.Elements.{Contains-append_left, Contains-push}
 use Rattle.std.proofs.lemmas.List.Kept.{AllPairs-from_increasing}
 use Rattle.std.proofs.lemmas.List.Sorted.{IsPermutation-sym}
 use Rattle.std.proofs.lemmas.Map.Keys.{IsDistinct-IsPermutation, IsStrictlyIncreasing-from_distinct}
 use Rattle.std.proofs.lemmas.Map.Made.{AllPairs-from_IsDistinct, IsDistinct-from_AllPairs}
-use Rattle.mls_check.specs.KeyPrefix.{key_prefix}
+use Rattle.mls_nodes.specs.KeyPrefix.{key_prefix}
 
 -- ---- numbers
 
@@ -48,29 +47,6 @@ differ-sorted xs sorted moved up = (
       let after = differ-moved xs sorted moved differ in
       IsStrictlyIncreasing-from_distinct sorted up (IsDistinct-from_AllPairs Decides-eqb sorted after),
 )
-
--- ---- the bytes of a beginning
-
-pub key_prefix-long : (key front : List ℕ) → 8 ≤ length key → front ≡ take 8 key
-    → from_be_bytes w64 front ≡ key_prefix key
-unfolding key_prefix
-key_prefix-long key front long same =
-    ap (from_be_bytes w64) (same ∙ sym (take-append-le 8 key (replicate 8 0) long))
-
-padded : (key : List ℕ) → length key < 8
-    → key ++ drop (length key) (replicate 8 0) ≡ take 8 (key ++ replicate 8 0)
-padded key short =
-    let capacity : ℕ = 8 - length key in
-    let whole : length key + capacity ≡ 8 = omega arith in
-    let zeros = drop-replicate (length key) 8 0 ∙ sym (take-replicate capacity 8 0 (omega arith)) in
-    ap (λ ys. key ++ ys) zeros
-    ∙ sym (take-append-add key (replicate 8 0) capacity)
-    ∙ ap (λ n. take n (key ++ replicate 8 0)) whole
-
-pub key_prefix-short : (key bytes : List ℕ) → length key < 8
-    → bytes ≡ key ++ drop (length key) (replicate 8 0) → from_be_bytes w64 bytes ≡ key_prefix key
-unfolding key_prefix
-key_prefix-short key bytes short same = ap (from_be_bytes w64) (same ∙ padded key short)
 
 -- ---- the walk over the keys at places, of which some have none
 

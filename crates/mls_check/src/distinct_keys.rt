@@ -6,10 +6,10 @@ ghost use Rattle.std.specs.Option.{option_copied};
 ghost use Rattle.mls_check.specs.FirstFailureInternal.{IsFirstFailureIn};
 ghost use Rattle.mls_check.specs.DistinctKeys.{encryption_key_at, HasUniqueKeyAt, IsDistinct, has_distinct_keys};
 
-use crate::key_prefixes::{all_differ, key_prefix};
+use crate::key_prefixes::all_differ;
 use crate::node_count::node_index_count;
 use crate::signatures::OutOfMemory;
-use mls_nodes::Node;
+use mls_nodes::{Node, key_prefix};
 use mls_tree::PublicTree;
 use std::alloc::{AllocError, Global};
 use std::collections::BTreeSet;

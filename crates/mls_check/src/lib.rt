@@ -29,7 +29,6 @@ pub use capability_support::{
 pub use credential_types::first_unsupported_credential;
 pub use distinct_keys::has_distinct_keys;
 pub use group_tree::{GroupTreeFault, validate_group_tree};
-pub use key_prefixes::key_prefix;
 pub use members::{
     LEAF_NODE_TBS, MemberFault, first_unmet_requirement, is_leaf_signed, validate_members,
 };

@@ -1,11 +1,12 @@
 //! The members' signature keys (RFC 9420, 7.3).
 
-ghost use Rattle.std.specs.Prelude.{◌≡◌, ℕ, true, IfOk};
+ghost use Rattle.std.specs.Prelude.{◌≡◌, true, IfOk};
 ghost use Rattle.std.specs.Bool.{OnTrue};
 ghost use Rattle.mls_check.specs.LeafValidation.{FindsFailing, all_leaves, has_unique_signature_key};
 
-use crate::key_prefixes::{all_differ, key_prefix};
+use crate::key_prefixes::all_differ;
 use crate::signatures::OutOfMemory;
+use mls_nodes::key_prefix;
 use mls_tree::PublicTree;
 use std::alloc::Global;
 use std::collections::BTreeSet;

@@ -3,7 +3,7 @@ use Rattle.std.proofs.Common.{ℕ, List, ap}
 use Rattle.std.specs.Prelude.{option_map}
 use Rattle.mls_tree.specs.Tree.{Tree}
 use Rattle.mls_tree.specs.ChangedNodes.{AgreeExceptAt}
-use Rattle.mls_index.specs.NodeKeys.{fingerprint}
+use Rattle.mls_nodes.specs.Fingerprints.{fingerprint}
 use Rattle.mls_index.specs.NodeKeys.{fingerprint_at, node_key}
 use Rattle.mls_index.specs.KeyTableInternal.{AreSameBut}
 use Rattle.mls_index.specs.TreeIndex.{IndexHasBase, IndexContainsKeys}

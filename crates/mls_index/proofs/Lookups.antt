@@ -4,7 +4,7 @@ use Rattle.std.specs.Prelude.{IsTrue, is_some, option_map}
 use Rattle.std.proofs.lemmas.Bool.{false≢true}
 use Rattle.mls_tree.specs.Tree.{Tree, leaf_count}
 use Rattle.mls_tree.proofs.Trees.{leaf_count-positive}
-use Rattle.mls_index.specs.NodeKeys.{fingerprint}
+use Rattle.mls_nodes.specs.Fingerprints.{fingerprint}
 use Rattle.mls_index.specs.NodeKeys.{key_at_node, fingerprint_at, HasKey, IsUniqueKey}
 use Rattle.mls_index.specs.KeyTable.{has_entry, contains_entry, TableContainsKeys}
 use Rattle.mls_index.specs.RepeatedKeys.{ShareKey}

@@ -5,7 +5,7 @@ use Rattle.std.proofs.lemmas.Bool.{cases_Bool, cases_eq, cases_lt, false≢true}
 use Rattle.std.proofs.lemmas.Option.{none-some, same_Some}
 use Rattle.mls_tree.specs.Tree.{Tree, leaf_count, node_at}
 use Rattle.mls_tree.proofs.Arrays.{slice_get-set_same, slice_get-set_other}
-use Rattle.mls_index.specs.NodeKeys.{fingerprint}
+use Rattle.mls_nodes.specs.Fingerprints.{fingerprint}
 use Rattle.mls_check.specs.DistinctKeys.{encryption_key}
 use Rattle.mls_check.proofs.Repeats.{no_key_above}
 use Rattle.mls_index.specs.NodeKeys.{node_key, fingerprint_at}
@@ -75,15 +75,6 @@ base-same k n e p = ap (λ xs. unwrap_or (slice_get xs p) None) e
 pub base-blank : (k n : KeyTable) → n.fingerprints ≡ k.fingerprints ++ None ∷ [] → (p : ℕ) → base_at n p ≡ base_at k p
 unfolding base_at
 base-blank k n e p = ap (λ xs. unwrap_or (slice_get xs p) None) e ∙ get-blank k.fingerprints p
-
-base-last : (k n : KeyTable) (o : Option ℕ) → n.fingerprints ≡ k.fingerprints ++ o ∷ [] → base_at n (length k.fingerprints) ≡ o
-unfolding base_at
-base-last k n o e = ap (λ xs. unwrap_or (slice_get xs (length k.fingerprints)) None) e ∙ get-last k.fingerprints o
-
-base-before : (k n : KeyTable) (o : Option ℕ) → n.fingerprints ≡ k.fingerprints ++ o ∷ [] → (p : ℕ) → p < length k.fingerprints
-    → base_at n p ≡ base_at k p
-unfolding base_at
-base-before k n o e p low = ap (λ xs. unwrap_or (slice_get xs p) None) e ∙ get-before k.fingerprints (o ∷ []) p low
 
 base-set : (k n : KeyTable) (p : ℕ) (o : Option ℕ) → n.fingerprints ≡ slice_set k.fingerprints p o → p < length k.fingerprints
     → base_at n p ≡ o

@@ -1,10 +1,9 @@
 -- The keys of a tree by node index (RFC 9420, 7.3). `kind` says whether these are encryption keys or signature keys.
 -- Used by contracts.
 use Rattle.std.specs.Prelude.{◌≡◌, ◌≢◌, ℕ, List, Option, Some, None, option_map}
+use Rattle.mls_nodes.specs.Fingerprints.{fingerprint}
 use Rattle.mls_nodes.specs.NodeModel.{NodeValue, leaf_node, parent_node}
 use Rattle.mls_tree.specs.Tree.{Tree, node_at}
-use Rattle.mls_check.specs.KeyPrefix.{key_prefix}
-use Rattle.sha2.specs.Sha256.{sha256}
 use Rattle.mls_check.specs.DistinctKeys.{encryption_key}
 use Rattle.mls_index.specs.declared.node_key.KeyKind.{KeyKind}
 use Rattle.mls_index.specs.declared.node_key.KeyKind.TheVariants.{Encryption, Signature}
@@ -23,10 +22,6 @@ node_key Signature node = signature_key node
 -- `key_at_node kind t p` is the key of a kind at a node index.
 abbrev pub key_at_node : KeyKind → Tree → ℕ → Option (List ℕ)
 key_at_node kind t p = node_key kind (node_at t p)
-
--- `fingerprint key` is the first eight bytes of the SHA-256 of a key, as a number. So nobody can choose it.
-unfoldable pub fingerprint : List ℕ → ℕ
-fingerprint key = key_prefix (sha256 key)
 
 -- `fingerprint_at kind t p` is the fingerprint of the key at a node index.
 abbrev pub fingerprint_at : KeyKind → Tree → ℕ → Option ℕ

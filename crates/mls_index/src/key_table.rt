@@ -1,15 +1,16 @@
 //! Node indices of the keys of one kind, by fingerprint.
 
-ghost use Rattle.std.specs.Prelude.{◌≡◌, ◌<◌, ◌≤◌, ◌+◌, ◌^◌, ◌∷◌, ◌↔◌, [], ℕ, List, Option, Some, IsTrue, IfOk, OnOk, length, true};
+ghost use Rattle.std.specs.Prelude.{◌≡◌, ◌<◌, ◌≤◌, ◌+◌, ◌∷◌, ◌↔◌, [], ℕ, List, Option, Some, IsTrue, IfOk, OnOk, length, true};
 ghost use Rattle.mls_index.specs.NodeKeys.{fingerprint_at, HasKey, IsUniqueKey};
 ghost use Rattle.mls_index.specs.RepeatedKeysInternal.{FindsOther};
-ghost use Rattle.mls_index.specs.KeyTable.{has_entry, base_at, TableHasBase, IsTableOf, TableContainsKeys};
+ghost use Rattle.mls_index.specs.KeyTable.{base_at, TableHasBase, IsTableOf, TableContainsKeys};
 ghost use Rattle.mls_index.specs.KeyTableInternal.{AreSameBut, ContainsKeysBut, HasListed, ListsFirst, ListsAll, IsSettling, HasStaged, HasLeft};
 
 use crate::fingerprints::Fingerprints;
 use crate::node_key::{
-    KeyKind, fingerprint, fingerprint_at, has_key_at, is_number, key_at_node, node_index_count,
+    KeyKind, fingerprint_at, has_key_at, is_number, key_at_node, node_index_count,
 };
+use mls_nodes::fingerprint;
 use mls_tree::PublicTree;
 use std::alloc::{AllocError, Global};
 use std::collections::BTreeSet;
@@ -283,7 +284,9 @@ impl KeyTable {
         let Some(key) = key_at_node(tree, kind, node_index) else {
             return None;
         };
-        let number = fingerprint(key);
+        let Some(number) = fingerprint_at(tree, kind, node_index) else {
+            unreachable!();
+        };
         for entry in self.entries.range((number, 0)..=(number, u32::MAX)) {
             if entry.1 != node_index && has_key_at(tree, kind, entry.1, key) {
                 return Some(entry.1);

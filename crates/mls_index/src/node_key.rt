@@ -2,14 +2,11 @@
 
 ghost use Rattle.std.specs.Prelude.{◌≡◌, ◌↔◌, ◌+◌, ◌*◌, ◌<◌, Some, IsTrue};
 ghost use Rattle.std.specs.Option.{option_copied};
-ghost use Rattle.sha2.specs.Sha256.{sha256};
 ghost use Rattle.mls_tree.specs.Tree.{leaf_count};
-ghost use Rattle.mls_index.specs.NodeKeys.{key_at_node, fingerprint_at, fingerprint};
+ghost use Rattle.mls_index.specs.NodeKeys.{key_at_node, fingerprint_at};
 
-use mls_check::key_prefix;
-use mls_nodes::Node;
+use mls_nodes::{Node, fingerprint};
 use mls_tree::PublicTree;
-use sha2::{Digest, Sha256};
 
 /// Which keys of a tree: the encryption keys of all nodes, or the signature keys of the leaves.
 #[derive(Clone, Copy, Debug, PartialEq, Eq)]
@@ -37,30 +34,19 @@ pub(crate) fn key_at_node(tree: &PublicTree, kind: KeyKind, node_index: u32) -> 
     }
 }
 
-/// Returns the SHA-256 digest of a key.
-fn digest(key: &[u8]) -> [u8; 32]
-    ensures { result ≡ sha256 key.now }
-{
-    let mut hasher = Sha256::new();
-    hasher.update(key);
-    hasher.finalize()
-}
-
-/// Returns the fingerprint of a key: the first eight bytes of its SHA-256, as a number. So nobody can choose it. Keys
-/// with equal fingerprints have to be compared themselves.
-#[tactic(auto, unfolding(crate::specs::NodeKeys::fingerprint))]
-pub(crate) fn fingerprint(key: &[u8]) -> u64
-    ensures { result ≡ fingerprint key.now }
-{
-    key_prefix(&digest(key))
-}
-
-/// Returns the fingerprint of the key at a node index.
+/// Returns the fingerprint of the key at a node index. No long key of a leaf is hashed.
 pub(crate) fn fingerprint_at(tree: &PublicTree, kind: KeyKind, node_index: u32) -> Option<u64>
     ensures { result ≡ fingerprint_at kind tree.now.tree node_index }
 {
-    match key_at_node(tree, kind, node_index) {
-        Some(key) => Some(fingerprint(key)),
+    match tree.node(node_index) {
+        Some(Node::Leaf(leaf)) => match kind {
+            KeyKind::Encryption => Some(leaf.encryption_fingerprint()),
+            KeyKind::Signature => Some(leaf.signature_fingerprint()),
+        },
+        Some(Node::Parent(parent)) => match kind {
+            KeyKind::Encryption => Some(fingerprint(parent.encryption_key.as_slice())),
+            KeyKind::Signature => None,
+        },
         None => None,
     }
 }

@@ -16,6 +16,9 @@ pub mod ExternalSenders
 pub mod LeafNodeTBS
 pub mod Parsing
 pub mod LeafParsing
+pub mod KeyPrefix
+pub mod Fingerprints
+pub mod FingerprintsInternal
 pub mod StoredLeaf
 pub mod ParsingInternal
 pub mod RatchetTreeWriting

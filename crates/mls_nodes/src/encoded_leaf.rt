@@ -4,12 +4,14 @@ ghost use Rattle.std.specs.Prelude.{◌≡◌, ◌≤◌, ◌^◌, IfOk, Some, l
 ghost use Rattle.mls_wire.specs.Limits.{vector_limit};
 ghost use Rattle.mls_wire.specs.ReadContracts.{Decodes, DecodesAll, seen};
 ghost use Rattle.mls_wire.specs.WriteContracts.{MakesPiece, WritesPiece};
+ghost use Rattle.mls_nodes.specs.Fingerprints.{fingerprint};
 ghost use Rattle.mls_nodes.specs.Layout.{leaf, unsigned_leaf};
 ghost use Rattle.mls_nodes.specs.StoredLeaf.{IsAfterKeys};
 
 use crate::capabilities::Capabilities;
 use crate::credential::CredentialRef;
 use crate::encoded_len::length_of_body;
+use crate::fingerprints::{KeyFingerprints, copy_fingerprints, fingerprint, fingerprints_of_long};
 use crate::leaf::LeafNode;
 use crate::leaf_source::LeafSource;
 use mls_wire::{
@@ -21,19 +23,26 @@ use std::marker::Model;
 
 /// A leaf node (RFC 9420, 7.2), stored as the bytes that encode it: it takes little more memory than these, and is written
 /// without being encoded. [`EncodedLeaf::fields`] reads them. The model is the [`LeafNode`].
+///
+/// A leaf node with a long key also stores the fingerprints of its keys, so that a long key is hashed once.
 #[derive(Debug)]
 pub struct EncodedLeaf {
     bytes: Vec<u8>,
+    fingerprints: Option<Box<KeyFingerprints>>,
 }
 
 // Written out, so that a drop is one call in the proofs of its owners.
 impl Drop for EncodedLeaf {
     fn drop(self) {
-        let EncodedLeaf { bytes: _ } = self;
+        let EncodedLeaf {
+            bytes: _,
+            fingerprints: _,
+        } = self;
     }
 }
 
 impl Model for EncodedLeaf {
+    ghost use Rattle.std.specs.Prelude.{option_map};
     ghost use Rattle.mls_nodes.specs.StoredLeaf.{stored_leaf, IsStoredLeaf};
     ghost use Rattle.mls_nodes.specs.declared.leaf.LeafNode.{LeafNode};
 
@@ -41,7 +50,7 @@ impl Model for EncodedLeaf {
 
     ghost view = { λ s. stored_leaf s.bytes.items };
 
-    ghost invariant = { λ s. IsStoredLeaf s.bytes.items };
+    ghost invariant = { λ s. IsStoredLeaf s.bytes.items (option_map (λ b. b.value) s.fingerprints) };
 }
 
 /// Returns a copy of bytes. More than a vector may have are taken for more than there is memory for.
@@ -95,6 +104,26 @@ impl EncodedLeaf {
         match OpaqueRef::parse(&mut reader) {
             Ok(key) => key.as_slice(),
             Err(_) => unreachable!(),
+        }
+    }
+
+    /// Returns the fingerprint of the encryption key. No key of more than 256 bytes is hashed.
+    pub fn encryption_fingerprint(&self) -> u64
+        ensures { result ≡ fingerprint self.now.encryption_key }
+    {
+        match &self.fingerprints {
+            Some(both) => both.encryption,
+            None => fingerprint(self.encryption_key()),
+        }
+    }
+
+    /// Returns the fingerprint of the signature key. No key of more than 256 bytes is hashed.
+    pub fn signature_fingerprint(&self) -> u64
+        ensures { result ≡ fingerprint self.now.signature_key }
+    {
+        match &self.fingerprints {
+            Some(both) => both.signature,
+            None => fingerprint(self.signature_key()),
         }
     }
 
@@ -190,11 +219,17 @@ impl Decode for EncodedLeaf {
 
     fn read(alloc: Global, reader: &mut Reader<'_>) -> Result<EncodedLeaf, CodecFault> {
         let mut ahead = reader.fork();
-        LeafNode::parse(&mut ahead)?;
+        let fields = LeafNode::parse(&mut ahead)?;
+        let encryption_key = fields.encryption_key.as_slice();
+        let signature_key = fields.signature_key.as_slice();
         let left = reader.left();
         let bytes = stored(alloc, &left[..left.len() - ahead.left().len()])?;
+        let fingerprints = fingerprints_of_long(alloc, encryption_key, signature_key)?;
         *reader = ahead;
-        Ok(EncodedLeaf { bytes })
+        Ok(EncodedLeaf {
+            bytes,
+            fingerprints,
+        })
     }
 
     ghost exact = { leaf_exact };
@@ -215,8 +250,10 @@ impl Encode for EncodedLeaf {
 
 impl TryClone for EncodedLeaf {
     fn try_clone(&self, alloc: Global) -> Result<EncodedLeaf, CodecFault> {
+        let bytes = Vec::from_slice(alloc, self.bytes.as_slice())?;
         Ok(EncodedLeaf {
-            bytes: Vec::from_slice(alloc, self.bytes.as_slice())?,
+            bytes,
+            fingerprints: copy_fingerprints(alloc, &self.fingerprints)?,
         })
     }
 }

@@ -12,6 +12,8 @@ mod encoded_leaf;
 mod encoded_len;
 mod extension;
 mod fault;
+mod fingerprints;
+mod key_prefixes;
 pub mod laws;
 mod leaf;
 mod leaf_source;
@@ -32,6 +34,8 @@ pub use encoded_leaf::{EncodedLeaf, decode_leaf, encode_leaf, read_leaf, write_l
 pub use encoded_len::leaf_tbs_len;
 pub use extension::{Extension, ExtensionRef, ExtensionsLeft, read_extensions, write_extensions};
 pub use fault::NodeFault;
+pub use fingerprints::fingerprint;
+pub use key_prefixes::key_prefix;
 pub use leaf::LeafNode;
 pub use leaf_source::{LeafSource, Lifetime};
 pub use lists::{CertChain, Codes, Extensions, ExternalSenders};

@@ -1,7 +1,7 @@
 use Rattle.std.proofs.Common.{◌≡◌, ◌∙◌, true, ap, sym, subst, arith}
 use Rattle.std.specs.Prelude.{option_copied}
 use Rattle.mls_tree.specs.Tree.{leaf_count}
-use Rattle.mls_check.specs.KeyPrefix.{key_prefix}
+use Rattle.mls_nodes.specs.KeyPrefix.{key_prefix}
 use Rattle.mls_check.specs.LeafValidation.{all_leaves, has_unique_signature_key}
 use Rattle.mls_check.proofs.Differing.{AreApart, Begun-blank, Begun-key, apart-answered}
 use Rattle.mls_check.proofs.Keys.{signature_key_at, signature_key-set, signature_key-blank, own_keys-apart}

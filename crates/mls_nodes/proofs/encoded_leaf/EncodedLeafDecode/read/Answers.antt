@@ -4,19 +4,20 @@ use Rattle.mls_nodes.proofs.encoded_leaf.EncodedLeafDecode.read.Goals as goal
 
 pub slice_bounds-stored-count : goal.slice_bounds-stored-count
 slice_bounds-stored-count c =
-    let there = rw c.fork-ahead.ensures at c.in_ok-parse.ensures in
-    rw (c.left.ensures, c.left-left.ensures) (front_length c.in_ok-parse.field-0 c.args.reader.now c.parse.new.reader there)
+    let there = rw c.fork-ahead.ensures at c.in_ok-fields.ensures in
+    rw (c.left.ensures, c.left-left.ensures) (front_length c.in_ok-fields.fields c.args.reader.now c.parse.new.reader there)
 
 pub invariant_of-result : goal.invariant_of-result
 invariant_of-result c =
-    let there = rw c.fork-ahead.ensures at c.in_ok-parse.ensures in
+    let there = rw c.fork-ahead.ensures at c.in_ok-fields.ensures in
     let same = rw (c.left.ensures, c.left-left.ensures) at c.in_ok-bytes.ensures.copy in
-    let encodes = rw (← same) at (front_encodes c.in_ok-parse.field-0 c.args.reader.now c.parse.new.reader (length c.args.reader.now.left - length c.parse.new.reader.left) there refl) in
-    (rw (stored_is c.in_ok-parse.field-0 c.in_ok-bytes.bytes.items encodes) encodes, c.in_ok-bytes.ensures.limit)
+    let encodes = rw (← same) at (front_encodes c.in_ok-fields.fields c.args.reader.now c.parse.new.reader (length c.args.reader.now.left - length c.parse.new.reader.left) there refl) in
+    let stored = rw (c.as_slice-encryption_key.ensures, c.as_slice-signature_key.ensures) at c.in_ok-fingerprints.ensures in
+    rw (stored_is c.in_ok-fields.fields c.in_ok-bytes.bytes.items encodes) (encodes, c.in_ok-bytes.ensures.limit, stored)
 
 pub returns : goal.returns
 returns c =
-    let there = rw c.fork-ahead.ensures at c.in_ok-parse.ensures in
+    let there = rw c.fork-ahead.ensures at c.in_ok-fields.ensures in
     let same = rw (c.left.ensures, c.left-left.ensures) at c.in_ok-bytes.ensures.copy in
-    let encodes = rw (← same) at (front_encodes c.in_ok-parse.field-0 c.args.reader.now c.parse.new.reader (length c.args.reader.now.left - length c.parse.new.reader.left) there refl) in
-    rw (stored_is c.in_ok-parse.field-0 c.in_ok-bytes.bytes.items encodes) there
+    let encodes = rw (← same) at (front_encodes c.in_ok-fields.fields c.args.reader.now c.parse.new.reader (length c.args.reader.now.left - length c.parse.new.reader.left) there refl) in
+    rw (stored_is c.in_ok-fields.fields c.in_ok-bytes.bytes.items encodes) there

@@ -1,6 +1,6 @@
 use Rattle.std.proofs.Common.{◌∙◌, ◌++◌, length, drop, replicate, ap}
-use Rattle.mls_check.proofs.Differing.{key_prefix-long, key_prefix-short}
-use Rattle.mls_check.proofs.key_prefixes.key_prefix.Goals as goal
+use Rattle.mls_nodes.proofs.KeyPrefixes.{key_prefix-long, key_prefix-short}
+use Rattle.mls_nodes.proofs.key_prefixes.key_prefix.Goals as goal
 
 pub returns-in-Some : goal.returns-in-Some
 returns-in-Some c =

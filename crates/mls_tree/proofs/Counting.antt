@@ -1,5 +1,5 @@
 -- Counts of set leaves and set nodes under each parent.
-use Rattle.std.proofs.Common.{◌≡◌, ◌≢◌, ℕ, suc, ◌+◌, ◌*◌, ◌-◌, ◌/◌, ◌<◌, ◌≤◌, List, length, take, get_or, Option, Some, None, refl, sym, ap, ◌∙◌, subst, inl, inr, arith, length-set}
+use Rattle.std.proofs.Common.{◌≡◌, ◌≢◌, ℕ, suc, ◌+◌, ◌*◌, ◌-◌, ◌/◌, ◌<◌, ◌≤◌, zero, List, ◌++◌, length, take, get_or, replicate, Option, Some, None, refl, sym, ap, ◌∙◌, subst, inl, inr, arith, length-set}
 use Rattle.std.specs.Prelude.{slice_get, slice_set}
 use Rattle.std.proofs.lemmas.Bool.{cases_lt, cases_order}
 use Rattle.std.proofs.lemmas.Option.{slice_get-get_or, same_Some}
@@ -7,17 +7,17 @@ use Rattle.mls_nodes.specs.declared.leaf.LeafNode.{LeafNode}
 use Rattle.mls_nodes.specs.declared.parent.ParentNode.{ParentNode}
 use Rattle.mls_nodes.specs.declared.node.Node.{Node}
 use Rattle.mls_tree.specs.declared.subtree_counts.Count.{Count}
-use Rattle.mls_tree.specs.Tree.{Tree, leaf, branch, leaf_count, member_count}
+use Rattle.mls_tree.specs.Tree.{Tree, leaf, branch, height, leaf_count, member_count, IsPerfect}
 use Rattle.mls_tree.specs.TreeInternal.{leaves_at}
 use Rattle.mls_tree.specs.NodeArray.{parent_part, tree_in}
-use Rattle.mls_tree.specs.TreeOperations.{put_leaf, put_parent, change_above, front_subtree}
-use Rattle.mls_tree.specs.SubtreeCounts.{parent_weight, non_blank_count, subtree_count, AreCounts, AreOutside, IsKeptOutside}
+use Rattle.mls_tree.specs.TreeOperations.{put_leaf, put_parent, change_above, blank_tree, front_subtree, rejoined, extend}
+use Rattle.mls_tree.specs.SubtreeCounts.{parent_weight, non_blank_count, subtree_count, zero_count, AreCounts, AreOutside, IsKeptOutside}
 use Rattle.mls_tree.proofs.Choices.{below, from, here, before, after}
 use Rattle.mls_tree.proofs.Trees.{leaf_count-positive}
 use Rattle.mls_tree.proofs.Arrays.{leaf_count-tree_in, slice_get-set_same, slice_get-set_other}
-use Rattle.mls_tree.proofs.Fronts.{to_front}
-use Rattle.mls_tree.proofs.Growing.{slice_get-take}
-use Rattle.mls_tree.proofs.Kept.{leaf_count-put_leaf, leaf_count-put_parent, leaf_count-change_above}
+use Rattle.mls_tree.proofs.Fronts.{to_front, to_rejoined, leaves-le, leaf_count-rejoined}
+use Rattle.mls_tree.proofs.Growing.{slice_get-take, slice_get-append_left, slice_get-filled}
+use Rattle.mls_tree.proofs.Kept.{leaf_count-put_leaf, leaf_count-put_parent, leaf_count-change_above, leaf_count-extend}
 use Rattle.mls_tree.proofs.Numbers.{leaves_at-positive}
 use Rattle.mls_tree.proofs.Walking.{tree_in-split}
 
@@ -249,3 +249,51 @@ AreCounts-front h t cs = to_front h (λ w f. AreCounts 0 w cs → AreCounts 0 f 
 
 pub AreCounts-take : (t : Tree) (cs : List Count) (k : ℕ) → k + 1 ≡ leaf_count t → AreCounts 0 t cs → AreCounts 0 t (take k cs)
 AreCounts-take t cs k e ok = AreCounts-same cs (take k cs) 0 t (λ p low high. slice_get-take cs k p (omega arith)) ok
+
+-- ---- a tree whose nodes are all blank
+
+member_count-blank : (h : ℕ) → member_count (blank_tree h) ≡ 0
+member_count-blank zero = refl
+member_count-blank (suc h) = λ i. member_count-blank h i + member_count-blank h i
+
+non_blank_count-blank : (h : ℕ) → non_blank_count (blank_tree h) ≡ 0
+non_blank_count-blank zero = refl
+non_blank_count-blank (suc h) = λ i. non_blank_count-blank h i + non_blank_count-blank h i + 0
+
+pub AreCounts-blank : (first h : ℕ) (cs : List Count) → ((p : ℕ) → first ≤ p → p + 1 < first + leaf_count (blank_tree h) → slice_get cs p ≡ Some zero_count)
+    → AreCounts first (blank_tree h) cs
+AreCounts-blank first zero cs all = tt
+AreCounts-blank first (suc h) cs all =
+    let b = leaf_count (blank_tree h) in
+    let pos = leaf_count-positive (blank_tree h) in (
+      AreCounts-blank first h cs (λ p low high. all p low (omega arith)),
+      AreCounts-blank (first + b) h cs (λ p low high. all p (omega arith) (omega arith)),
+      all (first + b - 1) (omega arith) (omega arith) ∙ (λ i. Some (record { members = sym (member_count-blank (suc h)) i; nodes = sym (non_blank_count-blank (suc h)) i })),
+    )
+
+-- ---- a tree made twice as large
+
+pub beside-extend : (t : Tree) (cs : List Count) (n : ℕ) → IsPerfect t → length cs + 1 ≡ leaf_count t → n ≡ length cs + 1 → AreCounts 0 t cs
+    → AreOutside 0 (extend t) 0 (cs ++ replicate n zero_count)
+beside-extend t cs n perfect count e ok =
+    let ds = cs ++ replicate n zero_count in
+    let pos = leaf_count-positive t in
+    let twice : leaf_count t + leaf_count (blank_tree (height t)) ≡ 2 * leaf_count t = leaf_count-extend t perfect in (
+      λ lt. (
+        beside 0 t 0 ds (AreCounts-same cs ds 0 t (λ p low high. slice_get-append_left cs (replicate n zero_count) p (omega arith)) ok),
+        AreCounts-blank (0 + leaf_count t) (height t) ds (λ p low high. slice_get-filled cs n p zero_count (omega arith) (omega arith)),
+      ),
+      λ ge. absurd (omega arith),
+    )
+
+-- ---- a tree in the place of the leftmost subtree of its height
+
+module _ (t : Tree) (perfect : IsPerfect t) (front whole new : List Count) (short : length front + 1 ≡ leaf_count t) (put : (p : ℕ) → p < length front → slice_get new p ≡ slice_get front p)
+    (rest : (p : ℕ) → length front ≤ p → slice_get new p ≡ slice_get whole p) (ok : AreCounts 0 t front) where
+  pub beside-rejoined : (w : Tree) → IsPerfect w → AreCounts 0 w whole → AreOutside 0 (rejoined t w) 0 new
+  beside-rejoined =
+      to_rejoined t (λ w v. IsPerfect w → AreCounts 0 w whole → AreOutside 0 v 0 new)
+      (λ w low b at. beside 0 t 0 new (AreCounts-same front new 0 t (λ p low high. put p (omega (arith, short))) ok))
+      (λ l n r ge ih b at.
+      beside-in_left 0 l (rejoined t l) n r 0 new (leaf_count-rejoined t l perfect b.1 ge) (omega (arith, leaf_count-positive l)) (ih b.1 at.0)
+      (AreCounts-same whole new (0 + leaf_count l) r (λ p low high. rest p (omega (arith, short, leaves-le t l perfect b.1 ge))) at.1))

@@ -25,13 +25,21 @@ module _ {X : Type 0} where
   slice_get-append_left (x ∷ xs) ys zero h = refl
   slice_get-append_left (x ∷ xs) ys (suc p) h = slice_get-append_left xs ys p (omega arith)
 
-  -- past the end of xs there is nothing but v
+  -- past the end of xs there is v, n times
+  pub slice_get-filled : (xs : List X) (n p : ℕ) (v : X) → length xs ≤ p → p < length xs + n → slice_get (xs ++ replicate n v) p ≡ Some v
+  slice_get-filled (x ∷ xs) n zero v low high = absurd (omega arith)
+  slice_get-filled (x ∷ xs) n (suc p) v low high = slice_get-filled xs n p v (omega arith) (omega arith)
+  slice_get-filled [] zero p v low high = absurd (omega arith)
+  slice_get-filled [] (suc n) zero v low high = refl
+  slice_get-filled [] (suc n) (suc p) v low high = slice_get-filled [] n p v (omega arith) (omega arith)
+
+  -- and nothing else
   pub slice_get-fill : (xs : List X) (n p : ℕ) (v : X) → length xs ≤ p → (slice_get (xs ++ replicate n v) p ≡ None) ⊎ (slice_get (xs ++ replicate n v) p ≡ Some v)
-  slice_get-fill (x ∷ xs) n zero v h = absurd (omega arith)
-  slice_get-fill (x ∷ xs) n (suc p) v h = slice_get-fill xs n p v (omega arith)
-  slice_get-fill [] zero p v h = inl refl
-  slice_get-fill [] (suc n) zero v h = inr refl
-  slice_get-fill [] (suc n) (suc p) v h = slice_get-fill [] n p v (omega arith)
+  slice_get-fill xs n p v low =
+      elim (cases_lt p (length xs + n)) [
+        | inl lt ↦ inr (slice_get-filled xs n p v low lt)
+        | inr ge ↦ inl (slice_get_past (xs ++ replicate n v) p (omega (arith, length-append xs (replicate n v), length-replicate n v)))
+      ]
 
   -- past the n first elements there is none
   pub slice_get-take_past : (xs : List X) (n p : ℕ) → n ≤ p → slice_get (take n xs) p ≡ None

@@ -141,6 +141,10 @@ pub IsPerfect-blank_tree : (h : ℕ) → IsPerfect (blank_tree h)
 IsPerfect-blank_tree zero = tt
 IsPerfect-blank_tree (suc h) = (refl, IsPerfect-blank_tree h, IsPerfect-blank_tree h)
 
+pub leaf_count-blank_tree : (h : ℕ) → leaf_count (blank_tree h) ≡ leaves_at h
+leaf_count-blank_tree zero = refl
+leaf_count-blank_tree (suc h) = λ i. leaf_count-blank_tree h i + leaf_count-blank_tree h i
+
 pub leaf_at-blank_tree : (first h j : ℕ) → leaf_at first (blank_tree h) j ≡ None
 leaf_at-blank_tree first zero j = either (λ (o : Option LeafNode). o ≡ None) (j == first) None None refl refl
 leaf_at-blank_tree first (suc h) j =
@@ -158,8 +162,7 @@ HasShape-extend t s low = record { perfect = IsPerfect-extend t s.perfect; low =
 pub leaf_count-extend : (t : Tree) → IsPerfect t → leaf_count (extend t) ≡ 2 * leaf_count t
 leaf_count-extend t h =
     let a = leaf_count-perfect t h in
-    let b = leaf_count-perfect (blank_tree (height t)) (IsPerfect-blank_tree (height t)) in
-    let e : leaf_count (blank_tree (height t)) ≡ leaf_count t = b ∙ (let q = height-blank_tree (height t) in λ k. leaves_at (q k)) ∙ sym a in
+    let b = leaf_count-blank_tree (height t) in
     omega arith
 
 pub leaf_at-extend : (t : Tree) (j : ℕ) → leaf_at 0 (extend t) j ≡ leaf_at 0 t j

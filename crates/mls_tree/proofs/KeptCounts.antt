@@ -6,11 +6,11 @@ use Rattle.mls_nodes.specs.declared.leaf.LeafNode.{LeafNode}
 use Rattle.mls_nodes.specs.declared.parent.ParentNode.{ParentNode}
 use Rattle.mls_tree.specs.declared.subtree_counts.Count.{Count}
 use Rattle.mls_tree.specs.declared.cached_counts.Counts.{Counts}
-use Rattle.mls_tree.specs.Tree.{Tree, leaf_count}
+use Rattle.mls_tree.specs.Tree.{Tree, height, leaf_count, IsPerfect}
 use Rattle.mls_tree.specs.TreeOperations.{put_leaf, put_parent, change_above, front_subtree}
 use Rattle.mls_tree.specs.SubtreeCounts.{AreCounts, AreOutside}
-use Rattle.mls_tree.specs.CountsModel.{AreCountsIn, AreBesideIn, AreFrontOf}
-use Rattle.mls_tree.proofs.Fronts.{leaf_count-front}
+use Rattle.mls_tree.specs.CountsModel.{AreCountsIn, AreBesideIn, AreFrontOf, AreNoMore}
+use Rattle.mls_tree.proofs.Fronts.{leaf_count-front, leaves-le}
 use Rattle.mls_tree.proofs.Kept.{leaf_count-put_leaf, leaf_count-put_parent, leaf_count-change_above}
 use Rattle.mls_tree.proofs.Counting.{beside, beside-put_leaf, beside-put_parent, beside-change_above, AreCounts-front}
 
@@ -58,6 +58,12 @@ module _ (counts : Option Counts) (t u : Tree) where
   pub counts-front : (h : ℕ) → u ≡ front_subtree h t → AreCountsIn counts t → AreFrontOf counts u
   counts-front h at =
       front-in (let a = ap leaf_count at in let b = leaf_count-front h t in omega arith) (λ c ok. subst (λ v. AreCounts 0 v c.list.items) (sym at) (AreCounts-front h t c.list.items ok))
+
+-- a tree that is not higher has no more counts
+pub counts-no_more : (front whole : Option Counts) (t w : Tree) → IsPerfect t → IsPerfect w → height t ≤ height w → AreCountsIn front t → AreCountsIn whole w → AreNoMore front whole
+counts-no_more None whole t w a b le x y = tt
+counts-no_more (Some c) None t w a b le x y = tt
+counts-no_more (Some c) (Some d) t w a b le x y = omega (arith, x.0, y.0, leaves-le t w a b le)
 
 -- what stands in a list whose slice was written
 pub counts-written : (t : Tree) (cs items : List Count) (n : ℕ) → n ≡ length items → length cs ≡ length items → length items + 1 ≡ leaf_count t → AreCounts 0 t cs

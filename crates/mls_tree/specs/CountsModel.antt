@@ -1,5 +1,6 @@
 -- The optional counts of a tree. Internal: no public contract uses this.
 use Rattle.std.specs.Prelude.{◌≡◌, ℕ, ◌+◌, ◌≤◌, List, Option, Some, None, length}
+use Rattle.std.specs.Vec.{vec_len, vec_capacity}
 use Rattle.mls_tree.specs.Tree.{Tree, leaf_count}
 use Rattle.mls_tree.specs.SubtreeCounts.{AreCounts, AreOutside}
 use Rattle.mls_tree.specs.declared.subtree_counts.Count.{Count}
@@ -25,3 +26,14 @@ AreFrontOf (Some c) t = (leaf_count t ≤ length c.list.items + 1) × AreCounts 
 abbrev pub AreCountsIfAny : Option (List Count) → ℕ → Tree → Type 0
 AreCountsIfAny None first t = Unit {0}
 AreCountsIfAny (Some cs) first t = (first + leaf_count t ≤ length cs + 1) × AreCounts first t cs
+
+-- `AreNoMore front whole`: if there are both counts, `whole` has at least as many as `front`.
+abbrev pub AreNoMore : Option Counts → Option Counts → Type 0
+AreNoMore None whole = Unit {0}
+AreNoMore (Some c) None = Unit {0}
+AreNoMore (Some c) (Some d) = length c.list.items ≤ length d.list.items
+
+-- `CanDouble counts`: there is capacity for the counts of a tree twice as large.
+abbrev pub CanDouble : Option Counts → Type 0
+CanDouble None = Unit {0}
+CanDouble (Some c) = vec_len c.list + (length c.list.items + 1) ≤ vec_capacity c.list

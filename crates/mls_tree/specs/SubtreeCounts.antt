@@ -19,6 +19,10 @@ non_blank_count (branch l n r) = non_blank_count l + non_blank_count r + parent_
 abbrev pub subtree_count : Tree → Count
 subtree_count t = record { members = member_count t; nodes = non_blank_count t }
 
+-- The count of a tree whose nodes are all blank.
+abbrev pub zero_count : Count
+zero_count = record { members = 0; nodes = 0 }
+
 -- The list has the count of each parent of a tree. That of the parent with k leaves before its right subtree is at k -
 -- 1.
 abbrev pub AreCounts : ℕ → Tree → List Count → Type 0

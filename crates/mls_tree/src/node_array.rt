@@ -1,5 +1,5 @@
 //! The nodes of a tree as one array.
-ghost use Rattle.std.specs.Prelude.{◌≡◌, ℕ, ◌+◌, ◌≤◌, ◌<◌, ◌==◌, length, IfOk, IfErr, IfSome, Err, MatchOption, OnOk, OnErr, IsOk, IsErr, ◌↔◌, ◌⊎◌, None, Some, true, false, map, option_map, option_copied};
+ghost use Rattle.std.specs.Prelude.{◌≡◌, ◌+◌, ◌≤◌, ◌<◌, ◌==◌, length, IfOk, IfErr, IfSome, Err, MatchOption, OnOk, OnErr, IsOk, IsErr, ◌↔◌, ◌⊎◌, None, Some, true, false, map, option_map, option_copied};
 ghost use Rattle.std.specs.Bool.{OnTrue, OnFalse};
 ghost use Rattle.std.specs.List.Sorted.{IsStrictlyIncreasing};
 ghost use Rattle.mls_nodes.specs.Limits.{leaf_limit};
@@ -585,6 +585,7 @@ impl NodeArray {
         ensures front { IfOk result (λ f. f.tree ≡ front_subtree level self.old.tree) }
         ensures level { IfOk result (λ f. height f.tree ≡ level) }
         ensures rest { IfOk result (λ f. rejoined f.tree self.new.tree ≡ self.old.tree) }
+        ensures blank { OnOk result (self.new.tree ≡ rejoined (blank_tree level) self.old.tree) }
         ensures rest_height { height self.new.tree ≡ height self.old.tree }
         ensures unchanged_on_error { OnErr result (self.new ≡ self.old) }
     {

@@ -19,8 +19,8 @@ use crate::cache_update::{
     join_slots, reserve_double, truncate,
 };
 use crate::cached_counts::{
-    Counts, clone_counts, count_anew, count_in_place, counts_in, recount, reserve_counts,
-    truncate_counts,
+    Counts, blank_counts, clone_counts, count_anew, counts_in, double_counts, exchange_front,
+    recount, reserve_counts, truncate_counts,
 };
 use crate::error::TreeError;
 use crate::hash_cache::Slots;
@@ -631,12 +631,16 @@ impl PublicTree {
             (rejoined_slots f.tree f.slots self.new.tree self.new.slots)) }
     {
         let height = self.tree.height();
-        let count = 2 * leaves_of(level) - 1;
+        let leaves = leaves_of(level);
+        let count = 2 * leaves - 1;
         let slots = clone_front(alloc, &self.slots, count as usize)?;
+        let blank = blank_counts(alloc, &self.counts, leaves)?;
         let front = self.tree.take_front(alloc, level)?;
         empty_front(&mut self.slots, count, height);
-        let mut counts = mem::replace(&mut self.counts, None);
-        truncate_counts(&mut counts, front.leaf_count());
+        let former = mem::replace(&mut self.counts, None);
+        let (rest, counts) = exchange_front(former, blank);
+        self.counts = rest;
+        recount(&mut self.counts, &self.tree, 0);
         Ok(PublicTree {
             tree: front,
             slots,
@@ -661,7 +665,9 @@ impl PublicTree {
         let counts = mem::replace(&mut self.counts, None);
         self.tree.rejoin(whole.tree);
         self.slots = join_slots(slots, whole.slots, level);
-        self.counts = count_in_place(counts, &self.tree);
+        let (joined, _) = exchange_front(whole.counts, counts);
+        self.counts = joined;
+        recount(&mut self.counts, &self.tree, 0);
     }
 
     /// Extends the tree (RFC 9420, 7.7): it becomes the left subtree of one twice as large, whose other nodes are
@@ -686,8 +692,8 @@ impl PublicTree {
         reserve_counts(&mut self.counts)?;
         self.tree.extend()?;
         double(&mut self.slots);
-        let counts = mem::replace(&mut self.counts, None);
-        self.counts = count_in_place(counts, &self.tree);
+        double_counts(&mut self.counts);
+        recount(&mut self.counts, &self.tree, 0);
         Ok(())
     }
 

@@ -1,11 +1,10 @@
 //! Leftmost subtrees that are taken out of a tree and put back.
 ghost use Rattle.std.specs.Prelude.{◌≡◌, ℕ, ◌<◌, ◌≤◌, length, slice_get};
 
-use mls_nodes::Node;
 use std::mem;
 
 /// Exchanges the entries of `front` with the first entries of `whole`.
-pub(crate) fn swap_prefix(whole: &mut Vec<Option<Node>>, front: &mut Vec<Option<Node>>)
+pub(crate) fn swap_prefix<T>(whole: &mut Vec<T>, front: &mut Vec<T>)
     requires { length front.old.items ≤ length whole.old.items }
     ensures put { (p : ℕ) → p < length front.old.items
         → slice_get whole.new.items p ≡ slice_get front.old.items p }

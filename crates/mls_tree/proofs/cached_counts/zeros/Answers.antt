@@ -1,5 +1,6 @@
-use Rattle.std.proofs.Common.{ap, arith, length}
+use Rattle.std.proofs.Common.{◌++◌, ap, ◌∙◌, replicate}
+use Rattle.mls_tree.specs.SubtreeCounts.{zero_count}
 use Rattle.mls_tree.proofs.cached_counts.zeros.Goals as goal
 
 pub returns : goal.returns
-returns c = omega (arith, c.push_zeros.ensures, ap length c.in_ok-try_reserve.ensures.items, ap length c.new-list.ensures.items)
+returns c = c.push_zeros.ensures ∙ ap (λ v. v ++ replicate c.args.count zero_count) (c.in_ok-try_reserve.ensures.items ∙ c.new-list.ensures.items)

@@ -3,7 +3,7 @@ use Rattle.std.specs.Prelude.{slice_get}
 use Rattle.mls_tree.proofs.swap_prefix.swap_prefix.Given as goal
 
 abbrev pub invariant-loop-at : goal.invariant-loop-at
-invariant-loop-at l = record {
+invariant-loop-at g l = record {
   put : (p : ℕ) → p < l.at → slice_get l.whole.items p ≡ slice_get l.fn.front.items p;
   rest : (p : ℕ) → l.at ≤ p → slice_get l.whole.items p ≡ slice_get l.fn.whole.items p;
   taken : (p : ℕ) → p < l.at → slice_get l.front.items p ≡ slice_get l.fn.whole.items p;

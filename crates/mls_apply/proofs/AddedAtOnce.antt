@@ -14,6 +14,8 @@ use Rattle.mls_tree.proofs.Choices.{below, from}
 use Rattle.mls_tree.proofs.Kept.{either, leaf_count-change_above, height-change_above, leaf_at-change_above, leaf_count-put_leaf}
 use Rattle.mls_tree.proofs.Added.{add-set_below}
 use Rattle.mls_tree.proofs.FirstBlanks.{first_blank_leaf-leftmost}
+use Rattle.mls_tree.proofs.MergedLists.{before-all}
+use Rattle.mls_tree.proofs.MergedParents.{overfills-extend}
 use Rattle.mls_apply.specs.AddSteps.{is_overfull_add, PutsMember}
 
 -- ---- a leaf is put, and the parents above a leaf are changed
@@ -95,12 +97,6 @@ module _ (t : Tree) (i : ℕ) (inside : i < leaf_count t) where
       below i (0 + leaf_count t) (branch (change_above f 0 t i) None right) (branch t None (change_above f (0 + leaf_count t) right i)) (omega arith)
       ∙ ap (λ h. branch (change_above f 0 t i) None (blank_tree h)) (sym (height-change_above f 0 t i))
 
-  is_overfilled_above-extend : is_overfilled_above 0 (extend t) i ≡ is_overfilled_above 0 t i
-  is_overfilled_above-extend =
-      let right = blank_tree (height t) in
-      or_nothing (if nat_lt i (0 + leaf_count t) then is_overfilled_above 0 t i else is_overfilled_above (0 + leaf_count t) right i)
-      ∙ below i (0 + leaf_count t) (is_overfilled_above 0 t i) (is_overfilled_above (0 + leaf_count t) right i) (omega arith)
-
 -- ---- several leaf indices are added
 
 first_blank_leaf-change_above : (f : Option ParentNode → Option ParentNode) (first : ℕ) (t : Tree) (i : ℕ) → first_blank_leaf first (change_above f first t i) ≡ first_blank_leaf first t
@@ -114,13 +110,9 @@ first_blank_leaf-change_above f first (branch l n r) i =
     (λ k. first_of (a k) (first_blank_leaf (first + c k) r))
     (λ k. first_of (first_blank_leaf first l) (b k))
 
-pub leaf_count-add_all : (is : List ℕ) (t : Tree) → leaf_count (add_all_unmerged is t) ≡ leaf_count t
+leaf_count-add_all : (is : List ℕ) (t : Tree) → leaf_count (add_all_unmerged is t) ≡ leaf_count t
 leaf_count-add_all [] t = refl
 leaf_count-add_all (i ∷ is) t = leaf_count-add_all is (add_unmerged t i) ∙ leaf_count-change_above (with_unmerged i) 0 t i
-
-pub leaf_at-add_all : (is : List ℕ) (t : Tree) (j : ℕ) → leaf_at 0 (add_all_unmerged is t) j ≡ leaf_at 0 t j
-leaf_at-add_all [] t j = refl
-leaf_at-add_all (i ∷ is) t j = leaf_at-add_all is (add_unmerged t i) j ∙ leaf_at-change_above (with_unmerged i) 0 t i j
 
 first_blank_leaf-add_all : (is : List ℕ) (t : Tree) → first_blank_leaf 0 (add_all_unmerged is t) ≡ first_blank_leaf 0 t
 first_blank_leaf-add_all [] t = refl
@@ -151,16 +143,10 @@ overfills-append (i ∷ is) js t =
     ap (λ b. is_overfilled_above 0 t i || b) (overfills-append is js (add_unmerged t i))
     ∙ sym (or_assoc (is_overfilled_above 0 t i) (overfills is (add_unmerged t i)) (overfills js (add_all_unmerged is (add_unmerged t i))))
 
-overfills-put_leaf : (is : List ℕ) (t : Tree) (j : ℕ) (x : Option LeafNode) → overfills is (put_leaf 0 t j x) ≡ overfills is t
+pub overfills-put_leaf : (is : List ℕ) (t : Tree) (j : ℕ) (x : Option LeafNode) → overfills is (put_leaf 0 t j x) ≡ overfills is t
 overfills-put_leaf [] t j x = refl
 overfills-put_leaf (i ∷ is) t j x =
     λ k. is_overfilled_above-put_leaf 0 t i j x k || (ap (overfills is) (change_above-put_leaf (with_unmerged i) x i j 0 t) ∙ overfills-put_leaf is (add_unmerged t i) j x) k
-
-overfills-extend : (is : List ℕ) (t : Tree) → All (λ k. k < leaf_count t) is → overfills is (extend t) ≡ overfills is t
-overfills-extend [] t h = refl
-overfills-extend (i ∷ is) t h =
-    let inside = All-head (λ k. k < leaf_count t) i is h in
-    λ k. is_overfilled_above-extend t i inside k || (ap (overfills is) (add_unmerged-extend t i inside) ∙ overfills-extend is (add_unmerged t i) (still_inside i is t h)) k
 
 -- ---- one more member
 
@@ -176,7 +162,7 @@ module _ (t : Tree) (added : List ℕ) (inside : All (λ i. i < leaf_count t) ad
   extended-listed (Some i) = refl
 
   overfills-extended : (o : Option ℕ) → overfills added (extended_if_full o t) ≡ overfills added t
-  overfills-extended None = overfills-extend added t inside
+  overfills-extended None = overfills-extend added t ∙ ap (λ js. overfills js t) (before-all (leaf_count t) added inside).0
   overfills-extended (Some i) = refl
 
   module _ (x : LeafNode) where
@@ -260,7 +246,7 @@ before_next t added start a (Some j) first =
     blank_is_set None e s = cc
     blank_is_set (Some y) e s = cc
 
-wider : (o : Option ℕ) (t : Tree) → leaf_count t ≤ leaf_count (extended_if_full o t)
+pub wider : (o : Option ℕ) (t : Tree) → leaf_count t ≤ leaf_count (extended_if_full o t)
 wider None t = omega arith
 wider (Some i) t = omega arith
 

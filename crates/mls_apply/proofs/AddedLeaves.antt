@@ -1,5 +1,5 @@
 -- The leaves of the tree after Adds: those that were added, and the others.
-use Rattle.std.proofs.Common.{◌≡◌, ◌≢◌, ◌∙◌, ℕ, ◌+◌, List, [], ◌∷◌, ◌++◌, length, Option, Some, None, refl, sym, ap, subst, arith}
+use Rattle.std.proofs.Common.{◌≡◌, ◌≢◌, ◌∙◌, ℕ, ◌+◌, List, [], ◌∷◌, length, Option, Some, None, refl, sym, ap, subst, arith}
 use Rattle.std.specs.Prelude.{nat_le, option_map, MatchOption}
 use Rattle.std.proofs.lemmas.Option.{same_Some, none-some, option_and_then_some}
 use Rattle.mls_nodes.specs.Limits.{leaf_limit}
@@ -17,16 +17,6 @@ use Rattle.mls_apply.specs.Outline.{IsApart}
 use Rattle.mls_apply.specs.OutlineInternal.{AreAt}
 use Rattle.mls_apply.proofs.SoundOutcomes.{unless, where_so}
 use Rattle.mls_apply.proofs.RepeatedAdds.{added-at, leaf_stays}
-
--- ---- an index that is none of some
-
-pub apart_front : (js ks : List ℕ) (i : ℕ) → IsApart (js ++ ks) i → IsApart js i
-apart_front [] ks i a = tt
-apart_front (j ∷ js) ks i a = (a.0, apart_front js ks i a.1)
-
-pub apart_last : (js : List ℕ) (j i : ℕ) → IsApart (js ++ j ∷ []) i → i ≢ j
-apart_last [] j i a = a.0
-apart_last (k ∷ js) j i a = apart_last js j i a.1
 
 -- ---- a leaf that is not the added one
 

@@ -99,7 +99,7 @@ pub member_count-add : (t : Tree) (x : LeafNode) → member_count (add t x) ≡ 
 member_count-add t x = one_member t x (first_blank_leaf 0 t) (first_blank_leaf-leftmost t)
 
 -- its leaf is put
-pub member_count-put : (t : Tree) (x : LeafNode) (j : ℕ) (u : Tree) → PutsMember t x j u → member_count u ≡ member_count t + 1
+member_count-put : (t : Tree) (x : LeafNode) (j : ℕ) (u : Tree) → PutsMember t x j u → member_count u ≡ member_count t + 1
 member_count-put t x j u p = sym (ap member_count (add-put t x j u p) ∙ member_count-change_above (with_unmerged j) 0 u j) ∙ member_count-add t x
 
 -- a tree grows only where it has fewer leaves than a group has members

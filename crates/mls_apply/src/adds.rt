@@ -1,11 +1,11 @@
 //! The Adds of a proposal list (RFC 9420, 12.1.1).
 
-ghost use Rattle.std.specs.Prelude.{◌≡◌, ◌+◌, ◌<◌, ◌≤◌, ◌⊎◌, true, false, All, None, Some, IsSome, Err, IfOk, IfErr, OnOk, length};
+ghost use Rattle.std.specs.Prelude.{◌≡◌, ◌+◌, ◌<◌, ◌≤◌, ◌⊎◌, true, false, All, None, Some, IsSome, Err, IfOk, IfErr, OnOk, length, max};
 ghost use Rattle.std.specs.List.Sorted.{IsStrictlyIncreasing};
 ghost use Rattle.mls_nodes.specs.Limits.{leaf_limit};
 ghost use Rattle.mls_tree.specs.Tree.{leaf_count, member_count};
-ghost use Rattle.mls_tree.specs.BlankLeaves.{first_blank_leaf, AreNonBlankBelow};
-ghost use Rattle.mls_tree.specs.TreeOperations.{added_leaf, extended_if_full, add_all_unmerged, overfills};
+ghost use Rattle.mls_tree.specs.BlankLeaves.{first_blank_leaf, next_blank_leaf, AreNonBlankBelow};
+ghost use Rattle.mls_tree.specs.TreeOperations.{added_leaf, extended_if_full, add_all_unmerged, overfills, number_or};
 ghost use Rattle.mls_tree.specs.Journals.{before};
 ghost use Rattle.mls_apply.specs.AppliedList.{after_adds, applied_tree, new_members};
 ghost use Rattle.mls_apply.specs.AddSteps.{PutsMember};
@@ -17,7 +17,7 @@ use crate::list_application::Leaves;
 use crate::list_item::ListItem;
 use mls_msgs::Proposal;
 use mls_nodes::EncodedLeaf;
-use mls_tree::{Journal, PublicTree, TreeError};
+use mls_tree::{Journal, PublicTree, TreeError, split_leaves};
 use mls_wire::Shared;
 use std::alloc::Global;
 
@@ -124,34 +124,62 @@ pub(crate) fn apply_adds(
     Ok(Leaves::new(added))
 }
 
-/// Applies the Adds of a list as [`apply_adds`] does, but adds each member with `leaf`, and returns the same leaves. The call
-/// fails if and only if `apply_adds` does, except for memory.
-pub(crate) fn fit_adds(
-    alloc: Global,
-    tree: &mut PublicTree,
-    journal: &mut Journal,
-    items: &[ListItem<'_>],
-    leaf: &Shared<EncodedLeaf>,
-) -> Result<Leaves, ApplyFault>
-    requires { member_count tree.old.tree + length (new_members items.now) ≤ leaf_limit }
-    ensures fit { OnOk result (IsSome (after_adds (new_members items.now) tree.old.tree)) }
-    ensures outline { IfOk result (λ added.
-        IsOutline (after_adds (new_members items.now) tree.old.tree) added tree.new.tree) }
+/// Returns the leftmost blank leaf of a tree from `start` on. If there is none, the first leaf index from `start` on that the
+/// tree lacks.
+fn leaf_from(tree: &PublicTree, start: u32) -> u32
+    ensures { result ≡ number_or (max start (leaf_count tree.now.tree)) (next_blank_leaf start 0 tree.now.tree) }
+{
+    match tree.next_blank_leaf(start) {
+        Some(index) => index,
+        None => start.max(tree.leaf_count()),
+    }
+}
+
+/// Checks that these leaf indices can be added to the unmerged lists above them. They must be strictly increasing.
+/// `TooManyLeaves` if one of the lists would be too long.
+fn check_lists(alloc: Global, tree: &PublicTree, added: &[u32]) -> Result<(), ApplyFault>
+    requires { IsStrictlyIncreasing added.now }
+    ensures fits { OnOk result (overfills added.now tree.now.tree ≡ false) }
     ensures too_many_leaves { result ≡ Err ApplyFault.TooManyLeaves
-        → after_adds (new_members items.now) tree.old.tree ≡ None }
+        → overfills added.now tree.now.tree ≡ true }
     ensures possible_errors { IfErr result (λ e.
         (e ≡ ApplyFault.TooManyLeaves) ⊎ (e ≡ ApplyFault.OutOfMemory)) }
-    ensures before { before journal.new tree.new.tree ≡ before journal.old tree.old.tree }
+{
+    match tree.check_unmerged_fit(alloc, added) {
+        Ok(()) => Ok(()),
+        Err(TreeError::TooManyLeaves) => Err(ApplyFault::TooManyLeaves),
+        Err(TreeError::OutOfMemory) => Err(ApplyFault::OutOfMemory),
+        Err(_) => unreachable!(),
+    }
+}
+
+/// Returns the leaves that [`apply_adds`] would add. The call fails if and only if `apply_adds` does, except for memory.
+///
+/// The tree is not extended: the leaves that it lacks are blank, and no unmerged list contains them.
+pub(crate) fn fit_adds(
+    alloc: Global,
+    tree: &PublicTree,
+    items: &[ListItem<'_>],
+) -> Result<Leaves, ApplyFault>
+    requires { member_count tree.now.tree + length (new_members items.now) ≤ leaf_limit }
+    ensures fit { OnOk result (IsSome (after_adds (new_members items.now) tree.now.tree)) }
+    ensures outline { IfOk result (λ added.
+        IsOutline (after_adds (new_members items.now) tree.now.tree) added tree.now.tree) }
+    ensures too_many_leaves { result ≡ Err ApplyFault.TooManyLeaves
+        → after_adds (new_members items.now) tree.now.tree ≡ None }
+    ensures possible_errors { IfErr result (λ e.
+        (e ≡ ApplyFault.TooManyLeaves) ⊎ (e ≡ ApplyFault.OutOfMemory)) }
 {
     let mut added = Vec::new(alloc);
     let mut start = 0;
     for item in items {
         if let Proposal::Add(_) = item.proposal {
-            let index = put_member(alloc, tree, journal, start, leaf)?;
+            let index = leaf_from(tree, start);
             added.push(index)?;
             start = index + 1;
         }
     }
-    add_unmerged(alloc, tree, journal, added.as_slice())?;
+    let (inside, _) = split_leaves(added.as_slice(), tree.leaf_count());
+    check_lists(alloc, tree, inside)?;
     Ok(Leaves::new(added))
 }

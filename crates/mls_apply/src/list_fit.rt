@@ -7,18 +7,15 @@ ghost use Rattle.mls_apply.specs.Outline.{IsOutline};
 
 use crate::adds::fit_adds;
 use crate::capacity::exceeds_capacity;
-use crate::empty_leaf::empty_leaf;
 use crate::fault::ApplyFault;
 use crate::list_application::Leaves;
 use crate::list_item::ListItem;
 use crate::removes::apply_removes;
 use crate::updates::apply_updates;
 use mls_tree::{Journal, PublicTree};
-use mls_wire::Shared;
 use std::alloc::Global;
 
-/// Applies the items of a list, for whose Adds the tree has capacity, with an empty leaf node that all Adds share. Returns the
-/// added leaves.
+/// Applies the Updates and Removes of a list, for whose Adds the tree has capacity. Returns the leaves that the Adds would add.
 fn fit_items(
     alloc: Global,
     tree: &mut PublicTree,
@@ -40,15 +37,12 @@ fn fit_items(
 {
     apply_updates(alloc, tree, journal, items)?;
     apply_removes(alloc, tree, journal, items)?;
-    let leaf = Shared::new(alloc, empty_leaf(alloc)?)?;
-    let answer = fit_adds(alloc, tree, journal, items, &leaf);
-    drop(leaf);
-    answer
+    fit_adds(alloc, tree, items)
 }
 
-/// Checks whether a proposal list can be applied: the list is applied to the tree in place, with an empty leaf node that all
-/// Adds share. Returns the added leaves. The journal logs what is changed. Whatever is returned, the tree is not the one after
-/// the list, and its changes have to be undone.
+/// Checks whether a proposal list can be applied, and returns the leaves that its Adds would add. The Updates and Removes are
+/// applied to the tree in place, the Adds are not. The journal logs what is changed. Whatever is returned, the tree is not the
+/// one after the list, and its changes have to be undone.
 pub(crate) fn check_list_fits(
     alloc: Global,
     tree: &mut PublicTree,

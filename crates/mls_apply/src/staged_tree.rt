@@ -139,8 +139,8 @@ impl StagedTree {
     }
 
     /// Checks whether a list of proposals can be applied (RFC 9420, 12.3): whether [`StagedTree::apply_list`] would succeed.
-    /// Returns the leaves that it would add. No leaf node of an Add is copied: the added leaves are empty leaf nodes, and the
-    /// others are those after the list. Whatever is returned, the tree has to be rolled back.
+    /// Returns the leaves that it would add. The Updates and Removes are applied, the Adds are not: the added leaves are not put
+    /// into the tree, and the others are those after the list. Whatever is returned, the tree has to be rolled back.
     ///
     /// # Errors
     ///

@@ -1,11 +1,12 @@
 -- Leaf indices that are merged into a list, and split among the halves of a tree.
-use Rattle.std.proofs.Common.{◌≡◌, ℕ, suc, ◌<◌, ◌≤◌, List, [], ◌∷◌, ◌++◌, refl, sym, ap, ◌∙◌, subst, arith, append_assoc, nat_lt, true, false, not, cond, Bool}
+use Rattle.std.proofs.Common.{◌≡◌, ℕ, suc, ◌<◌, ◌≤◌, List, [], ◌∷◌, ◌++◌, refl, sym, ap, ◌∙◌, subst, inl, inr, arith, append_assoc, nat_lt, true, false, not, cond, Bool}
 use Rattle.std.specs.Prelude.{All, IfSome, slice_get, ◌==◌, ◌||◌, if◌then◌else◌}
 use Rattle.std.specs.List.{list_any, AllPairs}
 use Rattle.std.specs.List.Sorted.{IsStrictlyIncreasing}
+use Rattle.std.proofs.lemmas.Bool.{cases_lt}
 use Rattle.std.proofs.lemmas.Bool.Decides.{nat_tests}
 use Rattle.std.proofs.lemmas.List.{append-nil}
-use Rattle.std.proofs.lemmas.List.Elements.{All-nil, All-cons, All-head, All-tail, All-append, All-push, All-weaker, filter-append}
+use Rattle.std.proofs.lemmas.List.Elements.{All-nil, All-cons, All-head, All-tail, All-append, All-push, All-weaker, filter-append, filter_passes}
 use Rattle.std.proofs.lemmas.List.Folds.{list_any-append, list_any_none}
 use Rattle.std.proofs.lemmas.List.Kept.{AllPairs-from_increasing, IsStrictlyIncreasing-filter}
 use Rattle.mls_tree.specs.TreeOperations.{insert_before, insert_number}
@@ -170,7 +171,28 @@ module _ (m i : ℕ) (is : List ℕ) where
   pub from-far : m ≤ i → leaves_from m (i ∷ is) ≡ i ∷ leaves_from m is
   from-far ge = ap (λ b. cond (not b) (i ∷ leaves_from m is) (leaves_from m is)) (not_less i m ge)
 
-before-all : (m : ℕ) (is : List ℕ) → All (λ i. i < m) is → (leaves_before m is ≡ is) × (leaves_from m is ≡ [])
+-- the entries below `n` are among those below a larger number
+pub before-nested : (n m : ℕ) (is : List ℕ) → n ≤ m → leaves_before n (leaves_before m is) ≡ leaves_before n is
+before-nested n m [] le = refl
+before-nested n m (i ∷ is) le =
+    let nested = before-nested n m is le in
+    elim (cases_lt i m) [
+      | inl lt ↦
+          ap (leaves_before n) (before-near m i is lt)
+          ∙ (elim (cases_lt i n) [
+            | inl low ↦ before-near n i (leaves_before m is) low ∙ ap (λ js. i ∷ js) nested ∙ sym (before-near n i is low)
+            | inr high ↦ before-far n i (leaves_before m is) high ∙ nested ∙ sym (before-far n i is high)
+          ])
+      | inr ge ↦ ap (leaves_before n) (before-far m i is ge) ∙ nested ∙ sym (before-far n i is (omega arith))
+    ]
+
+passes : (m i : ℕ) → nat_lt i m ≡ true → i < m
+passes m i e = grind (arith, nat_tests)
+
+pub before-low : (m : ℕ) (is : List ℕ) → All (λ i. i < m) (leaves_before m is)
+before-low m is = All-weaker (λ i. nat_lt i m ≡ true) (λ i. i < m) (passes m) (leaves_before m is) (filter_passes (λ i. nat_lt i m) is)
+
+pub before-all : (m : ℕ) (is : List ℕ) → All (λ i. i < m) is → (leaves_before m is ≡ is) × (leaves_from m is ≡ [])
 before-all m [] h = (refl, refl)
 before-all m (i ∷ is) h =
     let lt = All-head (λ i. i < m) i is h in

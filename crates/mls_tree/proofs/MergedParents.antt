@@ -1,5 +1,5 @@
 -- The parents above several leaves, each replaced once, and the same parents with one leaf added after the other.
-use Rattle.std.proofs.Common.{◌≡◌, ◌≢◌, ℕ, suc, ◌+◌, ◌*◌, ◌-◌, ◌<◌, ◌≤◌, List, [], ◌∷◌, ◌++◌, Option, Some, None, refl, sym, ap, ◌∙◌, subst, inl, inr, arith, append_assoc, map, nat_lt, true, false, Bool, length}
+use Rattle.std.proofs.Common.{◌≡◌, ◌≢◌, ℕ, zero, suc, ◌+◌, ◌*◌, ◌-◌, ◌<◌, ◌≤◌, List, [], ◌∷◌, ◌++◌, Option, Some, None, refl, sym, ap, ◌∙◌, subst, inl, inr, arith, append_assoc, map, nat_lt, true, false, Bool, length}
 use Rattle.std.specs.Prelude.{All, Contains, IfSome, slice_get, ◌==◌, ◌||◌, if◌then◌else◌}
 use Rattle.std.specs.List.{list_any}
 use Rattle.std.specs.List.Sorted.{IsStrictlyIncreasing}
@@ -10,10 +10,10 @@ use Rattle.std.proofs.lemmas.List.Elements.{All-nil, All-cons, All-head, All-tai
 use Rattle.mls_nodes.specs.Limits.{leaf_limit}
 use Rattle.mls_nodes.specs.declared.parent.ParentNode.{ParentNode}
 use Rattle.mls_nodes.specs.declared.node.Node.{Node}
-use Rattle.mls_tree.specs.Tree.{Tree, leaf, branch, leaf_count, IsParentNodeIndex}
+use Rattle.mls_tree.specs.Tree.{Tree, leaf, branch, height, leaf_count, IsParentNodeIndex}
 use Rattle.mls_tree.specs.TreeInternal.{leaves_at}
 use Rattle.mls_tree.specs.NodeArray.{parent_part, tree_in}
-use Rattle.mls_tree.specs.TreeOperations.{put_parent, change_above, insert_number, with_unmerged, add_unmerged, add_all_unmerged, is_overfilled, is_overfilled_above, overfills}
+use Rattle.mls_tree.specs.TreeOperations.{put_parent, change_above, insert_number, with_unmerged, add_unmerged, add_all_unmerged, is_overfilled, is_overfilled_above, overfills, blank_tree, extend}
 use Rattle.mls_tree.specs.Paths.{direct_path, direct_paths}
 use Rattle.mls_tree.specs.HashCache.{parents_from}
 use Rattle.mls_tree.specs.MergedLists.{insert_numbers, with_all_unmerged, overfills_parent, overfills_below, leaves_before, leaves_from, new_parent, new_parents, replacement}
@@ -120,6 +120,31 @@ overfills_below-cons first (branch l n r) i is =
 pub overfills-below : (is : List ℕ) (t : Tree) → overfills is t ≡ overfills_below 0 t is
 overfills-below [] t = sym (overfills_below-nil 0 t)
 overfills-below (i ∷ is) t = ap (λ b. is_overfilled_above 0 t i || b) (overfills-below is (add_unmerged t i)) ∙ sym (overfills_below-cons 0 t i is)
+
+overfills_parent-blank : (is : List ℕ) → overfills_parent is None ≡ false
+overfills_parent-blank [] = refl
+overfills_parent-blank (i ∷ is) = overfills_parent-blank is
+
+overfills_below-blank : (first h : ℕ) (is : List ℕ) → overfills_below first (blank_tree h) is ≡ false
+overfills_below-blank first zero is = refl
+overfills_below-blank first (suc h) is =
+    let m = first + leaf_count (blank_tree h) in
+    λ k. (overfills_below-blank first h (leaves_before m is) k || overfills_below-blank m h (leaves_from m is) k) || overfills_parent-blank is k
+
+alone : (a b c : Bool) → b ≡ false → c ≡ false → ((a || b) || c) ≡ a
+alone true b c e f = refl
+alone false b c e f = λ k. e k || f k
+
+-- leaves that a tree lacks overfill no list of the tree that is extended
+pub overfills-extend : (is : List ℕ) (t : Tree) → overfills is (extend t) ≡ overfills (leaves_before (leaf_count t) is) t
+overfills-extend is t =
+    let middle = 0 + leaf_count t in
+    let right = blank_tree (height t) in
+    overfills-below is (extend t)
+    ∙ alone (overfills_below 0 t (leaves_before middle is)) (overfills_below middle right (leaves_from middle is)) (overfills_parent is None)
+    (overfills_below-blank middle (height t) (leaves_from middle is)) (overfills_parent-blank is)
+    ∙ sym (overfills-below (leaves_before middle is) t)
+    ∙ ap (λ m. overfills (leaves_before m is) t) (let e : middle ≡ leaf_count t = omega arith in e)
 
 -- a list that takes numbers gets no shorter
 longer-by : (i : ℕ) (xs : List ℕ) (b : Bool) → list_any (λ x. x == i) xs ≡ b → length xs ≤ length (insert_number i xs)
@@ -360,10 +385,6 @@ new_parent-blank p (i ∷ is) = refl
 new_parent-set : (p : ℕ) (is : List ℕ) (n : ParentNode) → 0 < length is → new_parent p is (Some n) ≡ (p, record n { unmerged = insert_numbers is n.unmerged }) ∷ []
 new_parent-set p [] n lt = absurd (omega arith)
 new_parent-set p (i ∷ is) n lt = refl
-
-overfills_parent-blank : (is : List ℕ) → overfills_parent is None ≡ false
-overfills_parent-blank [] = refl
-overfills_parent-blank (i ∷ is) = overfills_parent-blank is
 
 module _ (xs : List (Option Node)) (first half level : ℕ) (deep : level ≢ 0) (e : half ≡ leaves_at (level - 1))
     (is front back : List ℕ) (up : IsStrictlyIncreasing is) (whole : is ≡ front ++ back) (low : All (λ i. i < first + half) front) (high : IfSome (slice_get back 0) (λ i. first + half ≤ i)) where

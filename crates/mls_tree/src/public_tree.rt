@@ -8,7 +8,7 @@ ghost use Rattle.mls_nodes.specs.NodeValues.{entry_value, node_value};
 ghost use Rattle.mls_tree.specs.Tree.{leaf_count, member_count, height, listing, node_at, leaf_at, IsParentNodeIndex};
 ghost use Rattle.mls_tree.specs.Paths.{direct_path, copath, filtered_direct_path, resolution_at, count_not_in};
 ghost use Rattle.mls_tree.specs.BlankLeaves.{first_blank_leaf, next_blank_leaf, IsFirstBlank, AllLeavesNonBlank};
-ghost use Rattle.mls_tree.specs.TreeOperations.{put_leaf, put_parent, blank_path, change_parent, with_unmerged, without_unmerged, add_unmerged, is_overfilled, is_overfilled_above, IsOverfull, truncate, blank_tree, extend, left_subtree, front_subtree, rejoined, seat};
+ghost use Rattle.mls_tree.specs.TreeOperations.{put_leaf, put_parent, blank_path, change_parent, with_unmerged, without_unmerged, add_unmerged, overfills, is_overfilled, is_overfilled_above, IsOverfull, truncate, blank_tree, extend, left_subtree, front_subtree, rejoined, seat};
 ghost use Rattle.mls_tree.specs.NodeView.{parent_of};
 ghost use Rattle.mls_tree.specs.MergedLists.{new_parents, overfills_below, replacement};
 ghost use Rattle.mls_tree.specs.TreeSizes.{IsPowerOfTwo, IsTooLong, IsListing};
@@ -515,6 +515,24 @@ impl PublicTree {
             (λ e. (e ≡ TreeError.TooManyLeaves) ⊎ (e ≡ TreeError.OutOfMemory)) }
     {
         self.tree.new_parents(alloc, indices)
+    }
+
+    /// Checks that these leaf indices can be added to the unmerged lists above them (RFC 9420, 12.1.1), as
+    /// [`Journal::add_all_unmerged`](crate::Journal::add_all_unmerged) adds them. They must be strictly increasing.
+    ///
+    /// # Errors
+    ///
+    /// `TooManyLeaves` if a list would have more than 1,048,576 entries. Or `OutOfMemory`.
+    pub fn check_unmerged_fit(&self, alloc: Global, indices: &[u32]) -> Result<(), TreeError>
+        requires { IsStrictlyIncreasing indices.now }
+        ensures fits { OnOk result (overfills indices.now self.now.tree ≡ false) }
+        ensures too_many_leaves { result ≡ Err TreeError.TooManyLeaves
+            → overfills indices.now self.now.tree ≡ true }
+        ensures possible_errors { IfErr result
+            (λ e. (e ≡ TreeError.TooManyLeaves) ⊎ (e ≡ TreeError.OutOfMemory)) }
+    {
+        drop(self.new_parents(alloc, indices)?);
+        Ok(())
     }
 
     /// Adds a leaf index to the unmerged leaves of the parent at node index `node_index`, in place, unless the parent

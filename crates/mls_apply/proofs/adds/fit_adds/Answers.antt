@@ -1,103 +1,85 @@
-use Rattle.std.proofs.Common.{◌≡◌, ℕ, List, Err, ◌∙◌, ◌+◌, ◌<◌, drop, ap, sym, subst}
-use Rattle.std.specs.Prelude.{All}
-use Rattle.std.specs.List.Sorted.{IsStrictlyIncreasing}
+use Rattle.std.proofs.Common.{◌≡◌, ℕ, List, Err, IsSome, ◌∙◌, ◌+◌, drop, refl, ap, sym, subst, arith}
 use Rattle.std.proofs.lemmas.Result.{err_from_is_err_and}
-use Rattle.mls_tree.specs.Tree.{leaf_count}
-use Rattle.mls_tree.specs.TreeOperations.{add_all_unmerged, overfills}
-use Rattle.mls_tree.specs.Journals.{before}
+use Rattle.mls_tree.proofs.MergedLists.{split-left_rises}
 use Rattle.mls_apply.specs.AppliedList.{after_adds, new_members}
 use Rattle.mls_apply.specs.Outline.{IsOutline}
 use Rattle.mls_apply.specs.declared.fault.ApplyFault.TheVariants.{TooManyLeaves}
 use Rattle.mls_apply.specs.declared.list_item.ListItem.{ListItem}
 use Rattle.mls_apply.proofs.Updating.{next_item}
 use Rattle.mls_apply.proofs.AddedAtOnce.{placed-up}
-use Rattle.mls_apply.proofs.Fitting.{Fitting, fitting-other, fitting-capacity, fitting-member, fitting-refused, fitting-all, fitting-others, consistent, outlined}
-use Rattle.mls_apply.proofs.adds.fit_adds.Goals.{in-Add+in_ok-index+in_ok-push, in_default}
+use Rattle.mls_apply.proofs.FoundLeaves.{Finding, finding-start, finding-small, finding-member, finding-other, finding-refused, finding-all}
+use Rattle.mls_apply.proofs.adds.fit_adds.Goals.{in-Add+in_ok-push, in_default}
 use Rattle.mls_apply.proofs.adds.fit_adds.Goals as goal
 
-pub put_member-requires-clause-capacity : goal.put_member-requires-clause-capacity
-put_member-requires-clause-capacity c =
+pub loop-item-init : goal.loop-item-init
+loop-item-init c =
+    let items = c.args.items.now in
+    let t = c.args.tree.now.tree in
+    subst (λ js. Finding (after_adds (new_members items) t) items t js 0) (sym c.new-added.ensures.items) (finding-start items t c.requires)
+
+pub overflow_add-start : goal.overflow_add-start
+overflow_add-start c =
     let items = c.args.items.now in
     let i = c.loop-item.item-index in
     let x = c.item-item.result in
-    let first = c.args.tree.now.tree in
-    let t = c.loop-item.tree.tree in
-    let added = c.loop-item.added.items in
-    let whole = after_adds (new_members items) first in
-    let here = subst (λ xs. Fitting whole xs first t added c.loop-item.start) (next_item items i x c.loop-item-test.true c.item-item.is) c.loop-item.invariant.fitting in
-    fitting-capacity whole x (drop (i + 1) items) first t added c.loop-item.start here c.in-Add.field-0 (ap (λ (y : ListItem). y.proposal) (sym c.item.view_is) ∙ c.in-Add.is)
+    let t = c.args.tree.now.tree in
+    let whole = after_adds (new_members items) t in
+    let here = subst (λ xs. Finding whole xs t c.loop-item.added.items c.loop-item.start) (next_item items i x c.loop-item-test.true c.item-item.is) c.loop-item.invariant in
+    let small =
+    finding-small whole x (drop (i + 1) items) t c.loop-item.added.items c.loop-item.start here c.in-Add.field-0 (ap (λ (y : ListItem). y.proposal) (sym c.item.view_is) ∙ c.in-Add.is)
+    c.leaf_from-index.result c.leaf_from-index.ensures in
+    omega arith
 
 pub loop-item-preserved : goal.loop-item-preserved
 loop-item-preserved c =
     let items = c.args.items.now in
     let i = c.loop-item.item-index in
     let x = c.item-item.result in
-    let first = c.args.tree.now.tree in
-    let t = c.loop-item.tree.tree in
+    let t = c.args.tree.now.tree in
     let added = c.loop-item.added.items in
     let rest = drop (i + 1) items in
-    let whole = after_adds (new_members items) first in
-    let here = subst (λ xs. Fitting whole xs first t added c.loop-item.start) (next_item items i x c.loop-item-test.true c.item-item.is) c.loop-item.invariant.fitting in
+    let whole = after_adds (new_members items) t in
+    let here = subst (λ xs. Finding whole xs t added c.loop-item.start) (next_item items i x c.loop-item-test.true c.item-item.is) c.loop-item.invariant in
     elim c.match-item.branch [
-      | in-Add+in_ok-index+in_ok-push w ↦
-          record {
-            fitting =
-                rw (w.tree-is, w.added-is, w.start-is, w.in_ok-push.ensures.items)
-                (fitting-member whole x rest first t added c.loop-item.start here w.in-Add.field-0 (ap (λ (y : ListItem). y.proposal) (sym c.item.view_is) ∙ w.in-Add.is) c.args.leaf.now w.in_ok-index.index w.put_member.new.tree.tree w.in_ok-index.ensures.put);
-            same_before = (λ k. before (w.journal-is k) (w.tree-is k).tree) ∙ w.put_member.ensures.before ∙ c.loop-item.invariant.same_before;
-          }
+      | in-Add+in_ok-push w ↦
+          rw (w.added-is, w.start-is, w.in_ok-push.ensures.items)
+          (finding-member whole x rest t added c.loop-item.start here w.in-Add.field-0 (ap (λ (y : ListItem). y.proposal) (sym c.item.view_is) ∙ w.in-Add.is)
+          w.leaf_from-index.result w.leaf_from-index.ensures)
       | in_default w ↦
-          record {
-            fitting =
-                rw (w.tree-is, w.added-is, w.start-is)
-                (fitting-other whole x rest first t added c.loop-item.start here (λ k e. w.in_default.not-Add k (ap (λ (y : ListItem). y.proposal) c.item.view_is ∙ e)));
-            same_before = (λ k. before (w.journal-is k) (w.tree-is k).tree) ∙ c.loop-item.invariant.same_before;
-          }
+          rw (w.added-is, w.start-is)
+          (finding-other whole x rest t added c.loop-item.start here (λ k e. w.in_default.not-Add k (ap (λ (y : ListItem). y.proposal) c.item.view_is ∙ e)))
     ]
 
-pub add_unmerged-requires-clause-increasing : goal.add_unmerged-requires-clause-increasing
-add_unmerged-requires-clause-increasing c =
-    subst IsStrictlyIncreasing (sym c.as_slice.ensures.value) (placed-up c.loop-item.tree.tree c.loop-item.added.items c.loop-item.start c.loop-item.invariant.fitting.placed)
-
-pub add_unmerged-requires-clause-inside : goal.add_unmerged-requires-clause-inside
-add_unmerged-requires-clause-inside c =
-    let t = c.loop-item.tree.tree in
-    subst (All (λ (i : ℕ). i < leaf_count t)) (sym c.as_slice.ensures.value) c.loop-item.invariant.fitting.placed.inside
-
-pub returns-in_err-add_unmerged-clause-too_many_leaves : goal.returns-in_err-add_unmerged-clause-too_many_leaves
-returns-in_err-add_unmerged-clause-too_many_leaves c =
-    let first = c.args.tree.now.tree in
-    let t = c.loop-item.tree.tree in
+pub check_lists-requires : goal.check_lists-requires
+check_lists-requires c =
     let added : List ℕ = c.loop-item.added.items in
-    let p = err_from_is_err_and c.from_residual-in_err-add_unmerged.result c.from_residual-in_err-add_unmerged.ensures.1 in
+    split-left_rises c.leaf_count.result added c.split_leaves.result.0.now c.split_leaves.result.1.now
+    (placed-up c.loop-item.invariant.tree added c.loop-item.start c.loop-item.invariant.adding.placed)
+    (sym c.as_slice.ensures.value ∙ c.split_leaves.ensures.whole) c.split_leaves.ensures.front c.split_leaves.ensures.rest
+
+pub returns-in_err-check_lists-clause-too_many_leaves : goal.returns-in_err-check_lists-clause-too_many_leaves
+returns-in_err-check_lists-clause-too_many_leaves c =
+    let t = c.args.tree.now.tree in
+    let added : List ℕ = c.loop-item.added.items in
+    let p = err_from_is_err_and c.from_residual-in_err-check_lists.result c.from_residual-in_err-check_lists.ensures.1 in
     λ mapped.
     let joined = sym p.1 ∙ mapped in
     let fault : p.0 ≡ TooManyLeaves = cc in
-    fitting-refused (after_adds (new_members c.args.items.now) first) c.args.items.now c.loop-item.item-index first t added c.loop-item.start c.loop-item-test.false c.loop-item.invariant.fitting
-    (ap (λ js. overfills js t) (sym c.as_slice.ensures.value) ∙ c.in_err-add_unmerged.ensures.too_many_leaves (ap Err (sym p.2 ∙ fault)))
+    finding-refused c.args.items.now c.loop-item.item-index t added c.split_leaves.result.0.now c.split_leaves.result.1.now c.loop-item.start c.loop-item-test.false c.loop-item.invariant
+    (sym c.as_slice.ensures.value ∙ c.split_leaves.ensures.whole) (rw (sym c.leaf_count.ensures) c.split_leaves.ensures.front) (rw (sym c.leaf_count.ensures) c.split_leaves.ensures.rest)
+    (c.in_err-check_lists.ensures.too_many_leaves (ap Err (sym p.2 ∙ fault)))
+
+outline : (c : goal.After-new) → IsOutline (after_adds (new_members c.args.items.now) c.args.tree.now.tree) c.loop-item.added.items c.args.tree.now.tree
+outline c =
+    finding-all c.args.items.now c.loop-item.item-index c.args.tree.now.tree c.loop-item.added.items c.split_leaves.result.0.now c.split_leaves.result.1.now c.loop-item.start
+    c.loop-item-test.false c.loop-item.invariant
+    (sym c.as_slice.ensures.value ∙ c.split_leaves.ensures.whole) (rw (sym c.leaf_count.ensures) c.split_leaves.ensures.front) (rw (sym c.leaf_count.ensures) c.split_leaves.ensures.rest)
+    c.in_ok-check_lists.ensures.fits
 
 pub returns-clause-fit : goal.returns-clause-fit
-returns-clause-fit c =
-    let first = c.args.tree.now.tree in
-    let t = c.loop-item.tree.tree in
-    let added : List ℕ = c.loop-item.added.items in
-    let whole = after_adds (new_members c.args.items.now) first in
-    consistent whole added
-    (fitting-all whole c.args.items.now c.loop-item.item-index first t added c.loop-item.start c.loop-item-test.false c.loop-item.invariant.fitting
-    (ap (λ js. overfills js t) (sym c.as_slice.ensures.value) ∙ c.in_ok-add_unmerged.ensures.fits))
+returns-clause-fit c = subst (λ o. IsSome o) (sym (outline c).is) refl
 
 pub returns-clause-outline : goal.returns-clause-outline
 returns-clause-outline c =
-    let items = c.args.items.now in
-    let first = c.args.tree.now.tree in
-    let t = c.loop-item.tree.tree in
-    let u = c.add_unmerged.new.tree.tree in
-    let added : List ℕ = c.loop-item.added.items in
-    let whole = after_adds (new_members items) first in
-    let walked = c.loop-item.invariant.fitting in
-    let past = c.loop-item-test.false in
-    subst (λ js. IsOutline whole js u) (sym c.new.ensures)
-    (outlined (new_members items) first u added
-    (fitting-all whole items c.loop-item.item-index first t added c.loop-item.start past walked (ap (λ js. overfills js t) (sym c.as_slice.ensures.value) ∙ c.in_ok-add_unmerged.ensures.fits))
-    (fitting-others whole items c.loop-item.item-index first t added c.loop-item.start past walked u
-    (c.in_ok-add_unmerged.ensures.in_lists ∙ ap (λ js. add_all_unmerged js t) c.as_slice.ensures.value)))
+    let t = c.args.tree.now.tree in
+    subst (λ js. IsOutline (after_adds (new_members c.args.items.now) t) js t) (sym c.new.ensures) (outline c)

@@ -1,5 +1,5 @@
 -- The first of some proposals with a reference, by an index of the references.
-use Rattle.std.proofs.Common.{◌≡◌, ◌∙◌, ℕ, suc, List, [], ◌∷◌, ◌++◌, Vec, Bool, true, false, cond, Option, Some, None, length, refl, sym, ap, subst, option_map, arith}
+use Rattle.std.proofs.Common.{◌≡◌, ◌∙◌, ℕ, zero, suc, List, [], ◌∷◌, ◌++◌, Vec, Bool, true, false, cond, Option, Some, None, length, map, refl, sym, ap, subst, option_map, arith}
 use Rattle.std.specs.Prelude.{if◌then◌else◌, is_some, MatchOption, ◌<◌, ◌≤◌}
 use Rattle.std.specs.Borrow.{Bor}
 use Rattle.std.specs.List.{HoldsAt, slice_index_or}
@@ -11,10 +11,11 @@ use Rattle.std.specs.declared.cmp.Ordering.{Ordering}
 use Rattle.std.specs.declared.cmp.Ordering.TheVariants.{Less, Equal, Greater}
 use Rattle.std.specs.Str.{bytes_eq}
 use Rattle.std.proofs.lemmas.Map.Lookups.{exact_bytes}
+use Rattle.std.proofs.lemmas.List.{map-append, length-map}
 use Rattle.std.proofs.lemmas.Option.{same_Some}
 use Rattle.std.proofs.lemmas.Cmp.{tied_itself, nat_list_cmp_total}
 use Rattle.mls_apply.specs.ResolvedList.{find_known}
-use Rattle.mls_apply.specs.PendingIndex.{position_of}
+use Rattle.mls_apply.specs.PendingIndex.{position_of, known_fingerprint, AreFingerprints}
 use Rattle.mls_apply.specs.declared.list_item.KnownProposal.{KnownProposal}
 
 -- the proposal at the position is the first one
@@ -174,3 +175,32 @@ module _ {A : Type 0} where
       go true q =
           both (position_of ks r)
           (subst (λ (s : List ℕ). is_some (position_of ks s) ≡ false) ((bytes_decides k.reference r).0 q) unknown)
+
+-- ---- fingerprints
+
+-- one fingerprint more
+pub prints_more : (ks new : List KnownProposal) (k : KnownProposal) (prints more : List ℕ) → AreFingerprints ks prints
+    → new ≡ ks ++ k ∷ [] → more ≡ prints ++ known_fingerprint k ∷ [] → AreFingerprints new more
+prints_more ks new k prints more are e f =
+    ap (map known_fingerprint) e
+    ∙ map-append known_fingerprint ks (k ∷ [])
+    ∙ ap (λ ys. ys ++ known_fingerprint k ∷ []) are
+    ∙ sym f
+
+-- there are as many fingerprints as proposals
+pub prints_length : (ks : List KnownProposal) (prints : List ℕ) → AreFingerprints ks prints → length prints ≡ length ks
+prints_length ks prints are = ap length (sym are) ∙ length-map ks known_fingerprint
+
+-- the fingerprint at a position is that of the proposal there
+pub print_at : (ks : List KnownProposal) (prints : List ℕ) (i : ℕ) (k : KnownProposal) (f : ℕ)
+    → AreFingerprints ks prints → i < length ks → k ≡ slice_index_or ks i k → f ≡ slice_index_or prints i f → f ≡ known_fingerprint k
+print_at [] prints i k f are lt at is = absurd (omega (arith, lt))
+print_at (x ∷ ks) [] i k f are lt at is = absurd (cc)
+print_at (x ∷ ks) (y ∷ prints) zero k f are lt at is = is ∙ sym (heads are) ∙ ap known_fingerprint (sym at)
+  where
+    heads : known_fingerprint x ∷ map known_fingerprint ks ≡ y ∷ prints → known_fingerprint x ≡ y
+    heads e = cc
+print_at (x ∷ ks) (y ∷ prints) (suc i) k f are lt at is = print_at ks prints i k f (tails are) (omega (arith, lt)) at is
+  where
+    tails : known_fingerprint x ∷ map known_fingerprint ks ≡ y ∷ prints → map known_fingerprint ks ≡ prints
+    tails e = cc

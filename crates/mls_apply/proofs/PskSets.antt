@@ -6,65 +6,83 @@ use Rattle.std.specs.Str.{bytes_eq}
 use Rattle.std.specs.declared.cmp.Ordering.{Ordering}
 use Rattle.std.specs.declared.cmp.Ordering.TheVariants as orders
 use Rattle.std.specs.Ordering.{nat_cmp, is_eq, ordering_then}
-use Rattle.std.specs.Cmp.{unsigned_ties}
-use Rattle.std.specs.Cmp.Lexicographic.{slice_cmp}
+use Rattle.std.specs.Cmp.{unsigned_ties, nat_eq_equiv}
+use Rattle.std.specs.Cmp.Lexicographic.{slice_cmp, bytes_decides}
 use Rattle.std.specs.BTreeMap.{is_at}
 use Rattle.std.specs.BTreeSet.{BTreeSet, contains, IsEmpty}
 use Rattle.std.proofs.lemmas.Bool.{false≢true}
 use Rattle.std.proofs.lemmas.List.{take_more, drop_more, take-append-drop}
 use Rattle.std.proofs.lemmas.Map.Text.{is_eq-slice_cmp}
+use Rattle.std.proofs.lemmas.Option.{same_Some}
+use Rattle.mls_nodes.specs.Fingerprints.{fingerprint}
 use Rattle.mls_msgs.specs.declared.pre_shared_key.PreSharedKeyId.{PreSharedKeyId}
 use Rattle.mls_msgs.specs.declared.pre_shared_key.PskKind.{PskKind}
 use Rattle.mls_msgs.specs.declared.pre_shared_key.PskKind.TheVariants as kinds
 use Rattle.mls_msgs.specs.declared.pre_shared_key.PskUsage.{PskUsage}
 use Rattle.mls_msgs.specs.declared.pre_shared_key.PskUsage.TheVariants as usages
+use Rattle.mls_msgs.specs.declared.proposal.Proposal.{Proposal}
+use Rattle.mls_msgs.specs.declared.proposal.Proposal.TheVariants as proposals
 use Rattle.mls_apply.specs.PskKeys.{kind_number, kind_bytes, kind_epoch}
-use Rattle.mls_apply.specs.PskProposals.{is_same_kind, is_same_psk, are_distinct_psks}
+use Rattle.mls_apply.specs.PskFingerprints.{id_fingerprint, psk_fingerprint}
+use Rattle.mls_apply.specs.PskProposals.{is_same_kind, is_same_psk, psk_in, are_distinct_psks}
 
--- the parts of one, as a set holds them
+-- the fingerprint and the parts of one, as a set holds them
 abbrev pub Parts : Type 0
-Parts = ℕ × Bor (List ℕ) × ℕ × Bor (List ℕ)
+Parts = ℕ × ℕ × ℕ × Bor (List ℕ) × Bor (List ℕ)
 
 -- their order
 abbrev pub by_parts : Parts → Parts → Ordering
 by_parts a b =
-    ordering_then (ordering_then (ordering_then (nat_cmp a.0 b.0) (slice_cmp nat_cmp a.1.now b.1.now)) (nat_cmp a.2 b.2))
-    (slice_cmp nat_cmp a.3.now b.3.now)
+    ordering_then (ordering_then (ordering_then (ordering_then (nat_cmp a.0 b.0) (nat_cmp a.1 b.1)) (nat_cmp a.2 b.2))
+    (slice_cmp nat_cmp a.3.now b.3.now)) (slice_cmp nat_cmp a.4.now b.4.now)
 
--- the parts are those of one
+-- the fingerprint and the parts are those of one
 pub record HasParts (p : Parts) (id : PreSharedKeyId) : Type 0 where
-  pub number : p.0 ≡ kind_number id.kind
-  pub bytes : p.1.now ≡ kind_bytes id.kind
+  pub print : p.0 ≡ id_fingerprint id
+  pub number : p.1 ≡ kind_number id.kind
   pub epoch : p.2 ≡ kind_epoch id.kind
-  pub nonce : p.3.now ≡ id.nonce
+  pub bytes : p.3.now ≡ kind_bytes id.kind
+  pub nonce : p.4.now ≡ id.nonce
+
+-- the fingerprint of a proposal is that of the PreSharedKeyID that it has
+pub id_of_proposal : (p : Proposal) (id : PreSharedKeyId) → psk_in p ≡ Some id → psk_fingerprint p ≡ id_fingerprint id
+id_of_proposal (proposals.Add _) id e = absurd (cc)
+id_of_proposal (proposals.Update _) id e = absurd (cc)
+id_of_proposal (proposals.Remove _) id e = absurd (cc)
+id_of_proposal (proposals.ContextExtensions _) id e = absurd (cc)
+id_of_proposal (proposals.PreSharedKey x) id e = ap id_fingerprint (same_Some x id e)
+id_of_proposal (proposals.ReInit _) id e = absurd (cc)
+id_of_proposal (proposals.ExternalInit _) id e = absurd (cc)
 
 pub is_eq-then : (a b : Ordering) → is_eq (ordering_then a b) ≡ (is_eq a && is_eq b)
 is_eq-then orders.Less b = refl
 is_eq-then orders.Equal b = refl
 is_eq-then orders.Greater b = refl
 
-and_true : (b : Bool) → (b && true) ≡ b
-and_true true = refl
-and_true false = refl
-
 pub and_false : (b : Bool) → (b && false) ≡ false
 and_false true = refl
 and_false false = refl
 
+and_comm : (a b : Bool) → (a && b) ≡ (b && a)
+and_comm true true = refl
+and_comm true false = refl
+and_comm false true = refl
+and_comm false false = refl
+
 -- whether the fields of two origins are equal
 abbrev same_fields : PskKind → PskKind → Bool
-same_fields k l = ((kind_number k == kind_number l) && bytes_eq (kind_bytes k) (kind_bytes l)) && (kind_epoch k == kind_epoch l)
+same_fields k l = ((kind_number k == kind_number l) && (kind_epoch k == kind_epoch l)) && bytes_eq (kind_bytes k) (kind_bytes l)
 
 usages_same : (u v : PskUsage) (g h : List ℕ) (e f : ℕ) → same_fields (kinds.Resumption u g e) (kinds.Resumption v h f) ≡ is_same_kind (kinds.Resumption u g e) (kinds.Resumption v h f)
-usages_same usages.Application usages.Application g h e f = refl
+usages_same usages.Application usages.Application g h e f = and_comm (e == f) (bytes_eq g h)
 usages_same usages.Application usages.ReInit g h e f = refl
 usages_same usages.Application usages.Branch g h e f = refl
 usages_same usages.ReInit usages.Application g h e f = refl
-usages_same usages.ReInit usages.ReInit g h e f = refl
+usages_same usages.ReInit usages.ReInit g h e f = and_comm (e == f) (bytes_eq g h)
 usages_same usages.ReInit usages.Branch g h e f = refl
 usages_same usages.Branch usages.Application g h e f = refl
 usages_same usages.Branch usages.ReInit g h e f = refl
-usages_same usages.Branch usages.Branch g h e f = refl
+usages_same usages.Branch usages.Branch g h e f = and_comm (e == f) (bytes_eq g h)
 
 left_other : (u : PskUsage) (id g : List ℕ) (e : ℕ) → same_fields (kinds.External id) (kinds.Resumption u g e) ≡ false
 left_other usages.Application id g e = refl
@@ -77,23 +95,47 @@ right_other usages.ReInit id g e = refl
 right_other usages.Branch id g e = refl
 
 kinds_same : (k l : PskKind) → same_fields k l ≡ is_same_kind k l
-kinds_same (kinds.External a) (kinds.External b) = and_true (bytes_eq a b)
+kinds_same (kinds.External a) (kinds.External b) = refl
 kinds_same (kinds.External a) (kinds.Resumption u g e) = left_other u a g e
 kinds_same (kinds.Resumption u g e) (kinds.External b) = right_other u b g e
 kinds_same (kinds.Resumption u g e) (kinds.Resumption v h f) = usages_same u v g h e f
 
-parts_same : (a b : Parts) → is_eq (by_parts a b) ≡ ((((a.0 == b.0) && bytes_eq a.1.now b.1.now) && (a.2 == b.2)) && bytes_eq a.3.now b.3.now)
+numbers_same : (m n : ℕ) → is_eq (nat_cmp m n) ≡ (m == n)
+numbers_same m n = sym (unsigned_ties m n)
+
+both_same : (a b : Ordering) (p q : Bool) → is_eq a ≡ p → is_eq b ≡ q → is_eq (ordering_then a b) ≡ (p && q)
+both_same a b p q e f = is_eq-then a b ∙ (λ i. e i && f i)
+
+parts_same : (a b : Parts) → is_eq (by_parts a b) ≡ (((((a.0 == b.0) && (a.1 == b.1)) && (a.2 == b.2)) && bytes_eq a.3.now b.3.now) && bytes_eq a.4.now b.4.now)
 parts_same a b =
-    is_eq-then (ordering_then (ordering_then (nat_cmp a.0 b.0) (slice_cmp nat_cmp a.1.now b.1.now)) (nat_cmp a.2 b.2)) (slice_cmp nat_cmp a.3.now b.3.now)
-    ∙ (λ i. (is_eq-then (ordering_then (nat_cmp a.0 b.0) (slice_cmp nat_cmp a.1.now b.1.now)) (nat_cmp a.2 b.2)
-    ∙ (λ j. (is_eq-then (nat_cmp a.0 b.0) (slice_cmp nat_cmp a.1.now b.1.now)
-    ∙ (λ k. sym (unsigned_ties a.0 b.0) k && is_eq-slice_cmp a.1.now b.1.now k)) j && sym (unsigned_ties a.2 b.2) j)) i && is_eq-slice_cmp a.3.now b.3.now i)
+    both_same _ _ _ _
+    (both_same _ _ _ _
+    (both_same _ _ _ _
+    (both_same _ _ _ _ (numbers_same a.0 b.0) (numbers_same a.1 b.1))
+    (numbers_same a.2 b.2))
+    (is_eq-slice_cmp a.3.now b.3.now))
+    (is_eq-slice_cmp a.4.now b.4.now)
+
+-- equal parts have equal fingerprints
+prints_same : (k l m n : List ℕ) → bytes_eq k l ≡ true → bytes_eq m n ≡ true → (fingerprint (k ++ m) == fingerprint (l ++ n)) ≡ true
+prints_same k l m n e f =
+    (λ i. fingerprint (k ++ m) == fingerprint (sym ((bytes_decides k l).0 e) i ++ sym ((bytes_decides m n).0 f) i))
+    ∙ nat_eq_equiv.refl (fingerprint (k ++ m))
+
+-- a test that two others imply may be left out
+implied : (f n e b c : Bool) → (b ≡ true → c ≡ true → f ≡ true) → ((((f && n) && e) && b) && c) ≡ (((n && e) && b) && c)
+implied f n e true true h = λ i. (((h refl refl i && n) && e) && true) && true
+implied f n e true false h = and_false (((f && n) && e) && true) ∙ sym (and_false ((n && e) && true))
+implied f n e false c h = ap (λ t. t && c) (and_false ((f && n) && e) ∙ sym (and_false (n && e)))
 
 -- the parts of two are equal where they are the same
 pub by_parts-same : (a b : Parts) (x y : PreSharedKeyId) → HasParts a x → HasParts b y → is_eq (by_parts a b) ≡ is_same_psk x y
 by_parts-same a b x y p q =
     parts_same a b
-    ∙ (λ i. (((p.number i == q.number i) && bytes_eq (p.bytes i) (q.bytes i)) && (p.epoch i == q.epoch i)) && bytes_eq (p.nonce i) (q.nonce i))
+    ∙ (λ i. ((((p.print i == q.print i) && (p.number i == q.number i)) && (p.epoch i == q.epoch i)) && bytes_eq (p.bytes i) (q.bytes i)) && bytes_eq (p.nonce i) (q.nonce i))
+    ∙ implied (id_fingerprint x == id_fingerprint y) (kind_number x.kind == kind_number y.kind) (kind_epoch x.kind == kind_epoch y.kind)
+    (bytes_eq (kind_bytes x.kind) (kind_bytes y.kind)) (bytes_eq x.nonce y.nonce)
+    (prints_same (kind_bytes x.kind) (kind_bytes y.kind) x.nonce y.nonce)
     ∙ ap (λ c. c && bytes_eq x.nonce y.nonce) (kinds_same x.kind y.kind)
 
 -- ---- lists with one more

@@ -183,10 +183,7 @@ pub fn join_items<'a>(
     let mut items = Vec::new(alloc);
     for entry in entries {
         if let ProposalOrRef::Proposal(proposal) = entry {
-            items.push(ListItem {
-                sender: Sender::NewMemberCommit,
-                proposal,
-            })?;
+            items.push(ListItem::new(Sender::NewMemberCommit, proposal))?;
         }
     }
     Ok(items)

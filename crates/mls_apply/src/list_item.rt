@@ -1,10 +1,11 @@
 //! The proposal list of a commit (RFC 9420, 12.4).
 
 ghost use Rattle.std.specs.Prelude.{◌≡◌, ◌⊎◌, None, Some, IfOk, IfErr, Err};
-ghost use Rattle.mls_apply.specs.ResolvedList.{entry_item, resolved};
+ghost use Rattle.mls_apply.specs.ResolvedList.{entry_item, item_of, resolved};
 
 use crate::fault::ApplyFault;
 use crate::pending_proposals::PendingProposals;
+use crate::psk_fingerprint::psk_fingerprint;
 use mls_msgs::{Commit, Proposal, ProposalOrRef, Sender};
 use mls_tree::HashValue;
 use std::alloc::Global;
@@ -19,18 +20,57 @@ pub struct ListItem<'a> {
     pub sender: Sender,
     /// The proposal.
     pub proposal: &'a Proposal,
+    /// The fingerprint of its PreSharedKeyID. 0 if the proposal is no PreSharedKey.
+    fingerprint: u64,
 }
 
 impl<'a> Model for ListItem<'a> {
+    ghost use Rattle.std.specs.Prelude.{◌≡◌};
     ghost use Rattle.mls_apply.specs.ListItemModel.{ListItemModel};
 
     ghost Value = { ListItemModel };
 
+    ghost use Rattle.mls_apply.specs.PskFingerprints.{psk_fingerprint};
+
     ghost view = { λ x. record { sender = x.sender; proposal = x.proposal.now } };
+
+    ghost invariant = { λ x. x.fingerprint ≡ psk_fingerprint x.proposal.now };
 }
 
 impl<'a> ListItem<'a> {
     ghost use Rattle.mls_apply.specs.ContextExtensions.{is_context_extensions};
+    ghost use Rattle.mls_apply.specs.PendingIndex.{known_fingerprint};
+    ghost use Rattle.mls_apply.specs.PskFingerprints.{psk_fingerprint};
+
+    /// Returns the item of a proposal and its sender. Hashes the PreSharedKeyID, if the proposal is a PreSharedKey.
+    pub fn new(sender: Sender, proposal: &'a Proposal) -> ListItem<'a>
+        ensures { result ≡ record { sender = sender; proposal = proposal.now } }
+    {
+        ListItem {
+            sender,
+            proposal,
+            fingerprint: psk_fingerprint(proposal),
+        }
+    }
+
+    /// Returns the item of a pending proposal, whose fingerprint is known.
+    pub(crate) fn of_known(known: &'a KnownProposal, fingerprint: u64) -> ListItem<'a>
+        requires { fingerprint ≡ known_fingerprint known.now }
+        ensures { result ≡ item_of known.now }
+    {
+        ListItem {
+            sender: known.sender,
+            proposal: &known.proposal,
+            fingerprint,
+        }
+    }
+
+    /// Returns the fingerprint of the PreSharedKeyID. 0 if the proposal is no PreSharedKey.
+    pub(crate) fn psk_fingerprint(&self) -> u64
+        ensures { result ≡ psk_fingerprint self.now.proposal }
+    {
+        self.fingerprint
+    }
 
     /// Returns whether it is a GroupContextExtensions proposal (RFC 9420, 12.1.7).
     pub fn is_context_extensions(&self) -> bool
@@ -69,17 +109,8 @@ fn entry_item<'a>(
     ensures { result ≡ entry_item committer known.now entry.now }
 {
     match entry {
-        ProposalOrRef::Proposal(proposal) => Some(ListItem {
-            sender: committer,
-            proposal,
-        }),
-        ProposalOrRef::Reference(reference) => {
-            let found = known.find(reference.as_slice())?;
-            Some(ListItem {
-                sender: found.sender,
-                proposal: &found.proposal,
-            })
-        }
+        ProposalOrRef::Proposal(proposal) => Some(ListItem::new(committer, proposal)),
+        ProposalOrRef::Reference(reference) => known.find_item(reference.as_slice()),
     }
 }
 

@@ -1,20 +1,24 @@
 //! The pending proposals of an epoch (RFC 9420, 12.4), found by their references.
 
 ghost use Rattle.std.specs.Prelude.{◌≡◌, ◌++◌, ◌∷◌, [], List, OnOk, OnErr, option_map};
-ghost use Rattle.mls_apply.specs.ResolvedList.{find_known};
+ghost use Rattle.mls_apply.specs.PendingIndex.{known_fingerprint};
+ghost use Rattle.mls_apply.specs.ResolvedList.{find_known, item_of};
 
-use crate::list_item::KnownProposal;
+use crate::list_item::{KnownProposal, ListItem};
+use crate::psk_fingerprint::psk_fingerprint;
 use std::alloc::{AllocError, Global};
 use std::collections::BTreeMap;
 use std::marker::Model;
 
-/// The proposals that members sent in the current epoch, in the order in which they were accepted, and an index of
-/// their references.
+/// The proposals that members sent in the current epoch, in the order in which they were accepted, an index of their
+/// references, and the fingerprints of their PreSharedKeyIDs.
 ///
 /// Contracts see the list of the proposals.
 #[derive(Drop)]
 pub struct PendingProposals {
     proposals: Vec<KnownProposal>,
+    /// The fingerprint of each proposal, by its position.
+    fingerprints: Vec<u64>,
     positions: BTreeMap<Vec<u8>, usize>,
 }
 
@@ -24,11 +28,39 @@ impl Model for PendingProposals {
 
     ghost Value = { List KnownProposal };
 
-    ghost use Rattle.mls_apply.specs.PendingIndex.{IsIndexed};
+    ghost use Rattle.mls_apply.specs.PendingIndex.{IsIndexed, AreFingerprints};
 
     ghost view = { λ p. p.proposals.items };
 
-    ghost invariant = { λ p. IsIndexed p.proposals.items p.positions };
+    ghost invariant = { λ p. IsIndexed p.proposals.items p.positions
+        × AreFingerprints p.proposals.items p.fingerprints.items };
+}
+
+/// Adds a proposal after the others, and its fingerprint after theirs.
+///
+/// # Errors
+///
+/// A failed allocation; both lists are unchanged.
+fn push_proposal(
+    proposals: &mut Vec<KnownProposal>,
+    fingerprints: &mut Vec<u64>,
+    proposal: KnownProposal,
+) -> Result<(), AllocError>
+    ensures proposals { OnOk result (proposals.new.items ≡ proposals.old.items ++ proposal ∷ []) }
+    ensures fingerprints { OnOk result
+        (fingerprints.new.items ≡ fingerprints.old.items ++ known_fingerprint proposal ∷ []) }
+    ensures proposals_on_error { OnErr result (proposals.new.items ≡ proposals.old.items) }
+    ensures fingerprints_on_error { OnErr result (fingerprints.new.items ≡ fingerprints.old.items) }
+{
+    let fingerprint = psk_fingerprint(&proposal.proposal);
+    proposals.push(proposal)?;
+    match fingerprints.push(fingerprint) {
+        Ok(()) => Ok(()),
+        Err(_) => {
+            drop(proposals.pop());
+            Err(AllocError)
+        }
+    }
 }
 
 impl PendingProposals {
@@ -38,6 +70,7 @@ impl PendingProposals {
     {
         PendingProposals {
             proposals: Vec::new(alloc),
+            fingerprints: Vec::new(alloc),
             positions: BTreeMap::new(alloc),
         }
     }
@@ -60,7 +93,22 @@ impl PendingProposals {
         }
     }
 
-    /// Adds a proposal after the others.
+    /// Returns the item of a proposal list that the first proposal with this reference is, if there is one. Takes the
+    /// fingerprint that is stored, and hashes nothing.
+    pub(crate) fn find_item(&self, reference: &[u8]) -> Option<ListItem<'_>>
+        ensures { result ≡ option_map item_of (find_known self.now reference.now) }
+    {
+        match self.positions.get(reference) {
+            Some(position) => {
+                let known = &self.proposals[*position];
+                let fingerprint = self.fingerprints[*position];
+                Some(ListItem::of_known(known, fingerprint))
+            }
+            None => None,
+        }
+    }
+
+    /// Adds a proposal after the others, and computes its fingerprint.
     ///
     /// # Errors
     ///
@@ -75,7 +123,7 @@ impl PendingProposals {
         };
         let is_new = !self.positions.contains_key(reference.as_slice());
         let position = self.proposals.len();
-        self.proposals.push(proposal)?;
+        push_proposal(&mut self.proposals, &mut self.fingerprints, proposal)?;
         if !is_new {
             return Ok(());
         }
@@ -83,6 +131,7 @@ impl PendingProposals {
             Ok(_) => Ok(()),
             Err(_) => {
                 drop(self.proposals.pop());
+                let _ = self.fingerprints.pop();
                 Err(AllocError)
             }
         }
@@ -93,6 +142,7 @@ impl PendingProposals {
         ensures { self.new ≡ [] }
     {
         self.proposals.clear();
+        self.fingerprints.clear();
         self.positions.clear();
     }
 }

@@ -2,10 +2,11 @@
 
 ghost use Rattle.std.specs.Prelude.{◌≡◌, IfOk, option_map};
 ghost use Rattle.mls_hash.specs.SuiteHash.{hash_length};
-ghost use Rattle.mls_apply.specs.PskKeys.{usage_number, kind_number, kind_bytes, kind_epoch};
+ghost use Rattle.mls_apply.specs.PskKeys.{usage_number, kind_number, kind_epoch};
 ghost use Rattle.mls_apply.specs.PskProposals.{is_usable, is_usable_kind, is_valid_psk, psk_of, have_distinct_psks};
 
 use crate::list_item::ListItem;
+use crate::psk_fingerprint::kind_bytes;
 use crate::senders::is_member;
 use mls_msgs::{PreSharedKeyId, Proposal, PskKind, PskUsage, Sender};
 use mls_nodes::GroupContext;
@@ -75,16 +76,6 @@ fn kind_number(kind: &PskKind) -> u8
     }
 }
 
-/// The id of an external PSK, or the group id of a resumption PSK.
-fn kind_bytes(kind: &PskKind) -> &[u8]
-    ensures { result.now ≡ kind_bytes kind.now }
-{
-    match kind {
-        PskKind::External(id) => id.as_slice(),
-        PskKind::Resumption { group_id, .. } => group_id.as_slice(),
-    }
-}
-
 /// The epoch of a resumption PSK, and 0 of an external one.
 fn kind_epoch(kind: &PskKind) -> u64
     ensures { result ≡ kind_epoch kind.now }
@@ -110,18 +101,20 @@ fn psk_of<'a>(item: &ListItem<'a>) -> Option<&'a PreSharedKeyId>
     }
 }
 
-/// Returns whether no two PreSharedKey proposals of a list have the same PreSharedKeyID (RFC 9420, 12.2).
+/// Returns whether no two PreSharedKey proposals of a list have the same PreSharedKeyID (RFC 9420, 12.2). Compares the
+/// bytes of two PreSharedKeyIDs only if their fingerprints and epochs are equal.
 pub(crate) fn have_distinct_psks(alloc: Global, items: &[ListItem<'_>]) -> Result<bool, AllocError>
     ensures { IfOk result (λ distinct. distinct ≡ have_distinct_psks items.now) }
 {
-    let mut met: BTreeSet<(u8, &[u8], u64, &[u8])> = BTreeSet::new(alloc);
+    let mut met: BTreeSet<(u64, u8, u64, &[u8], &[u8])> = BTreeSet::new(alloc);
     for item in items {
         if let Some(id) = psk_of(item) {
+            let fingerprint = item.psk_fingerprint();
             let number = kind_number(&id.kind);
             let bytes = kind_bytes(&id.kind);
             let epoch = kind_epoch(&id.kind);
             let nonce = id.nonce.as_slice();
-            if !met.insert((number, bytes, epoch, nonce))? {
+            if !met.insert((fingerprint, number, epoch, bytes, nonce))? {
                 return Ok(false);
             }
         }

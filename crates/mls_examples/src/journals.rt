@@ -276,10 +276,7 @@ fn items_of<'a>(
 ) -> Vec<ListItem<'a>> {
     let mut items = Vec::new(alloc);
     for (sender, proposal) in proposals {
-        let item = ListItem {
-            sender: Sender::Member(*sender),
-            proposal,
-        };
+        let item = ListItem::new(Sender::Member(*sender), proposal);
         have(rt, items.push(item));
     }
     items

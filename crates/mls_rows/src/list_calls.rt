@@ -43,10 +43,7 @@ fn proposals_at(row: &Row, at: usize) -> Result<Vec<(u32, Proposal)>, RowFault> 
 fn items_of(alloc: Global, proposals: &[(u32, Proposal)]) -> Result<Vec<ListItem<'_>>, AllocError> {
     let mut items = Vec::new(alloc);
     for (sender, proposal) in proposals {
-        items.push(ListItem {
-            sender: Sender::Member(*sender),
-            proposal,
-        })?;
+        items.push(ListItem::new(Sender::Member(*sender), proposal))?;
     }
     Ok(items)
 }

@@ -179,10 +179,7 @@ fn proposal_outcome(
 {
     match sender_in(vector) {
         Some(sender) => {
-            let item = ListItem {
-                sender,
-                proposal: &proposal,
-            };
+            let item = ListItem::new(sender, &proposal);
             let outcome = item_outcome(alloc, suite, tree, &item, vector);
             drop(proposal);
             outcome

@@ -28,7 +28,8 @@ loop-entry-preserved c =
       | in-Proposal+in_ok-push w ↦
           rw w.items-is
           (w.in_ok-push.ensures.items
-          ∙ ap (λ (xs : List ListItem). xs ++ joiner_item w.in-Proposal.proposal ∷ []) c.loop-entry.invariant
+          ∙ ap (λ (xs : List ListItem). xs ++ w.new.result ∷ []) c.loop-entry.invariant
+          ∙ ap (λ (x : ListItem). before ++ x ∷ []) w.new.ensures
           ∙ sym (next ∙ ap (λ (o : Option Proposal). before ++ map joiner_item (cons_option o [])) (ap value_of w.in-Proposal.is)))
       | in_default w ↦
           rw w.items-is

@@ -1,6 +1,11 @@
-use Rattle.std.proofs.Common.{refl, inl, inr}
+use Rattle.std.proofs.Common.{refl, subst, inl, inr}
 use Rattle.std.proofs.lemmas.Result.{IfOk-weaker}
+use Rattle.serde_json.specs.View.{view}
 use Rattle.mls_tree.specs.PublicTreeModel.{plain}
+use Rattle.mls_hash.specs.SuiteHash.{hash_of}
+use Rattle.mls_apply.specs.declared.list_item.ListItem.{ListItem}
+use Rattle.mls_vectors.specs.CheckModel.{outcome_of}
+use Rattle.mls_vectors.specs.TreeOperations.{IsItemOutcome}
 use Rattle.mls_vectors.proofs.tree_operations.proposal_outcome.Goals as goal
 
 pub returns-in-Some : goal.returns-in-Some
@@ -15,7 +20,7 @@ returns-in-Some c =
         has_proposal = c.requires.proposal;
         has_sender = c.in-Some.ensures.some;
       };
-      outcome_is = h;
+      outcome_is = subst (λ (x : ListItem). IsItemOutcome (hash_of c.args.suite) c.args.tree.now.tree x (view c.args.vector.now) (outcome_of o)) c.new-item.ensures h;
     })) c.item_outcome-outcome.ensures
 
 pub returns-in-None : goal.returns-in-None

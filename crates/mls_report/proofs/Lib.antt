@@ -1,6 +1,7 @@
 pub mod TreeLines
 pub mod Hashes
 pub mod Lines
+pub mod HexPieces
 pub mod Outcomes
 pub mod Replaying
 mod ReplayInputs

@@ -2,6 +2,7 @@
 
 ghost use Rattle.std.specs.Prelude.{◌≡◌, ◌++◌, codes, IfOk, OnOk, option_map, string_bytes};
 ghost use Rattle.std.specs.Fmt.{decimal};
+ghost use Rattle.hex.specs.Hex.{encode_lower};
 ghost use Rattle.sha2.specs.Sha256.{sha256};
 ghost use Rattle.mls_check.specs.Receipts.{receipt_input};
 ghost use Rattle.mls_report.specs.SignaturesReport as lines;
@@ -11,6 +12,9 @@ use crate::value_text::hex_of;
 use mls_check::{SignatureCheck, receipt};
 use mls_signatures::SignatureToVerify;
 use std::alloc::{AllocError, Global};
+
+/// The number of bytes whose digits are made at once.
+const PIECE: usize = 4_096;
 
 /// Returns the receipt of a needed signature, or `-` if it can have none.
 fn receipt_text(alloc: Global, needed: &SignatureToVerify) -> Result<String, AllocError>
@@ -30,14 +34,32 @@ fn receipt_text(alloc: Global, needed: &SignatureToVerify) -> Result<String, All
     }
 }
 
+/// Appends bytes in lower-case hexadecimal. The digits are made piece by piece, so that those of long bytes are not held twice.
+fn push_digits(alloc: Global, text: &mut String, bytes: &[u8]) -> Result<(), AllocError>
+    ensures { OnOk result (string_bytes text.new
+        ≡ string_bytes text.old ++ encode_lower bytes.now) }
+{
+    let mut rest = bytes;
+    while !rest.is_empty() {
+        let (piece, tail) = rest.split_at(rest.len().min(PIECE));
+        let digits = hex::encode(alloc, piece)?;
+        text.push_str(digits.as_str())?;
+        rest = tail;
+    }
+    Ok(())
+}
+
 /// Appends a space, and bytes in lower-case hexadecimal, or `-` if there are none.
 fn push_hex(alloc: Global, text: &mut String, bytes: &[u8]) -> Result<(), AllocError>
     ensures { OnOk result (string_bytes text.new
         ≡ string_bytes text.old ++ (codes " " ++ hex_text bytes.now)) }
 {
-    let hex = hex_of(alloc, bytes)?;
     text.push_str(" ")?;
-    text.push_str(hex.as_str())
+    if bytes.is_empty() {
+        text.push_str("-")
+    } else {
+        push_digits(alloc, text, bytes)
+    }
 }
 
 /// Appends the receipt of a needed signature, or `-` if it can have none, and the suite.

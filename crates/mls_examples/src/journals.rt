@@ -231,6 +231,7 @@ fn add_two(
     high: u32,
 ) {
     if low < high && high < tree.leaf_count() {
+        have(rt, tree.check_unmerged_fit(alloc, &[low, high]));
         have(rt, journal.add_all_unmerged(alloc, tree, &[low, high]))
     } else {
         panic!(rt; "two leaves of the tree, in increasing order")

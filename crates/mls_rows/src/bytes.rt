@@ -74,21 +74,28 @@ impl<'a> ByteReader<'a> {
         Ok(())
     }
 
+    /// Adds bytes.
+    fn add(&mut self, bytes: &[u8]) -> Result<(), RowFault> {
+        Ok(self.bytes.extend_from_slice(bytes)?)
+    }
+
+    /// Adds the text of the hexadecimal digits of bytes.
+    fn add_digits(&mut self, bytes: &[u8]) -> Result<(), RowFault> {
+        let digits = hex::encode(self.alloc, bytes)?;
+        self.add(digits.as_str().as_bytes())
+    }
+
     /// Adds what a bracket makes of its body.
     fn put(&mut self, bracket: Bracket, body: &[u8]) -> Result<(), RowFault> {
         match bracket {
-            Bracket::Group => self.bytes.extend_from_slice(body)?,
-            Bracket::Vector => put_vector(&mut self.bytes, body)?,
-            Bracket::Sha256 => self.bytes.extend_from_slice(&Sha256::digest(body))?,
-            Bracket::Sha384 => self.bytes.extend_from_slice(&Sha384::digest(body))?,
-            Bracket::Sha512 => self.bytes.extend_from_slice(&Sha512::digest(body))?,
-            Bracket::Digits => {
-                let digits = hex::encode(self.alloc, body)?;
-                self.bytes.extend_from_slice(digits.as_str().as_bytes())?;
-            }
-            Bracket::Times(count) => put_times(&mut self.bytes, body, count)?,
+            Bracket::Group => self.add(body),
+            Bracket::Vector => put_vector(&mut self.bytes, body),
+            Bracket::Sha256 => self.add(&Sha256::digest(body)),
+            Bracket::Sha384 => self.add(&Sha384::digest(body)),
+            Bracket::Sha512 => self.add(&Sha512::digest(body)),
+            Bracket::Digits => self.add_digits(body),
+            Bracket::Times(count) => put_times(&mut self.bytes, body, count),
         }
-        Ok(())
     }
 
     /// Closes a bracket.
@@ -107,10 +114,10 @@ impl<'a> ByteReader<'a> {
     fn take_word(&mut self, word: &str) -> Result<(), RowFault> {
         let Some(name) = word.strip_prefix('$') else {
             let bytes = digits(self.alloc, word)?;
-            return Ok(self.bytes.extend_from_slice(bytes.as_slice())?);
+            return self.add(bytes.as_slice());
         };
         match self.names.get(name) {
-            Some(bytes) => Ok(self.bytes.extend_from_slice(bytes)?),
+            Some(bytes) => self.add(bytes),
             None => Err(RowFault::NotDefined(copy_of(self.alloc, name)?)),
         }
     }
@@ -119,7 +126,7 @@ impl<'a> ByteReader<'a> {
     pub(crate) fn take(&mut self, token: &Token) -> Result<(), RowFault> {
         match token {
             Token::Word(word) => self.take_word(word.as_str()),
-            Token::Text(text) => Ok(self.bytes.extend_from_slice(text.as_str().as_bytes())?),
+            Token::Text(text) => self.add(text.as_str().as_bytes()),
             Token::Open(bracket) => self.open(*bracket),
             Token::CloseVector => self.close(true),
             Token::Close => self.close(false),

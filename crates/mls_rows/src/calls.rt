@@ -15,6 +15,8 @@ pub(crate) fn call(row: &Row) -> Result<CallResult, RowFault> {
         "suite" => hash_calls::suite(row),
         "hash_length" => hash_calls::length(row),
         "hash" => hash_calls::hash_of(row),
+        "fingerprint" => hash_calls::fingerprint_of(row),
+        "leaf_fingerprints" => hash_calls::leaf_fingerprints(row),
         "proposal_ref" => hash_calls::proposal_ref(row),
         "tree_hash" => hash_calls::subtree_hash(row),
         "original_hash" => hash_calls::original_hash(row),

@@ -7,7 +7,9 @@ use mls_hash::{
     HashFault, HashValue, Side, SubtreeHashes, Suite, hash, original_tree_hash, parent_hash,
     ref_hash, tree_hash,
 };
+use mls_nodes::{EncodedLeaf, fingerprint};
 use mls_tree::PublicTree;
+use mls_wire::Writer;
 use std::alloc::{AllocError, Global};
 
 /// A field that is the number of a cipher suite that is followed.
@@ -49,6 +51,27 @@ pub(crate) fn hash_of(row: &Row) -> Result<CallResult, RowFault> {
     let second = row.bytes(3)?;
     let found = hash(suite_at(row, 1)?, first.as_slice(), second.as_slice());
     CallResult::bytes(row.alloc, found.as_slice())
+}
+
+/// `fingerprint | KEY`: the fingerprint of a key, by which keys are compared first.
+pub(crate) fn fingerprint_of(row: &Row) -> Result<CallResult, RowFault> {
+    row.has(1)?;
+    let key = row.bytes(1)?;
+    let found = fingerprint(key.as_slice());
+    CallResult::bytes(row.alloc, &found.to_be_bytes())
+}
+
+/// `leaf_fingerprints | LEAF`: the fingerprints of the encryption key and of the signature key of a leaf.
+pub(crate) fn leaf_fingerprints(row: &Row) -> Result<CallResult, RowFault> {
+    row.has(1)?;
+    let leaf = row.value::<EncodedLeaf>(1, "a leaf")?;
+    let encryption = leaf.encryption_fingerprint();
+    let signature = leaf.signature_fingerprint();
+    drop(leaf);
+    let mut writer = Writer::new(row.alloc);
+    have(writer.write_u64(encryption))?;
+    have(writer.write_u64(signature))?;
+    CallResult::bytes(row.alloc, writer.bytes())
 }
 
 /// `proposal_ref | SUITE | AUTHENTICATED CONTENT`: the reference to a proposal.

@@ -10,7 +10,7 @@ use mls_apply::{
     merge_path, new_extensions,
 };
 use mls_msgs::{Proposal, Sender, UpdatePath};
-use mls_nodes::{GroupContext, write_extensions};
+use mls_nodes::{Extensions, GroupContext, write_extensions};
 use mls_tree::PublicTree;
 use mls_wire::{CodecFault, Opaque, Reader, Writer, read_value};
 use std::alloc::{AllocError, Global};
@@ -58,14 +58,15 @@ pub(crate) fn checked(row: &Row) -> Result<CallResult, RowFault> {
         _ => return Err(RowFault::Field(2, "path or nopath")),
     };
     let proposals = proposals_at(row, 3)?;
-    let list = items_of(row.alloc, proposals.as_slice())?;
-    let found = check_list(
-        row.alloc,
-        Sender::Member(committer),
-        list.as_slice(),
-        has_path,
-    );
-    drop(list);
+    let found = match items_of(row.alloc, proposals.as_slice()) {
+        Ok(list) => {
+            let sender = Sender::Member(committer);
+            let found = check_list(row.alloc, sender, list.as_slice(), has_path);
+            drop(list);
+            found
+        }
+        Err(_) => Err(ApplyFault::OutOfMemory),
+    };
     drop(proposals);
     match found {
         Ok(()) => CallResult::word(row.alloc, "none"),
@@ -81,53 +82,90 @@ fn applied_text(alloc: Global, applied: &Applied) -> Result<String, RowFault> {
     have(String::from_str(alloc, text.as_str().trim()))
 }
 
+/// The tree after a list, and the leaves that it added, or the fault.
+fn applied_result(
+    alloc: Global,
+    found: Result<Applied, ApplyFault>,
+) -> Result<CallResult, RowFault> {
+    match found {
+        Ok(applied) => {
+            let text = applied_text(alloc, &applied);
+            drop(applied);
+            CallResult::of(text)
+        }
+        Err(fault) => CallResult::fault(alloc, &fault),
+    }
+}
+
+/// What the list of a field makes of a tree.
+fn list_result(row: &Row, tree: &PublicTree, at: usize) -> Result<CallResult, RowFault> {
+    let proposals = proposals_at(row, at)?;
+    let found = match items_of(row.alloc, proposals.as_slice()) {
+        Ok(list) => {
+            let found = apply_list(row.alloc, tree, list.as_slice());
+            drop(list);
+            found
+        }
+        Err(_) => Err(ApplyFault::OutOfMemory),
+    };
+    drop(proposals);
+    applied_result(row.alloc, found)
+}
+
+/// The same, once the tree was found unchanged.
+fn result_beside(row: &Row, tree: &PublicTree, at: usize) -> Result<CallResult, RowFault> {
+    let before = tree_text(row.alloc, tree)?;
+    let found = list_result(row, tree, at)?;
+    let after = tree_text(row.alloc, tree)?;
+    if before.as_str() == after.as_str() {
+        Ok(found)
+    } else {
+        Err(RowFault::TwoResults)
+    }
+}
+
 /// `apply_list | TREE | LIST`: how many leaves the tree after a list has, its encoding, and the indices of the leaves that are added. The
 /// tree before has to be unchanged.
 pub(crate) fn applied(row: &Row) -> Result<CallResult, RowFault> {
     row.has(2)?;
     let tree = row.tree(1)?;
-    let before = tree_text(row.alloc, &tree)?;
-    let proposals = proposals_at(row, 2)?;
-    let list = items_of(row.alloc, proposals.as_slice())?;
-    let found = apply_list(row.alloc, &tree, list.as_slice());
-    drop(list);
-    drop(proposals);
-    let after = tree_text(row.alloc, &tree);
+    let found = result_beside(row, &tree, 2);
     drop(tree);
-    if before.as_str() != after?.as_str() {
-        return Err(RowFault::TwoResults);
-    }
-    match found {
-        Ok(applied) => {
-            let text = applied_text(row.alloc, &applied);
-            drop(applied);
-            CallResult::of(text)
-        }
-        Err(fault) => CallResult::fault(row.alloc, &fault),
-    }
+    found
+}
+
+/// The extensions after a list, given the context of a field.
+fn extensions_by(row: &Row, list: &[ListItem<'_>], at: usize) -> Result<Extensions, RowFault> {
+    let context = row.value::<GroupContext>(at, "a context")?;
+    let found = new_extensions(row.alloc, &context, list);
+    drop(context);
+    have(found)
+}
+
+/// Extensions as they are written.
+fn extensions_result(alloc: Global, extensions: &Extensions) -> Result<CallResult, RowFault> {
+    let mut writer = Writer::new(alloc);
+    have(write_extensions(alloc, extensions, &mut writer))?;
+    CallResult::bytes(alloc, writer.bytes())
 }
 
 /// `new_extensions | CONTEXT | LIST`: the extensions of the next epoch (12.1.7).
 pub(crate) fn extensions_after(row: &Row) -> Result<CallResult, RowFault> {
     row.has(2)?;
     let proposals = proposals_at(row, 2)?;
-    let list = items_of(row.alloc, proposals.as_slice())?;
-    let found = match row.value::<GroupContext>(1, "a context") {
-        Ok(context) => {
-            let found = new_extensions(row.alloc, &context, list.as_slice());
-            drop(context);
-            have(found)
+    let found = match items_of(row.alloc, proposals.as_slice()) {
+        Ok(list) => {
+            let found = extensions_by(row, list.as_slice(), 1);
+            drop(list);
+            found
         }
-        Err(fault) => Err(fault),
+        Err(_) => Err(RowFault::OutOfMemory),
     };
-    drop(list);
     drop(proposals);
     let extensions = found?;
-    let mut writer = Writer::new(row.alloc);
-    let written = write_extensions(row.alloc, &extensions, &mut writer);
+    let result = extensions_result(row.alloc, &extensions);
     drop(extensions);
-    have(written)?;
-    CallResult::bytes(row.alloc, writer.bytes())
+    result
 }
 
 /// A tree after a path, or the fault.
@@ -187,6 +225,15 @@ fn keys_at(row: &Row, at: usize) -> Result<Vec<Opaque>, RowFault> {
     Ok(keys)
 }
 
+/// Hashes, each as a vector.
+fn vectors_result(alloc: Global, hashes: &[Opaque]) -> Result<CallResult, RowFault> {
+    let mut writer = Writer::new(alloc);
+    for hash in hashes {
+        have(writer.write_vec(hash.as_slice()))?;
+    }
+    CallResult::bytes(alloc, writer.bytes())
+}
+
 /// `expected_parent_hashes | SUITE | TREE | COMMITTER | KEYS`: the parent hashes that a committer's path with these keys has to have, that of the leaf
 /// first, each as a vector.
 pub(crate) fn expected_hashes(row: &Row) -> Result<CallResult, RowFault> {
@@ -198,13 +245,7 @@ pub(crate) fn expected_hashes(row: &Row) -> Result<CallResult, RowFault> {
     let found = expected_parent_hashes(row.alloc, suite, &tree, committer, keys.as_slice());
     drop(tree);
     match found {
-        Ok(hashes) => {
-            let mut writer = Writer::new(row.alloc);
-            for hash in hashes {
-                have(writer.write_vec(hash.as_slice()))?;
-            }
-            CallResult::bytes(row.alloc, writer.bytes())
-        }
+        Ok(hashes) => vectors_result(row.alloc, hashes.as_slice()),
         Err(fault) => CallResult::fault(row.alloc, &fault),
     }
 }

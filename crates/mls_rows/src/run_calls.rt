@@ -244,8 +244,8 @@ fn file_name(file: &Option<FileName>) -> &str {
     }
 }
 
-/// What a group is followed from, in words.
-fn group_text(alloc: Global, group: &GroupFiles) -> Result<String, RowFault> {
+/// The name of a report and what its group is followed from, in words.
+fn group_text(alloc: Global, name: &str, group: &GroupFiles) -> Result<String, RowFault> {
     match group {
         GroupFiles::Info {
             profile,
@@ -254,15 +254,26 @@ fn group_text(alloc: Global, group: &GroupFiles) -> Result<String, RowFault> {
         } => {
             let (info, tree) = (info.as_str(), file_name(tree));
             match profile {
-                Profile::Members => have(format!(in alloc; "{info} {tree}")),
-                Profile::Full => have(format!(in alloc; "in full {info} {tree}")),
+                Profile::Members => have(format!(in alloc; "{name} {info} {tree}")),
+                Profile::Full => have(format!(in alloc; "{name} in full {info} {tree}")),
             }
         }
-        GroupFiles::State(state) => {
-            let state = state.as_str();
-            have(format!(in alloc; "state {state}"))
-        }
+        GroupFiles::State(state) => have(format!(in alloc; "{name} state {}", state.as_str())),
     }
+}
+
+/// A report of a group in words: its name, the group's files, and other words.
+fn group_report(
+    alloc: Global,
+    name: &str,
+    group: &GroupFiles,
+    others: &[&str],
+) -> Result<String, RowFault> {
+    let mut text = group_text(alloc, name, group)?;
+    for word in others {
+        have(write!(text, " {word}"))?;
+    }
+    Ok(text)
 }
 
 /// A report that checks signatures, in words.
@@ -272,24 +283,15 @@ fn report_text(alloc: Global, report: &GroupReport, receipts: &str) -> Result<St
             let (context, tree) = (context.as_str(), tree.as_str());
             have(format!(in alloc; "validate {context} {tree} {receipts}"))
         }
-        GroupReport::Validate(group) => {
-            let group = group_text(alloc, group)?;
-            have(format!(in alloc; "start {group} {receipts}"))
-        }
+        GroupReport::Validate(group) => group_report(alloc, "start", group, &[receipts]),
         GroupReport::Replay { group, files } => {
-            let group = group_text(alloc, group)?;
             let (log, save) = (files.log.as_str(), file_name(&files.save));
-            have(format!(in alloc; "replay {group} {log} {save} {receipts}"))
+            group_report(alloc, "replay", group, &[log, save, receipts])
         }
         GroupReport::Signatures { group, log } => {
-            let group = group_text(alloc, group)?;
-            let log = file_name(log);
-            have(format!(in alloc; "signatures {group} {log} {receipts}"))
+            group_report(alloc, "signatures", group, &[file_name(log), receipts])
         }
-        GroupReport::Gate(group) => {
-            let group = group_text(alloc, group)?;
-            have(format!(in alloc; "gate {group} {receipts}"))
-        }
+        GroupReport::Gate(group) => group_report(alloc, "gate", group, &[receipts]),
     }
 }
 

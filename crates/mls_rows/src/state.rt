@@ -119,6 +119,16 @@ fn add_bytes(alloc: Global, text: &mut String, bytes: &[u8]) -> Result<(), RowFa
     have(write!(text, " {digits}"))
 }
 
+/// Adds bytes that were made after a space.
+fn add_made<E: Drop>(
+    alloc: Global,
+    text: &mut String,
+    made: Result<Vec<u8>, E>,
+) -> Result<(), RowFault> {
+    let bytes = have(made)?;
+    add_bytes(alloc, text, bytes.as_slice())
+}
+
 /// A sender: a member by its leaf index.
 pub(crate) fn sender_text(alloc: Global, sender: Sender) -> Result<String, RowFault> {
     match sender {
@@ -129,6 +139,13 @@ pub(crate) fn sender_text(alloc: Global, sender: Sender) -> Result<String, RowFa
     }
 }
 
+/// Adds a pending proposal by its reference and its sender.
+fn add_pending(alloc: Global, text: &mut String, proposal: &KnownProposal) -> Result<(), RowFault> {
+    add_bytes(alloc, text, proposal.reference.as_slice())?;
+    let sender = sender_text(alloc, proposal.sender)?;
+    have(write!(text, " of {sender}"))
+}
+
 /// Adds a follower's state: the context, the ratchet_tree, the interim transcript hash, each pending proposal by its reference and
 /// its sender, and whether the group is over.
 pub(crate) fn add_state<C: SignatureCheck>(
@@ -136,15 +153,15 @@ pub(crate) fn add_state<C: SignatureCheck>(
     follower: &Follower<C>,
     text: &mut String,
 ) -> Result<(), RowFault> {
-    let context = have(encode_context(alloc, follower.context()))?;
-    add_bytes(alloc, text, context.as_slice())?;
-    let tree = have(encode_ratchet_tree(alloc, follower.tree().nodes()))?;
-    add_bytes(alloc, text, tree.as_slice())?;
+    add_made(alloc, text, encode_context(alloc, follower.context()))?;
+    add_made(
+        alloc,
+        text,
+        encode_ratchet_tree(alloc, follower.tree().nodes()),
+    )?;
     add_bytes(alloc, text, follower.interim().as_slice())?;
     for proposal in follower.known() {
-        add_bytes(alloc, text, proposal.reference.as_slice())?;
-        let sender = sender_text(alloc, proposal.sender)?;
-        write!(text, " of {sender}")?;
+        add_pending(alloc, text, proposal)?;
     }
     if follower.ended() {
         text.push_str(" ended")?;

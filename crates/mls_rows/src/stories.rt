@@ -100,6 +100,61 @@ impl Results {
     }
 }
 
+/// Checks that both validators accept a follower's tree, by this checker, and that each hash of the tree is cached.
+fn check_tree<C: SignatureCheck>(
+    alloc: Global,
+    follower: &Follower<C>,
+    checker: &C,
+    number: usize,
+) -> Result<(), RowFault> {
+    if !is_valid(alloc, follower, checker)? {
+        return Err(RowFault::NotValid(number));
+    }
+    if empty_count(alloc, follower)? > 0 {
+        return Err(RowFault::NotCached);
+    }
+    Ok(())
+}
+
+/// Checks that a follower has this state.
+fn check_state<C: SignatureCheck>(
+    alloc: Global,
+    follower: &Follower<C>,
+    before: &[u8],
+    number: usize,
+) -> Result<(), RowFault> {
+    if state_of(alloc, follower)?.as_slice() == before {
+        Ok(())
+    } else {
+        Err(RowFault::Changed(number))
+    }
+}
+
+/// Hands a follower a message, of which this was the state before. Returns whether it was accepted, and the result.
+fn taken_from<C: SignatureCheck>(
+    row: &Row,
+    at: usize,
+    follower: &mut Follower<C>,
+    checker: &C,
+    before: &[u8],
+) -> Result<(bool, String), RowFault> {
+    let alloc = row.alloc;
+    let number = at.saturating_sub(2);
+    let message = row.bytes(at)?;
+    let taken = follower.take(message.as_slice());
+    drop(message);
+    match taken {
+        Ok(taken) => {
+            check_tree(alloc, follower, checker, number)?;
+            Ok((true, taken_text(alloc, taken)?))
+        }
+        Err(refusal) => {
+            check_state(alloc, follower, before, number)?;
+            Ok((false, refusal_text(alloc, refusal)?))
+        }
+    }
+}
+
 /// Hands a follower a message. A refused message has to leave its state unchanged; after an accepted one both validators have to accept
 /// its tree, by this checker, and each hash of the tree has to be cached.
 fn hand_over<C: SignatureCheck>(
@@ -109,26 +164,10 @@ fn hand_over<C: SignatureCheck>(
     checker: &C,
     results: &mut Results,
 ) -> Result<(), RowFault> {
-    let alloc = row.alloc;
-    let message = row.bytes(at)?;
-    let before = state_of(alloc, follower)?;
-    match follower.take(message.as_slice()) {
-        Ok(taken) => {
-            if !is_valid(alloc, follower, checker)? {
-                return Err(RowFault::NotValid(at.saturating_sub(2)));
-            }
-            if empty_count(alloc, follower)? > 0 {
-                return Err(RowFault::NotCached);
-            }
-            results.add(taken_text(alloc, taken)?, true)
-        }
-        Err(refusal) => {
-            if before.as_slice() != state_of(alloc, follower)?.as_slice() {
-                return Err(RowFault::Changed(at.saturating_sub(2)));
-            }
-            results.add(refusal_text(alloc, refusal)?, false)
-        }
-    }
+    let before = state_of(row.alloc, follower)?;
+    let (is_accepted, result) = taken_from(row, at, follower, checker, before.as_slice())?;
+    drop(before);
+    results.add(result, is_accepted)
 }
 
 /// What follows the results of a story: nothing, the state or the tree.

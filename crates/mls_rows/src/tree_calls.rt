@@ -92,18 +92,34 @@ fn has_length(
     }
 }
 
+/// The numbers of a field, as a set.
+fn number_set(row: &Row, at: usize) -> Result<BTreeSet<u64>, RowFault> {
+    let mut set = BTreeSet::new(row.alloc);
+    for number in row.numbers(at)? {
+        have(set.insert(u64::from(number)))?;
+    }
+    Ok(set)
+}
+
+/// Whether a resolution has that many nodes other than those of a field.
+fn has_length_without(
+    row: &Row,
+    tree: &PublicTree,
+    index: u32,
+    length: usize,
+) -> Result<Result<bool, TreeError>, RowFault> {
+    let without = number_set(row, 3)?;
+    has_length(row.alloc, tree, index, &without, length)
+}
+
 /// `resolution_length | TREE | NODE INDEX | NUMBERS | NUMBER`: whether the resolution has that many nodes other than
 /// these.
 pub(crate) fn resolution_length(row: &Row) -> Result<CallResult, RowFault> {
     row.has(4)?;
     let index = row.number(2)?;
     let length = row.number(4)? as usize;
-    let mut without = BTreeSet::new(row.alloc);
-    for other in row.numbers(3)? {
-        have(without.insert(u64::from(other)))?;
-    }
     let tree = row.tree(1)?;
-    let found = has_length(row.alloc, &tree, index, &without, length);
+    let found = has_length_without(row, &tree, index, length);
     drop(tree);
     match found? {
         Ok(found) => CallResult::of(have(format!(in row.alloc; "{found}"))),

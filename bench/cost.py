@@ -6,7 +6,7 @@
                               arguments, one a line; `before`, those of a run that is subtracted, as of the start alone;
                               and the files that they name. It prints how many bytes came after that start. If messages
                               touch much of the group, it also prints how many they are, and which share of the time
-                              of a start each may take.
+                              of a start each may take; if a tree came, how many nodes it has.
 
 Where a message is sent again and again to a large group, the group and the number of messages grow with K together, so
 that a cost of the group's size for each message grows with the square of K. Where a message touches much of the group,

@@ -3,11 +3,11 @@
 # each shape has, for 4n, the bytes that came, and the seconds of the processor and the megabytes that they took beyond
 # what the start alone takes. Then it has the power of n by which the time grew, the bytes of memory for each byte that
 # came, and the last line of the report. If a message touches much of the group, it also has how much of the time of a
-# start each message takes. The script fails
+# start each message takes; if a tree came, the bytes of memory for each of its nodes. The script fails
 #
 # - at a growth beyond n^1.35, and if a message takes a greater part of a start than cost.py allows
 # - beyond 25 bytes a byte; if a message touches much of the group, only if that is also more than half of the memory of the
-#   start
+#   start; if a tree came, which is the group, only if that is also more than 120 bytes a node
 # - at a fault, and if a run takes 100 seconds.
 #
 # A time below 0.25 seconds and a memory below 8 MB are too small to be compared.
@@ -54,6 +54,7 @@ tell() {
             bytes = $7
             part = $8 && $4 > 0 ? seconds[NR] / $8 / $4 : 0
             share = $9 + 0
+            nodes = $10 + 0
         }
         END {
             least = seconds[1] > 0.03 ? seconds[1] : 0.03
@@ -61,7 +62,8 @@ tell() {
             each = memory / bytes
             slow = seconds[NR] >= 0.25 && (growth > 1.35 || part > share)
             last = (share ? sprintf("%.1f %% of a start  ", 100 * part) : "") last
-            large = memory > 8000000 && each > 25 && !(share && memory < group / 2)
+            last = (nodes ? sprintf("%.0f bytes a node  ", memory / nodes) : "") last
+            large = memory > 8000000 && each > 25 && !(share && memory < group / 2) && memory > 120 * nodes
             failed = fault || slow || large
             printf "%-31s %9d B %7.2f s  n^%.2f %7.1f MB %6.1f  %s%s\n", name, bytes, seconds[NR], growth,
                 memory / 1000000, each, last, failed ? "  FAILED" : ""

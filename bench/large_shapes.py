@@ -59,10 +59,11 @@ def refused_by(put, group, rule, **touched):
 
 
 def full_group(put, rule):
-    """The tree is full, and is extended for the commit. From rule 23 on the hashes of its new right subtree are needed."""
-    if rule < 23:
+    """The tree is full, and is extended for the commit. From rule 21 on its new nodes are among those that are checked, from
+    rule 23 on the hashes of its new right subtree are needed."""
+    if rule < 21:
         return refused_by(put, Group(put.full(8_192), put.full(1_024)), rule, touches_all=True)
-    return refused_by(put, Group(16_384, 2_048), rule, touches_all=True, share=0.5)
+    return refused_by(put, Group(16_384, 2_048), rule, touches_all=True, share=0.05 if rule < 23 else 0.5)
 
 
 def other_group(put, rule):

@@ -224,10 +224,15 @@ def nearly_blank(put):
     return Sparse(2 * middle, [0, middle])
 
 
+def node_count(group):
+    return 2 * len(group.leaves) - 1
+
+
 @shape
 def show_of_blanks(put):
     """A nearly blank tree, which has a line for each node. The lines may not be held at once."""
-    return put.files(["show", "tree", "TREE"], {"TREE": nearly_blank(put).tree()})
+    group = nearly_blank(put)
+    return put.files(["show", "tree", "TREE"], {"TREE": group.tree()}, node_count(group))
 
 
 @shape
@@ -236,7 +241,8 @@ def validate_blanks(put):
     subtrees may not take much more memory than the tree's bytes."""
     context = Group(2).context(bytes(32))
     context = context[:2] + number(5, 2) + context[4:]
-    return put.validate_tree(context, nearly_blank(put).tree())
+    group = nearly_blank(put)
+    return put.validate_tree(context, group.tree(), node_count(group))
 
 
 @shape
@@ -246,7 +252,7 @@ def saved_blanks(put):
     words = ["replay", "--info", put.write("info", group.info()), "--tree", put.write("tree", group.tree())]
     words += ["--trust", "--log", put.write("empty", b"")]
     put.lists([*words, "--save", os.path.join(put.folder, "saved")], words)
-    return [len(group.tree())]
+    return [len(group.tree()), 0, 0, node_count(group)]
 
 
 @shape
@@ -256,7 +262,7 @@ def operations_on_blanks(put):
     group = nearly_blank(put)
     case = {"cipher_suite": 1, "tree_before": group.tree().hex(), "proposal": remove(0).hex(), "proposal_sender": 0,
             "tree_hash_before": group.tree_hash().hex()}
-    return put.files(["check", "tree-operations", "VECTORS"], {"VECTORS": json.dumps([case]).encode()})
+    return put.files(["check", "tree-operations", "VECTORS"], {"VECTORS": json.dumps([case]).encode()}, node_count(group))
 
 
 @shape

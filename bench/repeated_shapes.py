@@ -219,18 +219,18 @@ def halving_by_a_stranger(put):
 
 @shape
 def shrinking_refused_19(put):
-    """A full left half and one member in the right one, and commits that remove this one and are refused by 19. The
-    left half may not be moved or copied for each commit."""
-    last = put.full(32_768)
+    """A full left half and one member in the right one, and commits that remove this one and are refused by 19. The nodes
+    of the left half are moved for each commit, but nothing else of them may be."""
+    last = 65_536
     group = Group(last + 1)
-    return put.replay(group, [commit(group, [inline(remove(last))], NO_NODES)] * put.size(25))
+    return put.replay(group, [commit(group, [inline(remove(last))], NO_NODES)] * put.size(25), share=0.05)
 
 
 @shape
 def full_group_of_many_refused_19(put):
     """The messages of `full-group-refused-19` in a far larger group. The tree, which is extended for each, may not be
     copied."""
-    return refused_by(put, Group(put.full(65_536), put.full(4_096)), 19, touches_all=True)
+    return refused_by(put, Group(131_072, 4_096), 19, touches_all=True, share=0.02)
 
 
 # ---- members of whom only the last one breaks a rule

@@ -46,13 +46,15 @@ class Input:
         told = [len(log) + (len(group.tree()) if touches_all else 0)]
         return told if share is None else [*told, len(messages), share]
 
-    def validate_tree(self, context, tree):
+    def validate_tree(self, context, tree, nodes=0):
         words = ["validate-tree", "--context", "CONTEXT", "--tree", "TREE", "--trust"]
-        return self.files(words, {"CONTEXT": context, "TREE": tree})
+        return self.files(words, {"CONTEXT": context, "TREE": tree}, nodes)
 
-    def files(self, words, files):
-        """A command on files, which its arguments name, in addition to its help."""
+    def files(self, words, files, nodes=0):
+        """A command on files, which its arguments name, in addition to its help. If one of them is a tree, the number of
+        its nodes."""
         for name, body in files.items():
             self.write(name, body)
         self.lists([os.path.join(self.folder, word) if word in files else word for word in words], ["--help"])
-        return [sum(map(len, files.values()))]
+        told = [sum(map(len, files.values()))]
+        return [*told, 0, 0, nodes] if nodes else told

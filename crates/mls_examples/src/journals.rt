@@ -187,10 +187,7 @@ fn changed_node_indices_are_returned(rt: HostRuntime) {
         (&[Change::Leaf(1)], "[2]"),
         (&[Change::Path(0)], "[1, 3]"),
         (&[Change::Entry(2)], "[3]"),
-        (
-            &[Change::Leaf(1), Change::Growth],
-            "[2, 7, 8, 9, 10, 11, 12, 13, 14]",
-        ),
+        (&[Change::Leaf(1), Change::Growth], "[2]"),
         (
             &[Change::Growth, Change::Halving],
             "[7, 8, 9, 10, 11, 12, 13, 14]",

@@ -1,15 +1,18 @@
 -- The places at which a tree differs from the tree before a change.
-use Rattle.std.proofs.Common.{◌≡◌, ◌≢◌, get_or, ℕ, zero, suc, ◌+◌, ◌*◌, ◌-◌, ◌/◌, ◌<◌, ◌≤◌, List, [], ◌∷◌, ◌++◌, drop, length, Option, Some, None, true, false, refl, sym, ap, ◌∙◌, subst, inl, inr, arith, unwrap_or, nat_lt, Box, Global}
-use Rattle.std.specs.Prelude.{slice_get, ◌⊎◌, ◌==◌, if◌then◌else◌}
-use Rattle.std.specs.List.{list_any, range_with_len}
-use Rattle.std.proofs.lemmas.Bool.{cases_lt}
+use Rattle.std.proofs.Common.{◌≡◌, ◌≢◌, get_or, ℕ, Bool, cond, zero, suc, ◌+◌, ◌*◌, ◌-◌, ◌/◌, ◌<◌, ◌≤◌, List, [], ◌∷◌, ◌++◌, drop, length, Option, Some, None, true, false, refl, sym, ap, ◌∙◌, subst, inl, inr, arith, unwrap_or, nat_lt, Box, Global}
+use Rattle.std.specs.Prelude.{slice_get, ◌⊎◌, ◌==◌, ◌&&◌, if◌then◌else◌, is_some}
+use Rattle.std.specs.List.{list_any, filter, range_with_len}
+use Rattle.std.proofs.lemmas.Bool.{cases_lt, eqb-true}
 use Rattle.std.proofs.lemmas.Bool.Decides.{nat_tests}
 use Rattle.std.proofs.lemmas.List.{append_assoc, drop_more}
+use Rattle.std.proofs.lemmas.List.Elements.{filter-append}
 use Rattle.std.proofs.lemmas.List.Folds.{list_any-append}
+use Rattle.std.proofs.lemmas.Map.Views.{any-filter_same}
 use Rattle.std.proofs.lemmas.Option.{slice_get_past}
 use Rattle.std.proofs.Math.ListN.{drop_of_length-le}
 use Rattle.mls_nodes.specs.declared.leaf.LeafNode.{LeafNode}
 use Rattle.mls_nodes.specs.declared.parent.ParentNode.{ParentNode}
+use Rattle.mls_nodes.specs.NodeModel.{NodeValue}
 use Rattle.mls_tree.specs.Tree.{Tree, leaf, branch, height, leaf_count, listing, leaf_entry, parent_entry, node_at, Subtree, subtree_at, IsBranch, IsParent, IsPerfect, entry_of}
 use Rattle.mls_tree.specs.TreeInternal.{leaves_at}
 use Rattle.mls_tree.specs.RatchetTree.{HasShape, RatchetTree}
@@ -20,7 +23,7 @@ use Rattle.mls_tree.specs.ChangedNodes.{AgreeExceptAt}
 use Rattle.mls_tree.specs.declared.journal.UndoEntry.{UndoEntry}
 use Rattle.mls_tree.specs.declared.journal.UndoEntry.TheVariants.{Leaf, Parent, AddedUnmerged, Extended, Truncated}
 use Rattle.mls_tree.proofs.Arrays.{slice_get-set_other}
-use Rattle.mls_tree.proofs.Choices.{false_no_true, below, from}
+use Rattle.mls_tree.proofs.Choices.{false_no_true, below}
 use Rattle.mls_tree.proofs.Elsewhere.{put_parent-elsewhere}
 use Rattle.mls_tree.proofs.Growing.{slice_get-append_left}
 use Rattle.mls_tree.proofs.Kept.{either, or_none, height-put_leaf, IsPerfect-put_leaf, leaf_count-put_leaf, leaf_count-put_parent}
@@ -64,6 +67,29 @@ range-more a (suc n) =
 pub range-pushed : (old mid new : List ℕ) (a n : ℕ) → mid ≡ old ++ range_with_len a n → new ≡ mid ++ (a + n) ∷ [] → new ≡ old ++ range_with_len a (n + 1)
 range-pushed old mid new a n e pushed =
     pushed ∙ ap (λ v. v ++ (a + n) ∷ []) e ∙ append_assoc old (range_with_len a n) ((a + n) ∷ []) ∙ ap (λ v. old ++ v) (sym (range-more a n))
+
+-- the non-blank nodes of a range by one node index longer
+pub non_blank-more : (u : Tree) (old mid new : List ℕ) (a n : ℕ) (b : Bool) → mid ≡ old ++ filter (λ q. is_some (node_at u q)) (range_with_len a n)
+    → is_some (node_at u (a + n)) ≡ b → new ≡ mid ++ cond b ((a + n) ∷ []) [] → new ≡ old ++ filter (λ q. is_some (node_at u q)) (range_with_len a (n + 1))
+non_blank-more u old mid new a n b e here pushed =
+    let test : ℕ → Bool = λ q. is_some (node_at u q) in
+    let last = cond b ((a + n) ∷ []) [] in
+    pushed ∙ ap (λ v. v ++ last) e ∙ append_assoc old (filter test (range_with_len a n)) last
+    ∙ ap (λ v. old ++ v)
+    (sym
+    (ap (filter test) (range-more a n) ∙ filter-append test (range_with_len a n) ((a + n) ∷ [])
+    ∙ ap (λ k. filter test (range_with_len a n) ++ cond k ((a + n) ∷ []) []) here))
+
+not_both : (o : Option NodeValue) (b : Bool) → (is_some o && b) ≡ false → (o ≡ None) ⊎ (b ≡ false)
+not_both None b e = inl refl
+not_both (Some x) b e = inr e
+
+-- a place that is not among the non-blank nodes of a range
+not_listed : (u : Tree) (a n p : ℕ) → list_any (λ q. q == p) (filter (λ q. is_some (node_at u q)) (range_with_len a n)) ≡ false
+    → (node_at u p ≡ None) ⊎ ((p < a) ⊎ (a + n ≤ p))
+not_listed u a n p out =
+    let whole = any-filter_same (λ q. q == p) (λ q. is_some (node_at u q)) (is_some (node_at u p)) (λ q e. ap (λ k. is_some (node_at u k)) (eqb-true q p e)) (range_with_len a n) in
+    elim (not_both (node_at u p) (list_any (λ q. q == p) (range_with_len a n)) (sym whole ∙ out)) [ inl blank ↦ inl blank | inr none ↦ inr (outside a n p none) ]
 
 -- ---- one node is replaced
 
@@ -112,11 +138,6 @@ left-entry l n r p away =
     ])
     ∙ sym (node_at-listing (branch l n r) p)
 
-same-left : (l : Tree) (n : Option ParentNode) (r : Tree) (a c : ℕ) → a ≡ 2 * leaf_count l - 1 → c ≡ 2 * leaf_count r
-    → AgreeExceptAt (range_with_len a c) l (branch l n r)
-same-left l n r a c from count p out =
-    left-entry l n r p (elim (outside a c p out) [ inl lt ↦ inl (omega arith) | inr ge ↦ inr (omega arith) ])
-
 halves-count : (l r : Tree) (n : Option ParentNode) → IsPerfect (branch l n r) → leaf_count l ≡ leaf_count r
 halves-count l r n h = leaf_count-perfect l h.1 ∙ ap leaves_at h.0 ∙ sym (leaf_count-perfect r h.2)
 
@@ -161,66 +182,84 @@ shape-before (Truncated b) t s = shape-rejoined t b.value.tree s b.value.shape
 
 -- the tree before a change of a tree of n leaves has m leaves; and the places that `new` names are those of `old` and each at which
 -- the change has done something
-pub record Lists (old new : List ℕ) (n m : ℕ) (x : UndoEntry) : Type 0 where
+pub record Lists (u : Tree) (old new : List ℕ) (n m : ℕ) (x : UndoEntry) : Type 0 where
   pub count : (t : RatchetTree) → leaf_count t.tree ≡ n → leaf_count (undone x t.tree) ≡ m
-  pub node_indices : (t : RatchetTree) (u : Tree) → leaf_count t.tree ≡ n → AgreeExceptAt old t.tree u → AgreeExceptAt new (undone x t.tree) u
+  pub node_indices : (t : RatchetTree) → leaf_count t.tree ≡ n → AgreeExceptAt old t.tree u → AgreeExceptAt new (undone x t.tree) u
 
 -- where places are added that tell of the change
-lists_changes-added : (old new more : List ℕ) (n m : ℕ) (x : UndoEntry) → new ≡ old ++ more
-    → ((t : RatchetTree) → leaf_count t.tree ≡ n → (leaf_count (undone x t.tree) ≡ m) × AgreeExceptAt more (undone x t.tree) t.tree) → Lists old new n m x
-lists_changes-added old new more n m x pushed changes_listed = record {
+lists_changes-added : (u : Tree) (old new more : List ℕ) (n m : ℕ) (x : UndoEntry) → new ≡ old ++ more
+    → ((t : RatchetTree) → leaf_count t.tree ≡ n → (leaf_count (undone x t.tree) ≡ m) × AgreeExceptAt more (undone x t.tree) t.tree) → Lists u old new n m x
+lists_changes-added u old new more n m x pushed changes_listed = record {
   count = λ t e. (changes_listed t e).0;
-  node_indices = λ t u e same.
+  node_indices = λ t e same.
       subst (λ ps. AgreeExceptAt ps (undone x t.tree) u) (sym pushed) (same-append (undone x t.tree) t.tree u old more ((changes_listed t e).1) same);
 }
 
 -- where the change was none
-lists_changes-none : (old new : List ℕ) (n : ℕ) (x : UndoEntry) → new ≡ old → ((t : RatchetTree) → leaf_count t.tree ≡ n → undone x t.tree ≡ t.tree) → Lists old new n n x
-lists_changes-none old new n x stays none = record {
+lists_changes-none : (u : Tree) (old new : List ℕ) (n : ℕ) (x : UndoEntry) → new ≡ old → ((t : RatchetTree) → leaf_count t.tree ≡ n → undone x t.tree ≡ t.tree) → Lists u old new n n x
+lists_changes-none u old new n x stays none = record {
   count = λ t e. ap leaf_count (none t e) ∙ e;
-  node_indices = λ t u e same p out. ap (λ v. node_at v p) (none t e) ∙ same p (ap (λ ps. list_any (λ q. q == p) ps) (sym stays) ∙ out);
+  node_indices = λ t e same p out. ap (λ v. node_at v p) (none t e) ∙ same p (ap (λ ps. list_any (λ q. q == p) ps) (sym stays) ∙ out);
 }
 
-module _ (old new : List ℕ) (n : ℕ) where
-  pub lists_changes-leaf : (i : ℕ) (x : _) → i < n → new ≡ old ++ 2 * i ∷ [] → Lists old new n n (Leaf i x)
+module _ (u : Tree) (old new : List ℕ) (n : ℕ) where
+  pub lists_changes-leaf : (i : ℕ) (x : _) → i < n → new ≡ old ++ 2 * i ∷ [] → Lists u old new n n (Leaf i x)
   lists_changes-leaf i x inside pushed =
-      lists_changes-added old new (2 * i ∷ []) n n (Leaf i x) pushed
+      lists_changes-added u old new (2 * i ∷ []) n n (Leaf i x) pushed
       (λ t e.
       let put : undone (Leaf i x) t.tree ≡ put_leaf 0 t.tree i x = below i (leaf_count t.tree) (put_leaf 0 t.tree i x) t.tree (omega arith) in (
         ap leaf_count put ∙ leaf_count-put_leaf 0 t.tree i x ∙ e,
         subst (λ w. AgreeExceptAt (2 * i ∷ []) w t.tree) (sym put) (same-put_leaf t.tree i x (omega arith)),
       ))
 
-  pub lists_changes-no_leaf : (i : ℕ) (x : _) → n ≤ i → new ≡ old → Lists old new n n (Leaf i x)
-  lists_changes-no_leaf i x past stays =
-      lists_changes-none old new n (Leaf i x) stays (λ t e. from i (leaf_count t.tree) (put_leaf 0 t.tree i x) t.tree (omega arith))
-
-  pub lists_changes-parent : (p : ℕ) (x : _) → new ≡ old ++ p ∷ [] → Lists old new n n (Parent p x)
+  pub lists_changes-parent : (p : ℕ) (x : _) → new ≡ old ++ p ∷ [] → Lists u old new n n (Parent p x)
   lists_changes-parent p x pushed =
-      lists_changes-added old new (p ∷ []) n n (Parent p x) pushed (λ t e. (leaf_count-put_parent 0 t.tree p _ ∙ e, same-put_parent t.tree p _))
+      lists_changes-added u old new (p ∷ []) n n (Parent p x) pushed (λ t e. (leaf_count-put_parent 0 t.tree p _ ∙ e, same-put_parent t.tree p _))
 
-  pub lists_changes-in_lists : (p i : ℕ) → new ≡ old ++ p ∷ [] → Lists old new n n (AddedUnmerged p i)
+  pub lists_changes-in_lists : (p i : ℕ) → new ≡ old ++ p ∷ [] → Lists u old new n n (AddedUnmerged p i)
   lists_changes-in_lists p i pushed =
-      lists_changes-added old new (p ∷ []) n n (AddedUnmerged p i) pushed (λ t e. (leaf_count-put_parent 0 t.tree p _ ∙ e, same-put_parent t.tree p _))
+      lists_changes-added u old new (p ∷ []) n n (AddedUnmerged p i) pushed (λ t e. (leaf_count-put_parent 0 t.tree p _ ∙ e, same-put_parent t.tree p _))
 
 -- a tree of one leaf has no half
 no_half : (t : Tree) → leaf_count t ≡ 1 → left_subtree t ≡ t
 no_half (leaf x) e = refl
 no_half (branch l n r) e = absurd (omega (arith, leaf_count-positive l, leaf_count-positive r))
 
-pub lists_changes-one : (old new : List ℕ) (n : ℕ) → n ≡ 1 → new ≡ old → Lists old new n 1 Extended
-lists_changes-one old new n one stays = subst (λ m. Lists old new n m Extended) one (lists_changes-none old new n Extended stays (λ t e. no_half t.tree (e ∙ one)))
+pub lists_changes-one : (u : Tree) (old new : List ℕ) (n : ℕ) → n ≡ 1 → new ≡ old → Lists u old new n 1 Extended
+lists_changes-one u old new n one stays = subst (λ m. Lists u old new n m Extended) one (lists_changes-none u old new n Extended stays (λ t e. no_half t.tree (e ∙ one)))
 
-half-changes_listed : (t : Tree) (n half : ℕ) → IsPerfect t → leaf_count t ≡ n → n ≢ 1 → half ≡ n / 2
-    → (leaf_count (left_subtree t) ≡ half) × AgreeExceptAt (range_with_len (2 * half - 1) (2 * (n - half))) (left_subtree t) t
-half-changes_listed (leaf x) n half h e more at = absurd (more (sym e))
-half-changes_listed (branch l v r) n half h e more at =
-    let level = halves-count l r v h in
-    (omega arith, same-left l v r (2 * half - 1) (2 * (n - half)) (omega arith) (omega arith))
+-- the left half, and its nodes
+half-kept : (t : Tree) (n half : ℕ) → IsPerfect t → leaf_count t ≡ n → n ≢ 1 → half ≡ n / 2
+    → (leaf_count (left_subtree t) ≡ half) × ((p : ℕ) → (p < 2 * half - 1) ⊎ (2 * half - 1 + 2 * (n - half) ≤ p) → node_at (left_subtree t) p ≡ node_at t p)
+half-kept (leaf x) n half h e more at = absurd (more (sym e))
+half-kept (branch l v r) n half h e more at =
+    let level = halves-count l r v h in (
+      omega arith,
+      λ p away. left-entry l v r p (elim away [ inl lt ↦ inl (omega arith) | inr ge ↦ inr (omega arith) ]),
+    )
 
-pub lists_changes-grown : (old new : List ℕ) (n half : ℕ) → n ≢ 1 → half ≡ n / 2 → new ≡ old ++ range_with_len (2 * half - 1) (2 * (n - half)) → Lists old new n half Extended
-lists_changes-grown old new n half more at pushed =
-    lists_changes-added old new (range_with_len (2 * half - 1) (2 * (n - half))) n half Extended pushed (λ t e. half-changes_listed t.tree n half t.shape.perfect e more at)
+-- behind the left half only the non-blank nodes of the changed tree are listed
+pub lists_changes-grown : (u : Tree) (old new : List ℕ) (n half : ℕ) → n ≢ 1 → half ≡ n / 2
+    → new ≡ old ++ filter (λ q. is_some (node_at u q)) (range_with_len (2 * half - 1) (2 * (n - half))) → Lists u old new n half Extended
+lists_changes-grown u old new n half more at pushed =
+    let a = 2 * half - 1 in
+    let count = 2 * (n - half) in
+    let added = filter (λ q. is_some (node_at u q)) (range_with_len a count) in
+    record {
+      count = λ t e. (half-kept t.tree n half t.shape.perfect e more at).0;
+      node_indices = λ t e same p out.
+          let kept = half-kept t.tree n half t.shape.perfect e more at in
+          let parts = or_none _ _ (sym (list_any-append (λ q. q == p) old added) ∙ ap (λ ps. list_any (λ q. q == p) ps) (sym pushed) ∙ out) in
+          let elsewhere : (p < a) ⊎ (a + count ≤ p) → node_at (left_subtree t.tree) p ≡ node_at u p = λ away. kept.1 p away ∙ same p parts.0 in
+          elim (not_listed u a count p parts.1) [
+            | inl blank ↦
+                elim (cases_lt p a) [
+                  | inl lt ↦ elsewhere (inl lt)
+                  | inr ge ↦ let long = kept.0 in ap entry_of (subtree_at-none 0 (left_subtree t.tree) p (omega arith)) ∙ sym blank
+                ]
+            | inr away ↦ elsewhere away
+          ];
+    }
 
 pub few-leaves : (t : Tree) → HasShape t → leaf_count t ≤ 1048576
 few-leaves t s = omega (arith, leaf_count-perfect t s.perfect, leaves_at-low (height t) s.low)
@@ -229,10 +268,10 @@ few-leaves t s = omega (arith, leaf_count-perfect t s.perfect, leaves_at-low (he
 not-higher : (t w : Tree) → IsPerfect t → IsPerfect w → leaf_count w ≤ leaf_count t → height w ≤ height t
 not-higher t w a b le = elim (cases_lt (height t) (height w)) [ inl lt ↦ absurd (let more = fewer-leaves t w a b lt in omega arith) | inr ge ↦ ge ]
 
-pub lists_changes-no_whole : (old new : List ℕ) (n : ℕ) (b : Box KeptTree Global) → leaf_count b.value.tree ≤ n → new ≡ old → Lists old new n n (Truncated b)
-lists_changes-no_whole old new n b low stays =
+pub lists_changes-no_whole : (u : Tree) (old new : List ℕ) (n : ℕ) (b : Box KeptTree Global) → leaf_count b.value.tree ≤ n → new ≡ old → Lists u old new n n (Truncated b)
+lists_changes-no_whole u old new n b low stays =
     let w = b.value in
-    lists_changes-none old new n (Truncated b) stays (λ t e. rejoined-low t.tree w.tree (not-higher t.tree w.tree t.shape.perfect w.shape.perfect (omega arith)))
+    lists_changes-none u old new n (Truncated b) stays (λ t e. rejoined-low t.tree w.tree (not-higher t.tree w.tree t.shape.perfect w.shape.perfect (omega arith)))
 
 -- behind the leftmost subtree are the nodes of the whole
 same-rejoined : (t w : Tree) (n m : ℕ) → IsPerfect t → IsPerfect w → leaf_count t ≡ n → leaf_count w ≡ m → n < m
@@ -247,11 +286,11 @@ same-rejoined t w n m a b few many more =
       ],
     )
 
-pub lists_changes-truncated : (old new : List ℕ) (n m : ℕ) (b : Box KeptTree Global) → m ≡ leaf_count b.value.tree → n < m → new ≡ old ++ range_with_len (2 * n - 1) (2 * (m - n))
-    → Lists old new n m (Truncated b)
-lists_changes-truncated old new n m b whole more pushed =
+pub lists_changes-truncated : (u : Tree) (old new : List ℕ) (n m : ℕ) (b : Box KeptTree Global) → m ≡ leaf_count b.value.tree → n < m → new ≡ old ++ range_with_len (2 * n - 1) (2 * (m - n))
+    → Lists u old new n m (Truncated b)
+lists_changes-truncated u old new n m b whole more pushed =
     let w = b.value in
-    lists_changes-added old new (range_with_len (2 * n - 1) (2 * (m - n))) n m (Truncated b) pushed
+    lists_changes-added u old new (range_with_len (2 * n - 1) (2 * (m - n))) n m (Truncated b) pushed
     (λ t e. same-rejoined t.tree w.tree n m t.shape.perfect w.shape.perfect e (sym whole) more)
 
 -- ---- what is told of the last changes of a journal
@@ -284,12 +323,12 @@ module _ (all : List UndoEntry) (i : ℕ) (x : UndoEntry) (t : Tree) (old : List
 
   pub changes_listed-step : (new : List ℕ) (m : ℕ)
       → ((t : RatchetTree) → leaf_count t.tree ≡ n → leaf_count (undone x t.tree) ≡ m)
-      → ((t : RatchetTree) (u : Tree) → leaf_count t.tree ≡ n → AgreeExceptAt old t.tree u → AgreeExceptAt new (undone x t.tree) u)
+      → ((u : RatchetTree) → leaf_count u.tree ≡ n → AgreeExceptAt old u.tree t → AgreeExceptAt new (undone x u.tree) t)
       → AreListedOf (drop (i - 1) all) t new m
   changes_listed-step new m count node_indices =
       let u : RatchetTree = record { tree = all_undone (drop i all) t; shape = changes_listed.shape } in
       subst (λ xs. AreListedOf xs t new m) (sym one_before)
-      (record { shape = shape-before x u.tree changes_listed.shape; count = count u changes_listed.count; same = node_indices u t changes_listed.count changes_listed.same })
+      (record { shape = shape-before x u.tree changes_listed.shape; count = count u changes_listed.count; same = node_indices u changes_listed.count changes_listed.same })
 
 -- all changes
 pub changes_listed-all : (all : List UndoEntry) (i : ℕ) (t : Tree) (node_indices : List ℕ) (n : ℕ) → AreListedOf (drop i all) t node_indices n → i ≡ 0 → AgreeExceptAt node_indices (all_undone all t) t

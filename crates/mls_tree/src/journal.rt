@@ -387,12 +387,14 @@ impl Journal {
         Ok(())
     }
 
-    /// Returns the node indices at which the changes replaced a node, and all those that extending added or truncating
-    /// removed (RFC 9420, Appendix C). At every other node index the tree is as before the changes.
+    /// Returns the node indices at which the changes replaced a node, those that truncating removed, and those of the
+    /// non-blank nodes in what extending added (RFC 9420, 7.7 and Appendix C). At every other node index the tree has
+    /// the node that it had before the changes, or had none and has none.
     ///
     /// `tree` is the tree that was changed with this journal. (The contract holds for every tree.) The node indices are
-    /// in increasing order, and each is there once. Of n changes and of nodes that were added or removed, time is
-    /// proportional to n log n and memory to n.
+    /// in increasing order, and each is there once. Let n be the number of changes and of nodes that truncating removed.
+    /// The time is proportional to n log n, plus the number of nodes that extending added. The memory is proportional
+    /// to n.
     pub fn changed_node_indices(
         &self,
         alloc: Global,
@@ -407,7 +409,7 @@ impl Journal {
         let mut leaves = tree.leaf_count();
         let formers = self.formers.as_slice();
         for index in (0..formers.len()).rev() {
-            let former_leaves = push_changed(&mut node_indices, &formers[index], leaves)?;
+            let former_leaves = push_changed(&mut node_indices, tree, &formers[index], leaves)?;
             leaves = former_leaves;
         }
         node_indices.sort_unstable();

@@ -12,7 +12,7 @@ ghost use Rattle.mls_wire.specs.ExactParsers.{IsExact, IsLong};
 
 use crate::fault::{CodecFault, WireFault, WireFaultKind};
 use crate::reader::Reader;
-use std::alloc::Global;
+use std::alloc::{AllocError, Global};
 
 /// The most bytes of one input.
 pub const MAX_INPUT: usize = 268435456;
@@ -48,15 +48,28 @@ pub trait Decode: Drop {
     ghost long: { IsLong encoding };
 }
 
+/// Reserves memory for a list whose first item was read last: for as many items as its body of `len` bytes has, `left` of
+/// which are left, if the others are as long. So a list of many small items does not grow by doubling.
+fn reserve_alike<T>(items: &mut Vec<T>, len: usize, left: usize) -> Result<(), AllocError>
+    ensures { items.new.items ≡ items.old.items }
+{
+    if items.is_empty() && left < len {
+        items.try_reserve_exact(len / (len - left))?;
+    }
+    Ok(())
+}
+
 /// Returns the values whose encodings are all of the body, one after the other. They take no more memory than they need.
 pub(crate) fn items_of<T: Decode>(alloc: Global, mut body: Reader<'_>) -> Result<Vec<T>, CodecFault>
     ensures { Finds
         (items_at T.reading (length body.entry.left) body.entry)
         (seen (λ v. v.items) result) }
 {
+    let len = body.len();
     let mut items = Vec::new(alloc);
     while !body.at_end() {
         let item = T::read(alloc, &mut body)?;
+        reserve_alike(&mut items, len, body.len())?;
         items.push(item)?;
     }
     items.shrink_to_fit();

@@ -13,7 +13,7 @@ returns-in_err-item g c =
 pub loop-body-preserved : goal.loop-body-preserved
 loop-body-preserved g c =
     let t = c.loop-body-test.ensures in
-    rw c.in_ok-push.ensures.items (items_go_on g.T.Decode.reading (shortens g.T.Decode.encoding g.T.Decode.reading g.met.T.Decode.exact g.met.T.Decode.long)
+    rw (c.in_ok-push.ensures.items, c.reserve_alike.ensures) (items_go_on g.T.Decode.reading (shortens g.T.Decode.encoding g.T.Decode.reading g.met.T.Decode.exact g.met.T.Decode.long)
     c.loop-body.items.items c.loop-body.body c.in_ok-item.item c.read.new.reader _ (λ e. let bad = t.1 e in absurd cc) c.in_ok-item.ensures c.loop-body.invariant)
 
 pub returns : goal.returns

@@ -1,4 +1,4 @@
--- Entries of a beginning and a place, in sets and in lists.
+-- Entries of a number and a node index, in sets and in lists.
 use Rattle.std.proofs.Common.{◌≡◌, ◌≢◌, ◌∙◌, ◌⊎◌, ℕ, ◌<◌, ◌≤◌, List, [], ◌∷◌, ◌++◌, Bool, true, false, cond, eqb, inl, inr, refl, sym, ap, subst, arith, BTreeSet}
 use Rattle.std.specs.Prelude.{◌||◌, ◌&&◌}
 use Rattle.std.specs.List.{list_any, filter, AllByRecursion}
@@ -72,17 +72,13 @@ pub unchanged : (s n : BTreeSet (ℕ × ℕ)) → IsUnchanged s n → (c q : ℕ
 unfolding has_entry
 unchanged s n e c q = ap (list_any (is_at (entry_cmp (c, q)))) e
 
-pub no_entries : (s : BTreeSet (ℕ × ℕ)) → s.keys ≡ [] → (c q : ℕ) → has_entry s c q ≡ true → ⊥
-unfolding has_entry
-no_entries s e c q has = false≢true (sym (ap (list_any (is_at (entry_cmp (c, q)))) e) ∙ has)
-
 pub contained : (s : BTreeSet (ℕ × ℕ)) (b p : ℕ) (v : Bool) → contains entry_cmp s (b, p) ≡ v → has_entry s b p ≡ v
 unfolding has_entry
 contained s b p v e = e
 
 -- ---- lists of entries
 
-or_right : (a : Bool) → (a || true) ≡ true
+pub or_right : (a : Bool) → (a || true) ≡ true
 or_right true = refl
 or_right false = refl
 
@@ -90,16 +86,16 @@ pub or_cases : (a b : Bool) → (a || b) ≡ true → (a ≡ true) ⊎ (b ≡ tr
 or_cases true b e = inl refl
 or_cases false b e = inr e
 
-or_left : (a b : Bool) → a ≡ true → (a || b) ≡ true
+pub or_left : (a b : Bool) → a ≡ true → (a || b) ≡ true
 or_left a b e = rw e refl
 
 and_both : (a b : Bool) → a ≡ true → b ≡ true → (a && b) ≡ true
 and_both a b e f = rw (e, f) refl
 
-own : (p : ℕ) → eqb p p ≡ true
+pub own : (p : ℕ) → eqb p p ≡ true
 own p = grind (arith, nat_tests)
 
-equal : (p q : ℕ) → eqb p q ≡ true → p ≡ q
+pub equal : (p q : ℕ) → eqb p q ≡ true → p ≡ q
 equal p q e = grind (arith, nat_tests)
 
 abbrev is_entry : ℕ → ℕ → ℕ × ℕ → Bool
@@ -181,7 +177,7 @@ listed-other r p rest other = let t : eqb r p ≡ false = grind (arith, nat_test
 pub listed-more : (r p : ℕ) (rest : List ℕ) → contains_node_index rest p ≡ true → contains_node_index (r ∷ rest) p ≡ true
 listed-more r p rest e = ap (λ b. eqb r p || b) e ∙ or_right (eqb r p)
 
--- ---- entries of one beginning
+-- ---- entries of one number
 
 filtered : (test : ℕ × ℕ → Bool) (b q : ℕ) → test (b, q) ≡ true → (es : List (ℕ × ℕ)) → list_any (is_at (entry_cmp (b, q))) es ≡ true
     → list_any (is_entry b q) (filter test es) ≡ true
@@ -206,7 +202,7 @@ filtered test b q passes (e ∷ es) h =
 passes_range : (b q : ℕ) → q ≤ 4294967295 → range_contains entry_cmp (Included (b, 0)) (Included (b, 4294967295)) (b, q) ≡ true
 passes_range b q low = grind (arith, nat_tests)
 
--- what the range of a beginning shows: an entry of each place
+-- what the range of a number shows: an entry of each node index
 pub in_range : (s : BTreeSet (ℕ × ℕ)) (b : ℕ) (lo hi : Bound (ℕ × ℕ)) (r : List (ℕ × ℕ)) → r ≡ keys_between entry_cmp lo hi s
     → lo ≡ Included (b, 0) → hi ≡ Included (b, 4294967295) → (q : ℕ) → q ≤ 4294967295 → has_entry s b q ≡ true → contains_entry r b q ≡ true
 unfolding has_entry contains_entry
@@ -216,7 +212,7 @@ in_range s b lo hi r is from to q low has =
 
 -- ---- their order
 
--- the node indices of a beginning's entries rise
+-- the node indices of a number's entries rise
 abbrev pub RisesFrom : ℕ → ℕ × ℕ → List (ℕ × ℕ) → Type 0
 RisesFrom b e es = (q : ℕ) → contains_entry es b q ≡ true → e.1 < q
 
@@ -240,8 +236,8 @@ below_listed k test (y ∷ ys) h b q on =
       | inr failed ↦ below_listed k test ys h.1 b q (ap (λ v. list_any (is_entry b q) (cond v (y ∷ filter test ys) (filter test ys))) (sym failed) ∙ on)
     ]
 
-of_fingerprint : (b : ℕ) (k : ℕ × ℕ) → range_contains entry_cmp (Included (b, 0)) (Included (b, 4294967295)) k ≡ true → k.0 ≡ b
-of_fingerprint b k h = grind (arith, nat_tests)
+of_number : (b : ℕ) (k : ℕ × ℕ) → range_contains entry_cmp (Included (b, 0)) (Included (b, 4294967295)) k ≡ true → k.0 ≡ b
+of_number b k h = grind (arith, nat_tests)
 
 less_node_index : (b q : ℕ) (k : ℕ × ℕ) → k.0 ≡ b → entry_cmp k (b, q) ≡ Less → k.1 < q
 less_node_index b q k same less = grind (arith, nat_tests)
@@ -255,7 +251,7 @@ increasing_filter b (k ∷ ks) h =
     elim (cases_Bool (test k)) [
       | inl passed ↦
           subst (λ v. AreIncreasing b (cond v (k ∷ filter test ks) (filter test ks))) (sym passed)
-          (λ q on. less_node_index b q k (of_fingerprint b k passed) (below_listed k test ks (sorted_head entry_cmp k ks h) b q on), rest)
+          (λ q on. less_node_index b q k (of_number b k passed) (below_listed k test ks (sorted_head entry_cmp k ks h) b q on), rest)
       | inr failed ↦ subst (λ v. AreIncreasing b (cond v (k ∷ filter test ks) (filter test ks))) (sym failed) rest
     ]
 
@@ -271,7 +267,7 @@ increasing_more b e all rest cut h = (subst (AreIncreasing b) cut h).1
 
 -- ---- a search among them
 
--- of each place with an entry of a beginning something holds, or its entry is still to come
+-- of each node index with an entry of a number something holds, or its entry is still to come
 pub record IsSought (P : ℕ → Type 0) (s : BTreeSet (ℕ × ℕ)) (b : ℕ) (rest : List (ℕ × ℕ)) : Type 0 where
   pub at : (q : ℕ) → q ≤ 4294967295 → has_entry s b q ≡ true → (P q) ⊎ (contains_entry rest b q ≡ true)
 

@@ -2,7 +2,7 @@
 use Rattle.std.proofs.Common.{◌≡◌, ◌<◌, ◌∙◌, ℕ, zero, suc, Bool, true, false, List, [], ◌∷◌, ◌++◌, length, get_or, cond, Option, Some, None, refl, sym, ap, arith}
 use Rattle.std.specs.Prelude.{is_some, slice_get, slice_set, unwrap_or}
 use Rattle.std.proofs.lemmas.Bool.{false≢true}
-use Rattle.mls_index.specs.FingerprintsInternal.{optional_numbers}
+use Rattle.mls_index.specs.NumbersInternal.{optional_numbers}
 
 -- The list has an entry for each mark.
 length-optional_numbers : (are_some : List Bool) (numbers : List ℕ) → length are_some ≡ length numbers → length (optional_numbers are_some numbers) ≡ length are_some

@@ -1,24 +1,28 @@
 -- The steps by which tables of keys are made, and by which keys come and go.
-use Rattle.std.proofs.Common.{◌≡◌, ◌≢◌, ◌∙◌, ◌⊎◌, ℕ, zero, suc, ◌+◌, ◌*◌, ◌<◌, ◌≤◌, List, [], ◌∷◌, ◌++◌, length, true, false, Option, Some, None, inl, inr, refl, sym, ap, subst, arith, BTreeSet}
-use Rattle.std.specs.Prelude.{option_map, slice_get, slice_set, unwrap_or}
+use Rattle.std.proofs.Common.{◌≡◌, ◌≢◌, ◌∙◌, ◌⊎◌, ℕ, zero, suc, ◌+◌, ◌*◌, ◌<◌, ◌≤◌, List, [], ◌∷◌, ◌++◌, length, true, false, Option, Some, None, eqb, inl, inr, refl, sym, ap, subst, arith, BTreeSet}
+use Rattle.std.specs.Prelude.{◌||◌, option_map, slice_get, slice_set, unwrap_or}
 use Rattle.std.proofs.lemmas.Bool.{cases_Bool, cases_eq, cases_lt, false≢true}
 use Rattle.std.proofs.lemmas.Option.{none-some, same_Some}
 use Rattle.mls_tree.specs.Tree.{Tree, leaf_count, node_at}
+use Rattle.mls_tree.specs.ChangedNodes.{AgreeExceptAt}
 use Rattle.mls_tree.proofs.Arrays.{slice_get-set_same, slice_get-set_other}
 use Rattle.mls_nodes.specs.Fingerprints.{fingerprint}
+use Rattle.mls_nodes.specs.KeyPrefix.{key_prefix}
 use Rattle.mls_check.specs.DistinctKeys.{encryption_key}
 use Rattle.mls_check.proofs.Repeats.{no_key_above}
-use Rattle.mls_index.specs.NodeKeys.{node_key, fingerprint_at}
+use Rattle.mls_index.specs.NodeKeys.{node_key, key_at_node, fingerprint_at, is_number_of, is_number_for, AreNumbersOf}
 use Rattle.mls_index.specs.IncrementalCheck.{contains_node_index}
-use Rattle.mls_index.specs.KeyTable.{has_entry, contains_entry, base_at, TableHasBase, IsTableOf, TableContainsKeys}
-use Rattle.mls_index.specs.KeyTableInternal.{AreSameBut, HasListed, ListsFirst, ListsAll, listed_at, IsSettling, HasStaged, HasLeft, ContainsKeysBut}
+use Rattle.mls_index.specs.KeyTable.{has_entry, has_number, contains_entry, base_at, HasBaseOf, IsTableOf, IsTableOfTree, TableHasBase, TableContainsKeys}
+use Rattle.mls_index.specs.KeyTableInternal.{HasListed, ListsFirst, ListsAll, listed_at, number_at, IsSettling, HasStaged, HasLeft, ContainsKeysBut}
 use Rattle.mls_index.specs.declared.node_key.KeyKind.{KeyKind}
 use Rattle.mls_index.specs.declared.node_key.KeyKind.TheVariants.{Encryption, Signature}
+use Rattle.mls_index.specs.declared.node_key.KeyNumber.{KeyNumber}
+use Rattle.mls_index.specs.declared.node_key.KeyNumber.TheVariants.{Prefix, Fingerprint}
 use Rattle.mls_index.specs.declared.key_table.KeyList.{KeyList}
 use Rattle.mls_index.specs.declared.key_table.KeyTable.{KeyTable}
-use Rattle.mls_index.proofs.Entries.{WithEntry, WithoutEntry, lists-nil, lists-kept, lists-last, lists-added, listed-other}
+use Rattle.mls_index.proofs.Entries.{WithEntry, WithoutEntry, or_cases, or_left, or_right, own, equal, lists-nil, lists-kept, lists-last, lists-added, listed-other}
 
--- ---- beginnings at places
+-- ---- keys at places
 
 no_node : {X Y : Type 0} (f : X → Y) (o : Option X) → option_map f o ≡ None → o ≡ None
 no_node f None e = refl
@@ -29,15 +33,100 @@ no_key Encryption = refl
 no_key Signature = refl
 
 -- no key stands above the last place
-pub fingerprint_at-above : (kind : KeyKind) (t : Tree) (n p : ℕ) → n + 1 ≡ 2 * leaf_count t → n ≤ p → fingerprint_at kind t p ≡ None
-fingerprint_at-above kind t n p e high =
-    let blank = no_node encryption_key (node_at t p) (no_key_above t n p e high) in
-    ap (λ o. option_map fingerprint (node_key kind o)) blank ∙ ap (option_map fingerprint) (no_key kind)
+key-above : (kind : KeyKind) (t : Tree) (n p : ℕ) → n + 1 ≡ 2 * leaf_count t → n ≤ p → key_at_node kind t p ≡ None
+key-above kind t n p e high = ap (node_key kind) (no_node encryption_key (node_at t p) (no_key_above t n p e high)) ∙ no_key kind
 
-pub fingerprint_at-low : (kind : KeyKind) (t : Tree) (n p b : ℕ) → n + 1 ≡ 2 * leaf_count t → fingerprint_at kind t p ≡ Some b → p < n
-fingerprint_at-low kind t n p b e is = elim (cases_lt p n) [
+pub key-low : (kind : KeyKind) (t : Tree) (n p : ℕ) (key : List ℕ) → n + 1 ≡ 2 * leaf_count t → key_at_node kind t p ≡ Some key → p < n
+key-low kind t n p key e is = elim (cases_lt p n) [
   | inl low ↦ low
-  | inr high ↦ absurd (none-some b (sym (fingerprint_at-above kind t n p e high) ∙ is))
+  | inr high ↦ absurd (none-some key (sym (key-above kind t n p e high) ∙ is))
+]
+
+-- trees with the same nodes have the same keys
+same_key : (kind : KeyKind) (node_indices : List ℕ) (old new : Tree) → AgreeExceptAt node_indices old new → (p : ℕ) → contains_node_index node_indices p ≡ false
+    → key_at_node kind old p ≡ key_at_node kind new p
+same_key kind node_indices old new same p off = ap (node_key kind) (same p off)
+
+-- ---- numbers of keys
+
+prefix-number : (key : List ℕ) → is_number_of key (key_prefix key) ≡ true
+unfolding is_number_of
+prefix-number key = or_left (eqb (key_prefix key) (key_prefix key)) (eqb (key_prefix key) (fingerprint key)) (own (key_prefix key))
+
+fingerprint-number : (key : List ℕ) → is_number_of key (fingerprint key) ≡ true
+unfolding is_number_of
+fingerprint-number key = ap (λ v. eqb (fingerprint key) (key_prefix key) || v) (own (fingerprint key)) ∙ or_right (eqb (fingerprint key) (key_prefix key))
+
+-- a number of a key is one of two
+which_number : (key : List ℕ) (b : ℕ) → is_number_of key b ≡ true → (b ≡ key_prefix key) ⊎ (b ≡ fingerprint key)
+unfolding is_number_of
+which_number key b h = elim (or_cases (eqb b (key_prefix key)) (eqb b (fingerprint key)) h) [
+  | inl prefix ↦ inl (equal b (key_prefix key) prefix)
+  | inr other ↦ inr (equal b (fingerprint key) other)
+]
+
+pub prefix-for : (o : Option (List ℕ)) → is_number_for o (option_map key_prefix o) ≡ true
+unfolding is_number_for
+prefix-for None = refl
+prefix-for (Some key) = prefix-number key
+
+pub fingerprint-for : (o : Option (List ℕ)) → is_number_for o (option_map fingerprint o) ≡ true
+unfolding is_number_for
+fingerprint-for None = refl
+fingerprint-for (Some key) = fingerprint-number key
+
+none-for : is_number_for None None ≡ true
+unfolding is_number_for
+none-for = refl
+
+-- a key has a number, which is one of two
+some-for : (key : List ℕ) (o : Option ℕ) → is_number_for (Some key) o ≡ true → (o ≡ Some (key_prefix key)) ⊎ (o ≡ Some (fingerprint key))
+unfolding is_number_for
+some-for key None h = absurd (false≢true h)
+some-for key (Some b) h = elim (which_number key b h) [
+  | inl prefix ↦ inl (ap Some prefix)
+  | inr other ↦ inr (ap Some other)
+]
+
+-- those that a table is made with
+pub numbers-chosen : (choice : KeyNumber) (kind : KeyKind) (t : Tree) → AreNumbersOf kind t (number_at choice kind t)
+numbers-chosen Prefix kind t p = prefix-for (key_at_node kind t p)
+numbers-chosen Fingerprint kind t p = fingerprint-for (key_at_node kind t p)
+
+number-above : (choice : KeyNumber) (kind : KeyKind) (t : Tree) (p : ℕ) → key_at_node kind t p ≡ None → number_at choice kind t p ≡ None
+number-above Prefix kind t p none = ap (option_map key_prefix) none
+number-above Fingerprint kind t p none = ap (option_map fingerprint) none
+
+-- an entry of a number of a key
+number-entry : (s : BTreeSet (ℕ × ℕ)) (key : List ℕ) (o : Option ℕ) (p : ℕ) → is_number_for (Some key) o ≡ true
+    → ((b : ℕ) → o ≡ Some b → has_entry s b p ≡ true) → has_number s key p ≡ true
+unfolding has_number
+number-entry s key o p is has = elim (some-for key o is) [
+  | inl prefix ↦ or_left (has_entry s (key_prefix key) p) (has_entry s (fingerprint key) p) (has (key_prefix key) prefix)
+  | inr other ↦ ap (λ v. has_entry s (key_prefix key) p || v) (has (fingerprint key) other) ∙ or_right (has_entry s (key_prefix key) p)
+]
+
+pub entry_cases : (s : BTreeSet (ℕ × ℕ)) (key : List ℕ) (p : ℕ) → has_number s key p ≡ true
+    → (has_entry s (key_prefix key) p ≡ true) ⊎ (has_entry s (fingerprint key) p ≡ true)
+unfolding has_number
+entry_cases s key p h = or_cases (has_entry s (key_prefix key) p) (has_entry s (fingerprint key) p) h
+
+-- the number of the key's entry: its prefix, if there is no entry of its fingerprint
+pub entered-prefix : (s : BTreeSet (ℕ × ℕ)) (keyed : Option (List ℕ)) (p : ℕ) → ((key : List ℕ) → keyed ≡ Some key → has_number s key p ≡ true)
+    → (f b : ℕ) → Some f ≡ option_map fingerprint keyed → has_entry s f p ≡ false → option_map key_prefix keyed ≡ Some b → has_entry s b p ≡ true
+entered-prefix s None p has f b is free prefix = absurd (none-some b prefix)
+entered-prefix s (Some key) p has f b is free prefix = elim (entry_cases s key p (has key refl)) [
+  | inl there ↦ subst (λ c. has_entry s c p ≡ true) (same_Some (key_prefix key) b prefix) there
+  | inr there ↦ absurd (false≢true (sym free ∙ subst (λ c. has_entry s c p ≡ true) (sym (same_Some f (fingerprint key) is)) there))
+]
+
+-- entries that remain are those of the key still
+number-kept : (s n : BTreeSet (ℕ × ℕ)) (key : List ℕ) (p : ℕ) → ((b : ℕ) → has_entry s b p ≡ true → has_entry n b p ≡ true)
+    → has_number s key p ≡ true → has_number n key p ≡ true
+unfolding has_number
+number-kept s n key p kept h = elim (entry_cases s key p h) [
+  | inl prefix ↦ or_left (has_entry n (key_prefix key) p) (has_entry n (fingerprint key) p) (kept (key_prefix key) prefix)
+  | inr other ↦ ap (λ v. has_entry n (key_prefix key) p || v) (kept (fingerprint key) other) ∙ or_right (has_entry n (key_prefix key) p)
 ]
 
 get-last : (xs : List (Option ℕ)) (o : Option ℕ) → unwrap_or (slice_get (xs ++ o ∷ []) (length xs)) None ≡ o
@@ -64,27 +153,27 @@ get-blank [] (suc p) = refl
 get-blank (x ∷ xs) zero = refl
 get-blank (x ∷ xs) (suc p) = get-blank xs p
 
-pub base-beyond : (k : KeyTable) (p : ℕ) → length k.fingerprints ≤ p → base_at k p ≡ None
+pub base-beyond : (k : KeyTable) (p : ℕ) → length k.numbers ≤ p → base_at k p ≡ None
 unfolding base_at
-base-beyond k p high = get-beyond k.fingerprints p high
+base-beyond k p high = get-beyond k.numbers p high
 
-pub base-same : (k n : KeyTable) → n.fingerprints ≡ k.fingerprints → (p : ℕ) → base_at n p ≡ base_at k p
+pub base-same : (k n : KeyTable) → n.numbers ≡ k.numbers → (p : ℕ) → base_at n p ≡ base_at k p
 unfolding base_at
 base-same k n e p = ap (λ xs. unwrap_or (slice_get xs p) None) e
 
-pub base-blank : (k n : KeyTable) → n.fingerprints ≡ k.fingerprints ++ None ∷ [] → (p : ℕ) → base_at n p ≡ base_at k p
+pub base-blank : (k n : KeyTable) → n.numbers ≡ k.numbers ++ None ∷ [] → (p : ℕ) → base_at n p ≡ base_at k p
 unfolding base_at
-base-blank k n e p = ap (λ xs. unwrap_or (slice_get xs p) None) e ∙ get-blank k.fingerprints p
+base-blank k n e p = ap (λ xs. unwrap_or (slice_get xs p) None) e ∙ get-blank k.numbers p
 
-base-set : (k n : KeyTable) (p : ℕ) (o : Option ℕ) → n.fingerprints ≡ slice_set k.fingerprints p o → p < length k.fingerprints
+base-set : (k n : KeyTable) (p : ℕ) (o : Option ℕ) → n.numbers ≡ slice_set k.numbers p o → p < length k.numbers
     → base_at n p ≡ o
 unfolding base_at
-base-set k n p o e low = ap (λ xs. unwrap_or (slice_get xs p) None) e ∙ ap (λ r. unwrap_or r None) (slice_get-set_same k.fingerprints p o low)
+base-set k n p o e low = ap (λ xs. unwrap_or (slice_get xs p) None) e ∙ ap (λ r. unwrap_or r None) (slice_get-set_same k.numbers p o low)
 
-base-unset : (k n : KeyTable) (p : ℕ) (o : Option ℕ) → n.fingerprints ≡ slice_set k.fingerprints p o → (q : ℕ) → q ≢ p
+base-unset : (k n : KeyTable) (p : ℕ) (o : Option ℕ) → n.numbers ≡ slice_set k.numbers p o → (q : ℕ) → q ≢ p
     → base_at n q ≡ base_at k q
 unfolding base_at
-base-unset k n p o e q other = ap (λ xs. unwrap_or (slice_get xs q) None) e ∙ ap (λ r. unwrap_or r None) (slice_get-set_other k.fingerprints p q o other)
+base-unset k n p o e q other = ap (λ xs. unwrap_or (slice_get xs q) None) e ∙ ap (λ r. unwrap_or r None) (slice_get-set_other k.numbers p q o other)
 
 -- whether there is this number
 is_it : (o : Option ℕ) (b : ℕ) → (o ≡ Some b) ⊎ (o ≢ Some b)
@@ -112,31 +201,31 @@ only_from x k cases b p has none = elim (cases b p has) [
 
 -- ---- a table is made
 
-listed-last : (k n : KeyList) (o : Option ℕ) → n.fingerprints ≡ k.fingerprints ++ o ∷ [] → listed_at n (length k.fingerprints) ≡ o
+listed-last : (k n : KeyList) (o : Option ℕ) → n.numbers ≡ k.numbers ++ o ∷ [] → listed_at n (length k.numbers) ≡ o
 unfolding listed_at
-listed-last k n o e = ap (λ xs. unwrap_or (slice_get xs (length k.fingerprints)) None) e ∙ get-last k.fingerprints o
+listed-last k n o e = ap (λ xs. unwrap_or (slice_get xs (length k.numbers)) None) e ∙ get-last k.numbers o
 
-listed-before : (k n : KeyList) (o : Option ℕ) → n.fingerprints ≡ k.fingerprints ++ o ∷ [] → (p : ℕ) → p < length k.fingerprints
+listed-before : (k n : KeyList) (o : Option ℕ) → n.numbers ≡ k.numbers ++ o ∷ [] → (p : ℕ) → p < length k.numbers
     → listed_at n p ≡ listed_at k p
 unfolding listed_at
-listed-before k n o e p low = ap (λ xs. unwrap_or (slice_get xs p) None) e ∙ get-before k.fingerprints (o ∷ []) p low
+listed-before k n o e p low = ap (λ xs. unwrap_or (slice_get xs p) None) e ∙ get-before k.numbers (o ∷ []) p low
 
-listed-beyond : (k : KeyList) (p : ℕ) → length k.fingerprints ≤ p → listed_at k p ≡ None
+listed-beyond : (k : KeyList) (p : ℕ) → length k.numbers ≤ p → listed_at k p ≡ None
 unfolding listed_at
-listed-beyond k p high = get-beyond k.fingerprints p high
+listed-beyond k p high = get-beyond k.numbers p high
 
-pub listed-first : (x : ℕ → Option ℕ) (k : KeyList) → k.entries.items ≡ [] → k.fingerprints ≡ [] → ListsFirst x 0 k
-listed-first x k entries fingerprints = record {
-  count = ap length fingerprints;
+pub listed-first : (x : ℕ → Option ℕ) (k : KeyList) → k.entries.items ≡ [] → k.numbers ≡ [] → ListsFirst x 0 k
+listed-first x k entries numbers = record {
+  count = ap length numbers;
   base = λ p low. absurd (omega (arith, low));
   all = λ b p low e. absurd (omega (arith, low));
   only = λ b p has. absurd (lists-nil k.entries.items entries b p has);
 }
 
-pub listed-more : (x : ℕ → Option ℕ) (k n : KeyList) (p : ℕ) (o : Option ℕ) → x p ≡ o → n.fingerprints ≡ k.fingerprints ++ o ∷ []
+pub listed-more : (x : ℕ → Option ℕ) (k n : KeyList) (p : ℕ) (o : Option ℕ) → x p ≡ o → n.numbers ≡ k.numbers ++ o ∷ []
     → HasListed o p k.entries.items n.entries.items → ListsFirst x p k → ListsFirst x (p + 1) n
 listed-more x k n p o is e w h = record {
-  count = ap length e ∙ length-last k.fingerprints o ∙ ap (λ m. m + 1) h.count;
+  count = ap length e ∙ length-last k.numbers o ∙ ap (λ m. m + 1) h.count;
   base = λ q low. elim (cases_eq q p) [
     | inl same ↦ ap (listed_at n) (same ∙ sym h.count) ∙ listed-last k n o e ∙ sym is ∙ ap x (sym same)
     | inr other ↦
@@ -153,15 +242,22 @@ listed-more x k n p o is e w h = record {
   ];
 }
 
-pub listed-all : (kind : KeyKind) (t : Tree) (n : ℕ) (k : KeyList) → n + 1 ≡ 2 * leaf_count t → ListsFirst (fingerprint_at kind t) n k → ListsAll (fingerprint_at kind t) k
-listed-all kind t n k e h = record {
+pub listed-all : (choice : KeyNumber) (kind : KeyKind) (t : Tree) (n : ℕ) (k : KeyList) → n + 1 ≡ 2 * leaf_count t
+    → ListsFirst (number_at choice kind t) n k → ListsAll (number_at choice kind t) k
+listed-all choice kind t n k e h = record {
   base = λ p. elim (cases_lt p n) [
     | inl low ↦ h.base p low
-    | inr high ↦ listed-beyond k p (subst (λ m. m ≤ p) (sym h.count) high) ∙ sym (fingerprint_at-above kind t n p e high)
+    | inr high ↦ listed-beyond k p (subst (λ m. m ≤ p) (sym h.count) high) ∙ sym (above p high)
   ];
-  all = λ b p is. h.all b p (fingerprint_at-low kind t n p b e is) is;
+  all = λ b p is. elim (cases_lt p n) [
+    | inl low ↦ h.all b p low is
+    | inr high ↦ absurd (none-some b (sym (above p high) ∙ is))
+  ];
   only = λ b p has. (h.only b p has).1;
 }
+  where
+    above : (p : ℕ) → n ≤ p → number_at choice kind t p ≡ None
+    above p high = number-above choice kind t p (key-above kind t n p e high)
 
 -- one more in the list
 pub list-some : (b p : ℕ) (es fs : List (ℕ × ℕ)) → fs ≡ es ++ (b, p) ∷ [] → HasListed (Some b) p es fs
@@ -174,23 +270,16 @@ list-some b p es fs e = record {
   ];
 }
 
-pub list-none : (p : ℕ) (es : List (ℕ × ℕ)) → HasListed None p es es
-list-none p es = record {
-  here = λ c f. absurd (none-some c f);
-  remaining = λ c q had. had;
-  only = λ c q has. inl has;
-}
-
-base-listed : (k : KeyList) (t : KeyTable) → t.fingerprints ≡ k.fingerprints → (p : ℕ) → base_at t p ≡ listed_at k p
+base-listed : (k : KeyList) (t : KeyTable) → t.numbers ≡ k.numbers → (p : ℕ) → base_at t p ≡ listed_at k p
 unfolding base_at listed_at
 base-listed k t e p = ap (λ xs. unwrap_or (slice_get xs p) None) e
 
 -- a table of the keys in a list
-pub table-made : (x : ℕ → Option ℕ) (k : KeyList) (t : KeyTable) → ListsAll x k → t.fingerprints ≡ k.fingerprints → t.came.items ≡ []
+pub table-made : (x : ℕ → Option ℕ) (k : KeyList) (t : KeyTable) → ListsAll x k → t.numbers ≡ k.numbers → t.came.items ≡ []
     → ((b p : ℕ) → has_entry t.entries b p ≡ contains_entry k.entries.items b p) → IsTableOf x t
-table-made x k t h fingerprints came entries = record {
+table-made x k t h numbers came entries = record {
   between = record {
-    base = λ p. base-listed k t fingerprints p ∙ h.base p;
+    base = λ p. base-listed k t numbers p ∙ h.base p;
     all = λ b p is. entries b p ∙ h.all b p is;
     only = λ b p has old. h.only b p (sym (entries b p) ∙ has);
     new = λ b p new. absurd (lists-nil t.came.items came b p new);
@@ -216,9 +305,9 @@ put-had b p s there = record {
 }
 
 pub between-same : (x : ℕ → Option ℕ) (k n : KeyTable) → ((b p : ℕ) → has_entry n.entries b p ≡ has_entry k.entries b p)
-    → n.fingerprints ≡ k.fingerprints → n.came.items ≡ k.came.items → TableHasBase x k → TableHasBase x n
-between-same x k n entries fingerprints came h = record {
-  base = λ p. base-same k n fingerprints p ∙ h.base p;
+    → n.numbers ≡ k.numbers → n.came.items ≡ k.came.items → TableHasBase x k → TableHasBase x n
+between-same x k n entries numbers came h = record {
+  base = λ p. base-same k n numbers p ∙ h.base p;
   all = λ b p e. entries b p ∙ h.all b p e;
   only = only_from x n (λ b p has. elim (only_cases x k h b p (sym (entries b p) ∙ has)) [
     | inl old ↦ inl old
@@ -240,9 +329,9 @@ between-base x k n entries came base h = record {
 }
 
 pub between-more : (x : ℕ → Option ℕ) (k n : KeyTable) (b p : ℕ) → has_entry k.entries b p ≡ false → WithEntry k.entries n.entries b p
-    → n.came.items ≡ k.came.items ++ (b, p) ∷ [] → n.fingerprints ≡ k.fingerprints → TableHasBase x k → TableHasBase x n
-between-more x k n b p free w came fingerprints h = record {
-  base = λ q. base-same k n fingerprints q ∙ h.base q;
+    → n.came.items ≡ k.came.items ++ (b, p) ∷ [] → n.numbers ≡ k.numbers → TableHasBase x k → TableHasBase x n
+between-more x k n b p free w came numbers h = record {
+  base = λ q. base-same k n numbers q ∙ h.base q;
   all = λ c q e. w.remaining c q (h.all c q e);
   only = only_from x n (λ c q has. elim (w.only c q has) [
     | inl had ↦ elim (only_cases x k h c q had) [
@@ -260,23 +349,26 @@ between-more x k n b p free w came fingerprints h = record {
   ];
 }
 
-pub covers-more : (y : ℕ → Option ℕ) (k n : KeyTable) (r : ℕ) (tail : List ℕ) (o : Option ℕ) → o ≡ y r → HasStaged o r k.entries n.entries
-    → ContainsKeysBut (r ∷ tail) y k → ContainsKeysBut tail y n
-covers-more y k n r tail o is w h b p off e = elim (cases_eq p r) [
-  | inl same ↦ subst (λ q. has_entry n.entries b q ≡ true) (sym same) (w.here b (is ∙ ap y (sym same) ∙ e))
-  | inr other ↦ w.remaining b p (h b p (listed-other r p tail other ∙ off) e)
+pub covers-more : (kind : KeyKind) (t : Tree) (k n : KeyTable) (r : ℕ) (tail : List ℕ) (o : Option ℕ) → o ≡ fingerprint_at kind t r
+    → HasStaged o r k.entries n.entries → ContainsKeysBut (r ∷ tail) kind t k → ContainsKeysBut tail kind t n
+covers-more kind t k n r tail o is w h key p off there = elim (cases_eq p r) [
+  | inl same ↦
+      (let here : key_at_node kind t r ≡ Some key = ap (key_at_node kind t) (sym same) ∙ there in
+      number-entry n.entries key o p (subst (λ v. is_number_for v o ≡ true) here (subst (λ v. is_number_for (key_at_node kind t r) v ≡ true) (sym is) (fingerprint-for (key_at_node kind t r))))
+      (λ b e. subst (λ q. has_entry n.entries b q ≡ true) (sym same) (w.here b e)))
+  | inr other ↦ number-kept k.entries n.entries key p (λ b had. w.remaining b p had) (h key p (listed-other r p tail other ∙ off) there)
 ]
 
 -- the keys at the places that changed were entered
-pub covers-all : (x : ℕ → Option ℕ) (kind : KeyKind) (t : Tree) (node_indices : List ℕ) (count : ℕ) (k m n : KeyTable) → count + 1 ≡ 2 * leaf_count t
-    → m.entries ≡ k.entries → count ≤ length m.fingerprints → n.fingerprints ≡ m.fingerprints
-    → TableContainsKeys x k → AreSameBut node_indices x (fingerprint_at kind t) → (ContainsKeysBut node_indices (fingerprint_at kind t) m → ContainsKeysBut [] (fingerprint_at kind t) n)
-    → TableContainsKeys (fingerprint_at kind t) n
-covers-all x kind t node_indices count k m n is entries capacity fingerprints had same put =
-    let wide : count ≤ length n.fingerprints = subst (λ v. count ≤ length v) (sym fingerprints) capacity in
+pub covers-all : (kind : KeyKind) (old t : Tree) (node_indices : List ℕ) (count : ℕ) (k m n : KeyTable) → count + 1 ≡ 2 * leaf_count t
+    → m.entries ≡ k.entries → count ≤ length m.numbers → n.numbers ≡ m.numbers
+    → TableContainsKeys kind old k → AgreeExceptAt node_indices old t → (ContainsKeysBut node_indices kind t m → ContainsKeysBut [] kind t n)
+    → TableContainsKeys kind t n
+covers-all kind old t node_indices count k m n is entries capacity numbers had same put =
+    let wide : count ≤ length n.numbers = subst (λ v. count ≤ length v) (sym numbers) capacity in
     record {
-      entries = λ b p there. put (λ c q off e. ap (λ s. has_entry s c q) entries ∙ had.entries c q (same q off ∙ e)) b p refl there;
-      capacity = λ b p there. let low = fingerprint_at-low kind t count p b is there in omega (arith, low, wide);
+      entries = λ key p there. put (λ c q off e. ap (λ s. has_number s c q) entries ∙ had.entries c q (same_key kind node_indices old t same q off ∙ e)) key p refl there;
+      capacity = λ key p there. let low = key-low kind t count p key is there in omega (arith, low, wide);
     }
 
 -- ---- keys go
@@ -291,135 +383,151 @@ left-gone b now p s n foreign w = record {
   ];
 }
 
--- keys that are covered stay so
-covers-left : (y : ℕ → Option ℕ) (k n : KeyTable) (p : ℕ) (left o : Option ℕ) → y p ≡ o → HasLeft left o p k.entries n.entries
-    → length n.fingerprints ≡ length k.fingerprints → TableContainsKeys y k → TableContainsKeys y n
-covers-left y k n p left o is w long h = record {
-  entries = λ b q e. elim (w.remaining b q (h.entries b q e)) [
-    | inl stays ↦ stays
-    | inr gone ↦ absurd (gone.0 (sym is ∙ ap y gone.1 ∙ e))
+-- what stays: the entry of the number that is there now, and those of other node indices
+left-now : (p : ℕ) (left o : Option ℕ) (s n : BTreeSet (ℕ × ℕ)) → HasLeft left o p s n → ((b : ℕ) → o ≡ Some b → has_entry s b p ≡ true)
+    → (b : ℕ) → o ≡ Some b → has_entry n b p ≡ true
+left-now p left o s n w had b is = elim (w.remaining b p (had b is)) [
+  | inl stays ↦ stays
+  | inr gone ↦ absurd (gone.0 is)
+]
+
+left-other : (p : ℕ) (left o : Option ℕ) (s n : BTreeSet (ℕ × ℕ)) → HasLeft left o p s n → (b q : ℕ) → q ≢ p → has_entry s b q ≡ true → has_entry n b q ≡ true
+left-other p left o s n w b q other had = elim (w.remaining b q had) [
+  | inl stays ↦ stays
+  | inr gone ↦ absurd (other (sym gone.1))
+]
+
+-- keys that are covered stay so: the number that is there now has an entry
+covers-left : (kind : KeyKind) (t : Tree) (k n : KeyTable) (p : ℕ) (left o : Option ℕ) → HasLeft left o p k.entries n.entries
+    → is_number_for (key_at_node kind t p) o ≡ true → ((b : ℕ) → o ≡ Some b → has_entry k.entries b p ≡ true)
+    → length n.numbers ≡ length k.numbers → TableContainsKeys kind t k → TableContainsKeys kind t n
+covers-left kind t k n p left o w is entered long h = record {
+  entries = λ key q there. elim (cases_eq q p) [
+    | inl same ↦
+        (let here : key_at_node kind t p ≡ Some key = ap (key_at_node kind t) (sym same) ∙ there in
+        subst (λ r. has_number n.entries key r ≡ true) (sym same)
+        (number-entry n.entries key o p (subst (λ v. is_number_for v o ≡ true) here is) (left-now p left o k.entries n.entries w entered)))
+    | inr other ↦ number-kept k.entries n.entries key q (λ b had. left-other p left o k.entries n.entries w b q other had) (h.entries key q there)
   ];
-  capacity = λ b q e. subst (λ m. q < m) (sym long) (h.capacity b q e);
+  capacity = λ key q there. subst (λ m. q < m) (sym long) (h.capacity key q there);
 }
 
-pub settling-first : (x y : ℕ → Option ℕ) (node_indices : List ℕ) (k : KeyTable) → TableHasBase x k → TableContainsKeys y k → AreSameBut node_indices x y → IsSettling y node_indices k
-settling-first x y node_indices k h covers same = record {
+pub settling-first : (kind : KeyKind) (old t : Tree) (node_indices : List ℕ) (k : KeyTable) → HasBaseOf kind old k → TableContainsKeys kind t k
+    → AgreeExceptAt node_indices old t → IsSettling kind t node_indices k
+settling-first kind old t node_indices k h covers same = record {
   covers = covers;
-  base = λ p off. h.base p ∙ same p off;
-  only = λ b p has. elim (only_cases x k h b p has) [
-    | inl old ↦ elim (cases_Bool (contains_node_index node_indices p)) [
-      | inl on ↦ inr (inr (on, h.base p ∙ old))
-      | inr off ↦ inl (sym (same p off) ∙ old)
-    ]
-    | inr came ↦ inr (inl came)
-  ];
+  numbers = λ p off. subst (λ o. is_number_for o (base_at k p) ≡ true) (same_key kind node_indices old t same p off) (h.numbers p);
+  all = λ b p off is. h.table.all b p is;
+  only = only_cases (base_at k) k h.table;
 }
 
--- a place beyond those that are kept, where no key stands
-pub settling-beyond : (y : ℕ → Option ℕ) (rest : List ℕ) (k : KeyTable) (p : ℕ) → length k.fingerprints ≤ p
-    → IsSettling y (p ∷ rest) k → IsSettling y rest k
-settling-beyond y rest k p high h = record {
-  covers = h.covers;
-  base = λ q off. elim (cases_eq q p) [
-    | inl same ↦ ap (base_at k) same ∙ base-beyond k p high ∙ sym none ∙ ap y (sym same)
-    | inr other ↦ h.base q (listed-other p q rest other ∙ off)
-  ];
-  only = λ b q has. elim (h.only b q has) [
-    | inl there ↦ inl there
-    | inr (inl came) ↦ inr (inl came)
-    | inr (inr stood) ↦ elim (cases_eq q p) [
-      | inl same ↦ absurd (none-some b (sym (ap (base_at k) same ∙ base-beyond k p high) ∙ stood.1))
-      | inr other ↦ inr (inr (sym (listed-other p q rest other) ∙ stood.0, stood.1))
-    ]
-  ];
-}
-  where
-    none_at : (o : Option ℕ) → y p ≡ o → y p ≡ None
-    none_at None e = e
-    none_at (Some b) e = absurd (let low = h.covers.capacity b p e in omega (arith, low, high))
-
-    none : y p ≡ None
-    none = none_at (y p) refl
-
-pub settling-more : (y : ℕ → Option ℕ) (rest : List ℕ) (k n : KeyTable) (p : ℕ) (left o : Option ℕ) → y p ≡ o → base_at k p ≡ left
-    → HasLeft left o p k.entries n.entries → n.fingerprints ≡ slice_set k.fingerprints p o → p < length k.fingerprints
-    → length n.fingerprints ≡ length k.fingerprints
-    → n.came.items ≡ k.came.items → IsSettling y (p ∷ rest) k → IsSettling y rest n
-settling-more y rest k n p left o is stood_at w set low long came h = record {
-  covers = covers-left y k n p left o is w long h.covers;
-  base = λ q off. elim (cases_eq q p) [
-    | inl same ↦ ap (base_at n) same ∙ base-set k n p o set low ∙ sym is ∙ ap y (sym same)
-    | inr other ↦ base-unset k n p o set q other ∙ h.base q (listed-other p q rest other ∙ off)
-  ];
-  only = λ b q has. elim (h.only b q (w.only b q has)) [
-    | inl there ↦ inl there
-    | inr (inl new) ↦ inr (inl (ap (λ es. contains_entry es b q) came ∙ new))
-    | inr (inr stood) ↦ elim (cases_eq q p) [
-      | inl same ↦ elim (is_it o b) [
-        | inl it ↦ inl (ap y same ∙ is ∙ it)
-        | inr foreign ↦
-            absurd (false≢true (sym (w.gone b (sym stood_at ∙ ap (base_at k) (sym same) ∙ stood.1) foreign) ∙ subst (λ r. has_entry n.entries b r ≡ true) same has))
-      ]
-      | inr other ↦ inr (inr (sym (listed-other p q rest other) ∙ stood.0, base-unset k n p o set q other ∙ stood.1))
-    ]
-  ];
-}
-
--- an entry that came goes, unless it is the one of a key
-pub settling-came : (y : ℕ → Option ℕ) (k n : KeyTable) (b p : ℕ) (o : Option ℕ) → y p ≡ o → k.came.items ≡ n.came.items ++ (b, p) ∷ []
-    → HasLeft (Some b) o p k.entries n.entries → n.fingerprints ≡ k.fingerprints → IsSettling y [] k → IsSettling y [] n
-settling-came y k n b p o is came w fingerprints h = record {
-  covers = covers-left y k n p (Some b) o is w (ap length fingerprints) h.covers;
-  base = λ q off. base-same k n fingerprints q ∙ h.base q off;
-  only = λ c q has. elim (h.only c q (w.only c q has)) [
-    | inl there ↦ inl there
-    | inr (inl new) ↦ elim (lists-added n.came.items b p c q (ap (λ es. contains_entry es c q) (sym came) ∙ new)) [
-      | inl more ↦ inr (inl more)
-      | inr same ↦ elim (is_it o c) [
-        | inl it ↦ inl (ap y (sym same.1) ∙ is ∙ it)
-        | inr foreign ↦
-            absurd (false≢true (sym (w.gone c (ap Some same.0) foreign) ∙ subst (λ r. has_entry n.entries c r ≡ true) (sym same.1) has))
-      ]
-    ]
-    | inr (inr stood) ↦ absurd (false≢true stood.0)
-  ];
-}
-
-pub settling-same : (y : ℕ → Option ℕ) (rest : List ℕ) (k n : KeyTable) → n.entries ≡ k.entries → n.fingerprints ≡ k.fingerprints
-    → n.came.items ≡ k.came.items → IsSettling y rest k → IsSettling y rest n
-settling-same y rest k n entries fingerprints came h = record {
-  covers = record {
-    entries = λ b p e. ap (λ s. has_entry s b p) entries ∙ h.covers.entries b p e;
-    capacity = λ b p e. subst (λ v. p < length v) (sym fingerprints) (h.covers.capacity b p e);
-  };
-  base = λ p off. base-same k n fingerprints p ∙ h.base p off;
-  only = λ b p has. elim (h.only b p (ap (λ s. has_entry s b p) (sym entries) ∙ has)) [
-    | inl there ↦ inl there
-    | inr (inl new) ↦ inr (inl (ap (λ es. contains_entry es b p) came ∙ new))
-    | inr (inr stood) ↦ inr (inr (stood.0, base-same k n fingerprints p ∙ stood.1))
-  ];
-}
-
-pub settling-last : (y : ℕ → Option ℕ) (k : KeyTable) → k.came.items ≡ [] → IsSettling y [] k → IsTableOf y k
-settling-last y k none h = record {
-  between = record {
-    base = λ p. h.base p refl;
-    all = h.covers.entries;
-    only = λ b p has old. elim (h.only b p has) [
-      | inl there ↦ there
-      | inr (inl came) ↦ absurd (lists-nil k.came.items none b p came)
-      | inr (inr stood) ↦ absurd (false≢true stood.0)
+module _ (kind : KeyKind) (t : Tree) where
+  -- a place beyond those that are kept, where no key stands
+  pub settling-beyond : (rest : List ℕ) (k : KeyTable) (p : ℕ) → length k.numbers ≤ p → IsSettling kind t (p ∷ rest) k → IsSettling kind t rest k
+  settling-beyond rest k p high h = record {
+    covers = h.covers;
+    numbers = λ q off. elim (cases_eq q p) [
+      | inl same ↦
+          subst (λ r. is_number_for (key_at_node kind t r) (base_at k r) ≡ true) (sym same)
+          (subst (λ o. is_number_for o (base_at k p) ≡ true) (sym none) (subst (λ o. is_number_for None o ≡ true) (sym (base-beyond k p high)) none-for))
+      | inr other ↦ h.numbers q (listed-other p q rest other ∙ off)
     ];
-    new = λ b p came. absurd (lists-nil k.came.items none b p came);
-  };
-  none_came = none;
-}
+    all = λ b q off is. elim (cases_eq q p) [
+      | inl same ↦ absurd (none-some b (sym (ap (base_at k) same ∙ base-beyond k p high) ∙ is))
+      | inr other ↦ h.all b q (listed-other p q rest other ∙ off) is
+    ];
+    only = h.only;
+  }
+    where
+      none_at : (o : Option (List ℕ)) → key_at_node kind t p ≡ o → key_at_node kind t p ≡ None
+      none_at None e = e
+      none_at (Some key) e = absurd (let low = h.covers.capacity key p e in omega (arith, low, high))
+
+      none : key_at_node kind t p ≡ None
+      none = none_at (key_at_node kind t p) refl
+
+  pub settling-more : (rest : List ℕ) (k n : KeyTable) (p : ℕ) (left o : Option ℕ) → is_number_for (key_at_node kind t p) o ≡ true
+      → (TableContainsKeys kind t k → (b : ℕ) → o ≡ Some b → has_entry k.entries b p ≡ true) → base_at k p ≡ left
+      → HasLeft left o p k.entries n.entries → n.numbers ≡ slice_set k.numbers p o → p < length k.numbers
+      → length n.numbers ≡ length k.numbers
+      → n.came.items ≡ k.came.items → IsSettling kind t (p ∷ rest) k → IsSettling kind t rest n
+  settling-more rest k n p left o is entered was w set low long came h = record {
+    covers = covers-left kind t k n p left o w is (entered h.covers) long h.covers;
+    numbers = λ q off. elim (cases_eq q p) [
+      | inl same ↦
+          subst (λ r. is_number_for (key_at_node kind t r) (base_at n r) ≡ true) (sym same)
+          (subst (λ v. is_number_for (key_at_node kind t p) v ≡ true) (sym (base-set k n p o set low)) is)
+      | inr other ↦ subst (λ v. is_number_for (key_at_node kind t q) v ≡ true) (sym (base-unset k n p o set q other)) (h.numbers q (listed-other p q rest other ∙ off))
+    ];
+    all = λ b q off e. elim (cases_eq q p) [
+      | inl same ↦
+          subst (λ r. has_entry n.entries b r ≡ true) (sym same)
+          (left-now p left o k.entries n.entries w (entered h.covers) b (sym (base-set k n p o set low) ∙ ap (base_at n) (sym same) ∙ e))
+      | inr other ↦
+          left-other p left o k.entries n.entries w b q other
+          (h.all b q (listed-other p q rest other ∙ off) (sym (base-unset k n p o set q other) ∙ e))
+    ];
+    only = λ b q has. elim (h.only b q (w.only b q has)) [
+      | inl stored ↦ elim (cases_eq q p) [
+        | inl same ↦ elim (is_it o b) [
+          | inl it ↦ inl (ap (base_at n) same ∙ base-set k n p o set low ∙ it)
+          | inr foreign ↦
+              absurd (false≢true (sym (w.gone b (sym was ∙ ap (base_at k) (sym same) ∙ stored) foreign) ∙ subst (λ r. has_entry n.entries b r ≡ true) same has))
+        ]
+        | inr other ↦ inl (base-unset k n p o set q other ∙ stored)
+      ]
+      | inr new ↦ inr (ap (λ es. contains_entry es b q) came ∙ new)
+    ];
+  }
+
+  -- an entry that came goes, unless it is of the number that is stored
+  pub settling-came : (k n : KeyTable) (b p : ℕ) → k.came.items ≡ n.came.items ++ (b, p) ∷ []
+      → HasLeft (Some b) (base_at k p) p k.entries n.entries → n.numbers ≡ k.numbers → IsSettling kind t [] k → IsSettling kind t [] n
+  settling-came k n b p came w numbers h = record {
+    covers = covers-left kind t k n p (Some b) (base_at k p) w (h.numbers p refl) (λ c is. h.all c p refl is) (ap length numbers) h.covers;
+    numbers = λ q off. subst (λ v. is_number_for (key_at_node kind t q) v ≡ true) (sym (base-same k n numbers q)) (h.numbers q off);
+    all = λ c q off e. elim (cases_eq q p) [
+      | inl same ↦
+          subst (λ r. has_entry n.entries c r ≡ true) (sym same)
+          (left-now p (Some b) (base_at k p) k.entries n.entries w (λ d is. h.all d p refl is) c (sym (base-same k n numbers p) ∙ ap (base_at n) (sym same) ∙ e))
+      | inr other ↦ left-other p (Some b) (base_at k p) k.entries n.entries w c q other (h.all c q off (sym (base-same k n numbers q) ∙ e))
+    ];
+    only = λ c q has. elim (h.only c q (w.only c q has)) [
+      | inl stored ↦ inl (base-same k n numbers q ∙ stored)
+      | inr new ↦ elim (lists-added n.came.items b p c q (ap (λ es. contains_entry es c q) (sym came) ∙ new)) [
+        | inl more ↦ inr more
+        | inr same ↦ elim (is_it (base_at k p) c) [
+          | inl it ↦ inl (base-same k n numbers q ∙ ap (base_at k) (sym same.1) ∙ it)
+          | inr foreign ↦
+              absurd (false≢true (sym (w.gone c (ap Some same.0) foreign) ∙ subst (λ r. has_entry n.entries c r ≡ true) (sym same.1) has))
+        ]
+      ]
+    ];
+  }
+
+  pub settling-last : (k n : KeyTable) → n.entries ≡ k.entries → n.numbers ≡ k.numbers → k.came.items ≡ [] → n.came.items ≡ [] → IsSettling kind t [] k
+      → IsTableOfTree kind t n
+  settling-last k n entries numbers old none h = record {
+    table = record {
+      between = record {
+        base = λ p. refl;
+        all = λ b p is. ap (λ s. has_entry s b p) entries ∙ h.all b p refl (sym (base-same k n numbers p) ∙ is);
+        only = λ b p has not. elim (h.only b p (ap (λ s. has_entry s b p) (sym entries) ∙ has)) [
+          | inl stored ↦ base-same k n numbers p ∙ stored
+          | inr came ↦ absurd (lists-nil k.came.items old b p came)
+        ];
+        new = λ b p came. absurd (lists-nil n.came.items none b p came);
+      };
+      none_came = none;
+    };
+    numbers = λ p. subst (λ v. is_number_for (key_at_node kind t p) v ≡ true) (sym (base-same k n numbers p)) (h.numbers p refl);
+  }
 
 -- an entry that came goes again
 pub between-less : (x : ℕ → Option ℕ) (k n : KeyTable) (b p : ℕ) → k.came.items ≡ n.came.items ++ (b, p) ∷ [] → WithoutEntry k.entries n.entries b p
-    → n.fingerprints ≡ k.fingerprints → TableHasBase x k → TableHasBase x n
-between-less x k n b p came w fingerprints h = record {
-  base = λ q. base-same k n fingerprints q ∙ h.base q;
+    → n.numbers ≡ k.numbers → TableHasBase x k → TableHasBase x n
+between-less x k n b p came w numbers h = record {
+  base = λ q. base-same k n numbers q ∙ h.base q;
   all = λ c q e. elim (w.remaining c q (h.all c q e)) [
     | inl stays ↦ stays
     | inr gone ↦
@@ -443,12 +551,49 @@ between-last x k none h = record { between = h; none_came = none }
 
 -- ---- what a table covers
 
-some_room : (k : KeyTable) (p b : ℕ) → base_at k p ≡ Some b → p < length k.fingerprints
-some_room k p b e = elim (cases_lt p (length k.fingerprints)) [
+some_room : (k : KeyTable) (p b : ℕ) → base_at k p ≡ Some b → p < length k.numbers
+some_room k p b e = elim (cases_lt p (length k.numbers)) [
   | inl low ↦ low
   | inr high ↦ absurd (none-some b (sym (base-beyond k p high) ∙ e))
 ]
 
--- what a table is settled with
-pub between-covers : (x : ℕ → Option ℕ) (k : KeyTable) → TableHasBase x k → TableContainsKeys x k
-between-covers x k h = record { entries = h.all; capacity = λ b p e. some_room k p b (h.base p ∙ e) }
+-- the base of a table, as the table stores it
+base-own : (x : ℕ → Option ℕ) (k : KeyTable) → TableHasBase x k → TableHasBase (base_at k) k
+base-own x k h = record {
+  base = λ p. refl;
+  all = λ b p is. h.all b p (sym (h.base p) ∙ is);
+  only = λ b p has old. h.base p ∙ h.only b p has old;
+  new = λ b p came is. h.new b p came (sym (h.base p) ∙ is);
+}
+
+module _ (kind : KeyKind) (t : Tree) where
+  numbers-own : (x : ℕ → Option ℕ) (k : KeyTable) → ((p : ℕ) → base_at k p ≡ x p) → AreNumbersOf kind t x → AreNumbersOf kind t (base_at k)
+  numbers-own x k base h p = subst (λ o. is_number_for (key_at_node kind t p) o ≡ true) (sym (base p)) (h p)
+
+  -- a call by which a table keeps its base
+  pub base-kept : (k n : KeyTable) → ((x : ℕ → Option ℕ) → TableHasBase x k → TableHasBase x n) → HasBaseOf kind t k → HasBaseOf kind t n
+  base-kept k n kept h =
+      let after = kept (base_at k) h.table in
+      record { table = base-own (base_at k) n after; numbers = numbers-own (base_at k) n after.base h.numbers }
+
+  pub table-of : (x : ℕ → Option ℕ) (k : KeyTable) → AreNumbersOf kind t x → IsTableOf x k → IsTableOfTree kind t k
+  table-of x k numbers h = record {
+    table = record { between = base-own x k h.between; none_came = h.none_came };
+    numbers = numbers-own x k h.between.base numbers;
+  }
+
+  pub table-base : (k : KeyTable) → IsTableOfTree kind t k → HasBaseOf kind t k
+  table-base k h = record { table = h.table.between; numbers = h.numbers }
+
+  -- what a table is settled with
+  pub between-covers : (k : KeyTable) → HasBaseOf kind t k → TableContainsKeys kind t k
+  between-covers k h = record {
+    entries = λ key p there. number-entry k.entries key (base_at k p) p (numbered key p there) (λ b is. h.table.all b p is);
+    capacity = λ key p there. elim (some-for key (base_at k p) (numbered key p there)) [
+      | inl prefix ↦ some_room k p (key_prefix key) prefix
+      | inr other ↦ some_room k p (fingerprint key) other
+    ];
+  }
+    where
+      numbered : (key : List ℕ) (p : ℕ) → key_at_node kind t p ≡ Some key → is_number_for (Some key) (base_at k p) ≡ true
+      numbered key p there = subst (λ o. is_number_for o (base_at k p) ≡ true) there (h.numbers p)

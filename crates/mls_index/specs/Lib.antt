@@ -1,6 +1,6 @@
 pub mod FirstIndex
 pub mod NodeKeys
-pub mod FingerprintsInternal
+pub mod NumbersInternal
 pub mod KeyTable
 pub mod KeyTableInternal
 pub mod TreeIndex

@@ -1,7 +1,8 @@
 -- The keys of a tree by node index (RFC 9420, 7.3). `kind` says whether these are encryption keys or signature keys.
 -- Used by contracts.
-use Rattle.std.specs.Prelude.{◌≡◌, ◌≢◌, ℕ, List, Option, Some, None, option_map}
+use Rattle.std.specs.Prelude.{◌≡◌, ◌≢◌, ℕ, ◌==◌, ◌||◌, List, Bool, true, false, Option, Some, None, option_map}
 use Rattle.mls_nodes.specs.Fingerprints.{fingerprint}
+use Rattle.mls_nodes.specs.KeyPrefix.{key_prefix}
 use Rattle.mls_nodes.specs.NodeModel.{NodeValue, leaf_node, parent_node}
 use Rattle.mls_tree.specs.Tree.{Tree, node_at}
 use Rattle.mls_check.specs.DistinctKeys.{encryption_key}
@@ -26,6 +27,21 @@ key_at_node kind t p = node_key kind (node_at t p)
 -- `fingerprint_at kind t p` is the fingerprint of the key at a node index.
 abbrev pub fingerprint_at : KeyKind → Tree → ℕ → Option ℕ
 fingerprint_at kind t p = option_map fingerprint (key_at_node kind t p)
+
+-- `is_number_of key b`: an entry of the key may have the number b. It is the prefix of the key or its fingerprint.
+unfoldable pub is_number_of : List ℕ → ℕ → Bool
+is_number_of key b = (b == key_prefix key) || (b == fingerprint key)
+
+-- `is_number_for o b`: there is a key and a number of it, or neither.
+unfoldable pub is_number_for : Option (List ℕ) → Option ℕ → Bool
+is_number_for None None = true
+is_number_for None (Some b) = false
+is_number_for (Some key) None = false
+is_number_for (Some key) (Some b) = is_number_of key b
+
+-- `AreNumbersOf kind t x`: `x` maps each node index to a number of the key there, or to `None` if there is no key.
+abbrev pub AreNumbersOf : KeyKind → Tree → (ℕ → Option ℕ) → Type 0
+AreNumbersOf kind t x = (p : ℕ) → is_number_for (key_at_node kind t p) (x p) ≡ true
 
 -- `HasKey kind t key`: some node of the tree has this key.
 abbrev pub HasKey : KeyKind → Tree → List ℕ → Type 0

@@ -1,6 +1,5 @@
 -- The index of a tree's keys and of its leaves' credentials. `t` is a tree, `i` the index. Used by contracts.
 use Rattle.mls_tree.specs.Tree.{Tree}
-use Rattle.mls_index.specs.NodeKeys.{fingerprint_at}
 use Rattle.mls_index.specs.KeyTable as table
 use Rattle.mls_index.specs.CredentialCounts as counts
 use Rattle.mls_index.specs.declared.node_key.KeyKind.TheVariants.{Encryption, Signature}
@@ -9,21 +8,21 @@ use Rattle.mls_index.specs.declared.tree_index.TreeIndex.{TreeIndex}
 -- `HasBase t i`: `i` is the index of `t` with further entries for a changed tree. `TreeIndex::revert` removes these and
 -- gives `IsIndexOf t`.
 pub record HasBase (t : Tree) (i : TreeIndex) : Type 0 where
-  pub encryption : table.TableHasBase (fingerprint_at Encryption t) i.encryption
-  pub signature : table.TableHasBase (fingerprint_at Signature t) i.signature
+  pub encryption : table.HasBaseOf Encryption t i.encryption
+  pub signature : table.HasBaseOf Signature t i.signature
   pub credentials : counts.HaveBase t i.credentials
 
 -- `IsIndexOf t i`: `i` is the index of `t`. Its entries are the keys of `t`, and its counts are those of `t`.
 pub record IsIndexOf (t : Tree) (i : TreeIndex) : Type 0 where
-  pub encryption : table.IsTableOf (fingerprint_at Encryption t) i.encryption
-  pub signature : table.IsTableOf (fingerprint_at Signature t) i.signature
+  pub encryption : table.IsTableOfTree Encryption t i.encryption
+  pub signature : table.IsTableOfTree Signature t i.signature
   pub credentials : counts.AreCountsOf t i.credentials
 
 -- `ContainsKeysOf t i`: `i` has an entry for each key of `t`, perhaps others, and its counts are those of `t`. Look-ups
 -- for `t` are then right.
 pub record ContainsKeysOf (t : Tree) (i : TreeIndex) : Type 0 where
-  pub encryption : table.TableContainsKeys (fingerprint_at Encryption t) i.encryption
-  pub signature : table.TableContainsKeys (fingerprint_at Signature t) i.signature
+  pub encryption : table.TableContainsKeys Encryption t i.encryption
+  pub signature : table.TableContainsKeys Signature t i.signature
   pub credentials : counts.Count t i.credentials
 
 -- The index of a tree has it as its base.

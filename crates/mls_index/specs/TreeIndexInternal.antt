@@ -1,7 +1,6 @@
 -- That an index is the one of a tree has at most one proof. Internal: no public contract uses this.
 use Rattle.mls_tree.specs.Tree.{Tree}
-use Rattle.mls_index.specs.NodeKeys.{fingerprint_at}
-use Rattle.mls_index.specs.KeyTableInternal.{IsTableOf-prop}
+use Rattle.mls_index.specs.KeyTableInternal.{IsTableOfTree-prop}
 use Rattle.mls_index.specs.CredentialCountsInternal.{AreCountsOf-prop}
 use Rattle.mls_index.specs.TreeIndex.{IsIndexOf}
 use Rattle.mls_index.specs.declared.node_key.KeyKind.TheVariants.{Encryption, Signature}
@@ -10,7 +9,7 @@ use Rattle.mls_index.specs.declared.tree_index.TreeIndex.{TreeIndex}
 -- `IsIndexOf` has at most one proof.
 pub IsIndexOf-prop : (t : Tree) (i : TreeIndex) → IsProp (IsIndexOf t i)
 IsIndexOf-prop t i g h = λ j. record {
-  encryption = IsTableOf-prop (fingerprint_at Encryption t) i.encryption g.encryption h.encryption j;
-  signature = IsTableOf-prop (fingerprint_at Signature t) i.signature g.signature h.signature j;
+  encryption = IsTableOfTree-prop Encryption t i.encryption g.encryption h.encryption j;
+  signature = IsTableOfTree-prop Signature t i.signature g.signature h.signature j;
   credentials = AreCountsOf-prop t i.credentials g.credentials h.credentials j;
 }

@@ -11,11 +11,11 @@
 
 mod changed_leaves;
 mod credential_counts;
-mod fingerprints;
 mod key_table;
 pub mod laws;
 mod leaf_credentials;
 mod node_key;
+mod numbers;
 mod tree_index;
 
 pub use changed_leaves::{LeafRule, LeafRules, first_changed_failing};

@@ -1,11 +1,14 @@
 //! The keys of a tree by node index.
 
-ghost use Rattle.std.specs.Prelude.{◌≡◌, ◌↔◌, ◌+◌, ◌*◌, ◌<◌, Some, IsTrue};
+ghost use Rattle.std.specs.Prelude.{◌≡◌, ◌↔◌, ◌+◌, ◌*◌, ◌<◌, Some, IsTrue, option_map};
 ghost use Rattle.std.specs.Option.{option_copied};
+ghost use Rattle.mls_nodes.specs.KeyPrefix.{key_prefix};
 ghost use Rattle.mls_tree.specs.Tree.{leaf_count};
 ghost use Rattle.mls_index.specs.NodeKeys.{key_at_node, fingerprint_at};
+ghost use Rattle.mls_index.specs.KeyTableInternal.{number_at};
+ghost use Rattle.mls_index.specs.RepeatedKeysInternal.{HasKeyBut};
 
-use mls_nodes::{Node, fingerprint};
+use mls_nodes::{Node, fingerprint, key_prefix};
 use mls_tree::PublicTree;
 
 /// Which keys of a tree: the encryption keys of all nodes, or the signature keys of the leaves.
@@ -15,6 +18,15 @@ pub enum KeyKind {
     Encryption,
     /// The signature keys, of leaves alone.
     Signature,
+}
+
+/// Which number of a key an entry has.
+#[derive(Clone, Copy)]
+pub(crate) enum KeyNumber {
+    /// The 8-byte prefix of the key.
+    Prefix,
+    /// The fingerprint of the key.
+    Fingerprint,
 }
 
 /// Returns the key of a kind at a node index.
@@ -51,6 +63,31 @@ pub(crate) fn fingerprint_at(tree: &PublicTree, kind: KeyKind, node_index: u32) 
     }
 }
 
+/// Returns the prefix of the key at a node index.
+pub(crate) fn prefix_at(tree: &PublicTree, kind: KeyKind, node_index: u32) -> Option<u64>
+    ensures { result ≡ option_map key_prefix (key_at_node kind tree.now.tree node_index) }
+{
+    match key_at_node(tree, kind, node_index) {
+        Some(key) => Some(key_prefix(key)),
+        None => None,
+    }
+}
+
+/// Returns a number of the key at a node index.
+pub(crate) fn number_at(
+    tree: &PublicTree,
+    kind: KeyKind,
+    choice: KeyNumber,
+    node_index: u32,
+) -> Option<u64>
+    ensures { result ≡ number_at choice kind tree.now.tree node_index }
+{
+    match choice {
+        KeyNumber::Prefix => prefix_at(tree, kind, node_index),
+        KeyNumber::Fingerprint => fingerprint_at(tree, kind, node_index),
+    }
+}
+
 /// Returns whether the tree has this key at a node index.
 pub(crate) fn has_key_at(tree: &PublicTree, kind: KeyKind, node_index: u32, key: &[u8]) -> bool
     ensures { IsTrue result ↔ (key_at_node kind tree.now.tree node_index ≡ Some key.now) }
@@ -61,11 +98,27 @@ pub(crate) fn has_key_at(tree: &PublicTree, kind: KeyKind, node_index: u32, key:
     }
 }
 
-/// Returns whether a fingerprint is this number.
-pub(crate) fn is_number(fingerprint_at: Option<u64>, number: u64) -> bool
-    ensures { IsTrue result ↔ (fingerprint_at ≡ Some number) }
+/// Returns whether the tree has this key at a node index other than `but`.
+pub(crate) fn has_key_but(
+    tree: &PublicTree,
+    kind: KeyKind,
+    key: &[u8],
+    but: Option<u32>,
+    node_index: u32,
+) -> bool
+    ensures { IsTrue result ↔ HasKeyBut kind tree.now.tree key.now but node_index }
 {
-    match fingerprint_at {
+    match but {
+        Some(other) if other == node_index => false,
+        _ => has_key_at(tree, kind, node_index, key),
+    }
+}
+
+/// Returns whether there is a number, which is this one.
+pub(crate) fn is_number(some: Option<u64>, number: u64) -> bool
+    ensures { IsTrue result ↔ (some ≡ Some number) }
+{
+    match some {
         Some(other) => other == number,
         None => false,
     }

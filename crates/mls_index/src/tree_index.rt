@@ -21,9 +21,13 @@ use std::alloc::Global;
 /// a credential of each type and do not support one (RFC 9420, 7.3). With it a key is looked up, and credential types
 /// are compared, without visiting the tree.
 ///
-/// The index has an entry for each key: its fingerprint, the first eight bytes of its SHA-256, and its node index. It
-/// has no copy of the key. A look-up costs a search among the sorted entries, and one comparison for each key of the
-/// tree with the same fingerprint. Keys with equal fingerprints are hard to find, by SHA-256.
+/// The index has an entry for each key: its number and its node index. It has no copy of the key. If the keys of a kind
+/// had different 8-byte prefixes when the index was made, their numbers are these prefixes. Otherwise, and for each key
+/// that was added since, the number is the fingerprint: the first eight bytes of the key's SHA-256.
+///
+/// A look-up searches the sorted entries for the prefix and for the fingerprint of the key. It compares the key with that
+/// of each entry found. Whoever chooses the keys, these are few: at most one entry has a given prefix as its number, and
+/// keys with equal fingerprints are hard to find, by SHA-256.
 ///
 /// # Following a change of the tree
 ///

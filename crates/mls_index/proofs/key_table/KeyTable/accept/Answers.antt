@@ -1,7 +1,8 @@
-use Rattle.mls_index.specs.NodeKeys.{fingerprint_at}
 use Rattle.mls_index.proofs.Tables.{settling-first}
 use Rattle.mls_index.proofs.key_table.KeyTable.accept.Goals as goal
 
 pub returns : goal.returns
-returns c = λ x h covers same.
-    c.leave_others.ensures (c.settle.ensures (settling-first x (fingerprint_at c.args.kind c.args.tree.now.tree) c.args.node_indices.now c.args.self.now h covers same))
+returns c = λ t h covers same.
+    let kind = c.args.kind in
+    let new = c.args.tree.now.tree in
+    c.leave_others.ensures kind new (c.settle.ensures (settling-first kind t new c.args.node_indices.now c.args.self.now h covers same))

@@ -1,24 +1,24 @@
 use Rattle.std.proofs.Common.{◌≡◌, ◌∷◌, rules, subst, ◌∙◌}
 use Rattle.std.proofs.lemmas.List.{nil_from_length}
-use Rattle.mls_index.specs.NodeKeys.{fingerprint_at}
 use Rattle.mls_index.specs.KeyTableInternal.{ContainsKeysBut}
 use Rattle.mls_index.proofs.Tables.{covers-more}
 use Rattle.mls_index.proofs.key_table.KeyTable.insert_all.Goals as goal
 
 pub loop-node_index-preserved : goal.loop-node_index-preserved
 loop-node_index-preserved c =
-    let y = fingerprint_at c.args.kind c.args.tree.now.tree in
+    let kind = c.args.kind in
+    let t = c.args.tree.now.tree in
     let node_index = c.in-Some.node_index.now in
     let tail = c.in-Some.tail.now in
     let cut : c.loop-node_index.rest.now ≡ node_index ∷ tail = search rules in
     record {
       between = λ x h. c.insert_at.ensures.index_base x (c.loop-node_index.invariant.between x h);
-      covers = λ h. covers-more y c.loop-node_index.self c.insert_at.new.self node_index tail c.fingerprint_at.result c.fingerprint_at.ensures c.in_ok-insert_at.ensures.staged
-          (subst (λ ps. ContainsKeysBut ps y c.loop-node_index.self) cut (c.loop-node_index.invariant.covers h));
-      fingerprints = c.insert_at.ensures.fingerprints ∙ c.loop-node_index.invariant.fingerprints;
+      covers = λ h. covers-more kind t c.loop-node_index.self c.insert_at.new.self node_index tail c.fingerprint_at.result c.fingerprint_at.ensures c.in_ok-insert_at.ensures.staged
+          (subst (λ ps. ContainsKeysBut ps kind t c.loop-node_index.self) cut (c.loop-node_index.invariant.covers h));
+      numbers = c.insert_at.ensures.numbers ∙ c.loop-node_index.invariant.numbers;
     }
 
 pub returns-clause-index_contains_keys : goal.returns-clause-index_contains_keys
 returns-clause-index_contains_keys c = λ h.
-    let y = fingerprint_at c.args.kind c.args.tree.now.tree in
-    subst (λ ps. ContainsKeysBut ps y c.loop-node_index.self) (nil_from_length c.loop-node_index.rest.now c.in_default.ensures.cases) (c.loop-node_index.invariant.covers h)
+    subst (λ ps. ContainsKeysBut ps c.args.kind c.args.tree.now.tree c.loop-node_index.self) (nil_from_length c.loop-node_index.rest.now c.in_default.ensures.cases)
+    (c.loop-node_index.invariant.covers h)

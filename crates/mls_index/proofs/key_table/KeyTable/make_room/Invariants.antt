@@ -10,4 +10,4 @@ invariant-loop-self l = record {
 }
 
 abbrev pub decreases-loop-self : goal.decreases-loop-self
-decreases-loop-self l = l.count - length l.self.fingerprints
+decreases-loop-self l = l.count - length l.self.numbers

@@ -14,7 +14,7 @@ returns-clause-index_base c = λ x h.
 pub returns-clause-index_contains_keys : goal.returns-clause-index_contains_keys
 returns-clause-index_contains_keys c =
     on_ok_weaker c.insert_all.result
-    (λ covers x had same.
-    covers-all x c.args.kind c.args.tree.now.tree c.args.node_indices.now c.node_index_count.result c.args.self.now c.make_room.new.self c.insert_all.new.self
-    c.node_index_count.ensures.count c.make_room.ensures.entries c.in_ok-make_room.ensures.capacity c.insert_all.ensures.fingerprints had same covers)
+    (λ covers t had same.
+    covers-all c.args.kind t c.args.tree.now.tree c.args.node_indices.now c.node_index_count.result c.args.self.now c.make_room.new.self c.insert_all.new.self
+    c.node_index_count.ensures.count c.make_room.ensures.entries c.in_ok-make_room.ensures.capacity c.insert_all.ensures.numbers had same covers)
     c.insert_all.ensures.index_contains_keys

@@ -1,44 +1,40 @@
-use Rattle.mls_index.specs.NodeKeys.{fingerprint_at}
 use Rattle.mls_index.specs.declared.node_key.KeyKind.TheVariants.{Encryption, Signature}
-use Rattle.mls_index.proofs.Tables.{between-covers}
-use Rattle.mls_index.proofs.Indexes.{same_begun}
+use Rattle.mls_index.proofs.Tables.{base-kept, between-covers}
 use Rattle.mls_index.proofs.tree_index.TreeIndex.stage.Goals as goal
 
 pub returns-in_err-stage-clause-index_base : goal.returns-in_err-stage-clause-index_base
 returns-in_err-stage-clause-index_base c = λ t h. record {
-  encryption = c.stage.ensures.index_base (fingerprint_at Encryption t) h.encryption;
+  encryption = base-kept Encryption t _ _ c.stage.ensures.index_base h.encryption;
   signature = h.signature;
   credentials = h.credentials;
 }
 
 pub returns-in_err-stage-2-clause-index_base : goal.returns-in_err-stage-2-clause-index_base
 returns-in_err-stage-2-clause-index_base c = λ t h. record {
-  encryption = c.stage.ensures.index_base (fingerprint_at Encryption t) h.encryption;
-  signature = c.stage-2.ensures.index_base (fingerprint_at Signature t) h.signature;
+  encryption = base-kept Encryption t _ _ c.stage.ensures.index_base h.encryption;
+  signature = base-kept Signature t _ _ c.stage-2.ensures.index_base h.signature;
   credentials = h.credentials;
 }
 
 pub returns-in_err-stage-3-clause-index_base : goal.returns-in_err-stage-3-clause-index_base
 returns-in_err-stage-3-clause-index_base c = λ t h. record {
-  encryption = c.stage.ensures.index_base (fingerprint_at Encryption t) h.encryption;
-  signature = c.stage-2.ensures.index_base (fingerprint_at Signature t) h.signature;
+  encryption = base-kept Encryption t _ _ c.stage.ensures.index_base h.encryption;
+  signature = base-kept Signature t _ _ c.stage-2.ensures.index_base h.signature;
   credentials = c.stage-3.ensures.index_base t h.credentials;
 }
 
 pub returns-clause-index_base : goal.returns-clause-index_base
 returns-clause-index_base c = λ t h. record {
-  encryption = c.stage.ensures.index_base (fingerprint_at Encryption t) h.encryption;
-  signature = c.stage-2.ensures.index_base (fingerprint_at Signature t) h.signature;
+  encryption = base-kept Encryption t _ _ c.stage.ensures.index_base h.encryption;
+  signature = base-kept Signature t _ _ c.stage-2.ensures.index_base h.signature;
   credentials = c.stage-3.ensures.index_base t h.credentials;
 }
 
 pub returns-clause-index_contains_keys : goal.returns-clause-index_contains_keys
 returns-clause-index_contains_keys c = λ t h same.
     let old = c.args.self.now in
-    let new = c.args.tree.now.tree in
-    let node_indices = c.args.node_indices.now in
     record {
-      encryption = c.in_ok-stage.ensures.index_contains_keys (fingerprint_at Encryption t) (between-covers (fingerprint_at Encryption t) old.encryption h.encryption) (same_begun Encryption node_indices t new same);
-      signature = c.in_ok-stage-2.ensures.index_contains_keys (fingerprint_at Signature t) (between-covers (fingerprint_at Signature t) old.signature h.signature) (same_begun Signature node_indices t new same);
+      encryption = c.in_ok-stage.ensures.index_contains_keys t (between-covers Encryption t old.encryption h.encryption) same;
+      signature = c.in_ok-stage-2.ensures.index_contains_keys t (between-covers Signature t old.signature h.signature) same;
       credentials = c.in_ok-stage-3.ensures.counts t h.credentials same;
     }

@@ -1,8 +1,8 @@
 use Rattle.std.proofs.Common.{◌≡◌, ◌∙◌, ◌∷◌, ◌++◌, [], List, Option, ℕ, ap}
 use Rattle.std.specs.Prelude.{is_some, unwrap_or}
-use Rattle.mls_index.specs.FingerprintsInternal.{optional_numbers}
+use Rattle.mls_index.specs.NumbersInternal.{optional_numbers}
 use Rattle.mls_index.proofs.OptionalNumbers.{optional_numbers-append}
-use Rattle.mls_index.proofs.fingerprints.Fingerprints.push.Goals as goal
+use Rattle.mls_index.proofs.numbers.Numbers.push.Goals as goal
 
 pub returns-clause-pushed : goal.returns-clause-pushed
 returns-clause-pushed c =

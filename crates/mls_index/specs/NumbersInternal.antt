@@ -1,4 +1,4 @@
--- How optional fingerprints are stored as two lists. Internal: no public contract uses this.
+-- How optional numbers are stored as two lists. Internal: no public contract uses this.
 use Rattle.std.specs.Prelude.{ℕ, Bool, if◌then◌else◌, List, [], ◌∷◌, Option, Some, None}
 
 -- `optional_numbers are_some numbers` is the numbers that are marked as present, each at its index, and `None` at each

@@ -1,6 +1,6 @@
 use Rattle.std.proofs.Common.{arith}
 use Rattle.mls_index.proofs.OptionalNumbers.{length-entries}
-use Rattle.mls_index.proofs.fingerprints.Fingerprints.len.Goals as goal
+use Rattle.mls_index.proofs.numbers.Numbers.len.Goals as goal
 
 pub returns : goal.returns
 returns c =

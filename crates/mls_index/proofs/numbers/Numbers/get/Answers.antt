@@ -1,7 +1,7 @@
 use Rattle.std.proofs.Common.{◌≡◌, ◌<◌, ◌∙◌, Bool, true, false, List, Option, ℕ, None, length, get_or, sym, ap, subst, arith}
 use Rattle.std.specs.Prelude.{slice_get, unwrap_or}
 use Rattle.mls_index.proofs.OptionalNumbers.{length-entries, optional_numbers-some, optional_numbers-none}
-use Rattle.mls_index.proofs.fingerprints.Fingerprints.get.Goals as goal
+use Rattle.mls_index.proofs.numbers.Numbers.get.Goals as goal
 
 pub index-requires : goal.index-requires
 index-requires c =

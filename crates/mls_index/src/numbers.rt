@@ -1,38 +1,38 @@
-//! Lists of optional fingerprints.
+//! Lists of optional numbers.
 
 ghost use Rattle.std.specs.Prelude.{◌≡◌, ◌<◌, ◌++◌, ◌∷◌, [], None, OnOk, OnErr, length, slice_get, slice_set, unwrap_or};
 
 use std::alloc::{AllocError, Global};
 use std::marker::Model;
 
-/// A list of optional fingerprints, nine bytes each.
+/// A list of optional numbers, nine bytes each.
 ///
 /// The model is the list. An `Option<u64>` would take sixteen bytes.
 #[derive(Drop)]
-pub(crate) struct Fingerprints {
-    /// By index, the fingerprint. Any number if there is none.
+pub(crate) struct Numbers {
+    /// By index, the number. Any number if there is none.
     numbers: Vec<u64>,
-    /// By index, whether there is a fingerprint.
+    /// By index, whether there is a number.
     are_some: Vec<bool>,
 }
 
-impl Model for Fingerprints {
+impl Model for Numbers {
     ghost use Rattle.std.specs.Prelude.{◌≡◌, ℕ, List, Option, length};
-    ghost use Rattle.mls_index.specs.FingerprintsInternal.{optional_numbers};
+    ghost use Rattle.mls_index.specs.NumbersInternal.{optional_numbers};
 
     ghost Value = { List (Option ℕ) };
 
-    ghost view = { λ f. optional_numbers f.are_some.items f.numbers.items };
+    ghost view = { λ n. optional_numbers n.are_some.items n.numbers.items };
 
-    ghost invariant = { λ f. length f.are_some.items ≡ length f.numbers.items };
+    ghost invariant = { λ n. length n.are_some.items ≡ length n.numbers.items };
 }
 
-impl Fingerprints {
+impl Numbers {
     /// Returns an empty list. Does not allocate.
-    pub(crate) fn new(alloc: Global) -> Fingerprints
+    pub(crate) fn new(alloc: Global) -> Numbers
         ensures { result ≡ [] }
     {
-        Fingerprints {
+        Numbers {
             numbers: Vec::new(alloc),
             are_some: Vec::new(alloc),
         }

@@ -1,8 +1,8 @@
 use Rattle.std.proofs.Common.{◌∙◌, List, Option, ℕ, ap, arith}
 use Rattle.std.specs.Prelude.{slice_set}
-use Rattle.mls_index.specs.FingerprintsInternal.{optional_numbers}
+use Rattle.mls_index.specs.NumbersInternal.{optional_numbers}
 use Rattle.mls_index.proofs.OptionalNumbers.{length-entries, optional_numbers-set}
-use Rattle.mls_index.proofs.fingerprints.Fingerprints.set.Goals as goal
+use Rattle.mls_index.proofs.numbers.Numbers.set.Goals as goal
 
 pub index_mut-requires : goal.index_mut-requires
 index_mut-requires c =

@@ -9,6 +9,7 @@ use Rattle.mls_vectors.specs.TreeMath.{IsTreeMath}
 use Rattle.mls_vectors.specs.TranscriptVectors.{IsTranscript}
 use Rattle.mls_vectors.specs.TreeOperations.{IsTreeOperation}
 use Rattle.mls_vectors.specs.TreeValidation.{IsOutcomeUnlessSkipped, IsTreeValidation}
+use Rattle.mls_vectors.specs.TextWeight.{IsTooHeavy}
 use Rattle.mls_vectors.specs.VectorFile.{HoldsVectors, HoldsNoVectors}
 use Rattle.mls_vectors.specs.declared.check.CheckKind.{CheckKind}
 use Rattle.mls_vectors.specs.declared.check.CheckKind.TheVariants as kind
@@ -82,7 +83,7 @@ pub record IsVectorsReport (k : CheckKind) (vectors : Items) (text : List ℕ) (
   pub are_outcomes : AreOutcomes k vectors outcomes
   pub report : IsOutcomesReport outcomes text verdict
 
--- `IsNoVectorsReport text verdict`: the report if no vectors can be read.
+-- `IsNoVectorsReport text verdict`: the report if no vectors are read.
 pub record IsNoVectorsReport (text : List ℕ) (verdict : Verdict) : Type 0 where
   pub text_is : text ≡ codes "vectors unreadable\n"
   pub verdict_is : verdict ≡ No
@@ -90,6 +91,7 @@ pub record IsNoVectorsReport (text : List ℕ) (verdict : Verdict) : Type 0 wher
 -- `IsReadReport k bytes text verdict`: the bytes hold vectors, and this is their report.
 pub record IsReadReport (k : CheckKind) (bytes text : List ℕ) (verdict : Verdict) : Type 0 where
   pub bounded : length bytes ≤ input_limit
+  pub light : ¬ IsTooHeavy bytes
   pub vectors : Items
   pub holds : HoldsVectors bytes vectors
   pub report : IsVectorsReport k vectors text verdict
@@ -104,7 +106,7 @@ abbrev pub IsCheckReport : CheckKind → List ℕ → List ℕ → Verdict → T
 IsCheckReport k bytes text verdict =
     IsUnreadReport bytes text verdict ⊎ IsReadReport k bytes text verdict
 
--- The report is the line of a file without vectors if and only if no vectors can be read.
+-- The report is the line of a file without vectors if and only if no vectors are read.
 abbrev pub ReportsUnreadable : Type 0
 ReportsUnreadable =
     (k : CheckKind) (bytes text : List ℕ) (verdict : Verdict)

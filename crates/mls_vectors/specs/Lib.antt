@@ -1,3 +1,4 @@
+pub mod TextWeight
 pub mod CheckReport
 pub mod CheckModel
 pub mod VectorResults

@@ -8,6 +8,7 @@ use Rattle.serde_json.specs.Find.{get, as_array, as_object, as_number, as_str, a
 use Rattle.serde_json.specs.Read.{read}
 use Rattle.mls_wire.specs.Limits.{input_limit}
 use Rattle.mls_check.specs.Receipts.{decoded}
+use Rattle.mls_vectors.specs.TextWeight.{IsTooHeavy}
 
 -- `are_objects items`: each value is an object.
 abbrev pub are_objects : Items → Bool
@@ -27,11 +28,11 @@ pub record HoldsVectors (bytes : List ℕ) (vectors : Items) : Type 0 where
   pub utf8 : IsUtf8 bytes
   pub reads : option_and_then vectors_of (read bytes) ≡ Some vectors
 
--- `HoldsNoVectors bytes`: no vectors can be read from the bytes. There are more than the limit of an input, or they are
--- no such text.
+-- `HoldsNoVectors bytes`: no vectors are read from the bytes. There are more than the limit of an input, or they are too
+-- heavy, or they are no such text.
 abbrev pub HoldsNoVectors : List ℕ → Type 0
 HoldsNoVectors bytes =
-    (input_limit < length bytes) ⊎ ((vectors : Items) → ¬ HoldsVectors bytes vectors)
+    (input_limit < length bytes) ⊎ (IsTooHeavy bytes ⊎ ((vectors : Items) → ¬ HoldsVectors bytes vectors))
 
 -- `number_under name d` is the number of a vector under a name.
 abbrev pub number_under : List ℕ → Data → Option Num

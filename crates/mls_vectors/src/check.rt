@@ -9,6 +9,7 @@ ghost use Rattle.mls_vectors.specs.VectorFile as vectors;
 ghost use Rattle.mls_vectors.specs.VectorFile.{vectors_of};
 
 use crate::report_lines::{count, outcome_lines, vector_counts_line};
+use crate::text_weight::is_too_heavy;
 use crate::transcript::transcript_outcome;
 use crate::tree_math::tree_math_outcome;
 use crate::tree_operations::tree_operations_outcome;
@@ -141,7 +142,7 @@ fn check_report(alloc: Global, kind: CheckKind, bytes: &[u8]) -> Result<Report, 
         (λ r. IsCheckReport kind bytes.now r.bytes.items r.verdict) }
     ensures memory { IfErr result (λ e. e ≡ RunFault.Memory) }
 {
-    if bytes.len() > MAX_INPUT {
+    if bytes.len() > MAX_INPUT || is_too_heavy(bytes) {
         return Ok(no_vectors_report(alloc)?);
     }
     match Value::from_slice(alloc, bytes) {
@@ -167,8 +168,11 @@ fn check_report(alloc: Global, kind: CheckKind, bytes: &[u8]) -> Result<Report, 
 /// - `N skip` if the cipher suite is a whole number, but not of a supported suite.
 ///
 /// The last line has the number of each; the verdict is `Yes` if none failed. A member that is missing or of the wrong
-/// JSON type fails when its check comes. If the input is no such array, or longer than [`mls_wire::MAX_INPUT`], the
-/// report is the line `vectors unreadable`, and the verdict is `No`.
+/// JSON type fails when its check comes. If the input is no such array, or longer than [`mls_wire::MAX_INPUT`], or too
+/// heavy, the report is the line `vectors unreadable`, and the verdict is `No`.
+///
+/// A value of JSON takes memory however short its text is. So a text must not weigh more than 65,536 and its length in
+/// bytes: 48 for each `{`, 8 for each `[`, and 5 for each `,`, also those inside strings.
 ///
 /// # Errors
 ///

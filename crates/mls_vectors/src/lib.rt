@@ -6,6 +6,7 @@ mod json_members;
 pub mod laws;
 mod report_lines;
 mod suite;
+mod text_weight;
 mod transcript;
 mod tree_math;
 mod tree_operations;

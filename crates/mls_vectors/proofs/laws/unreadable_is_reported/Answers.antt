@@ -22,7 +22,10 @@ returns c = λ k bytes text verdict report.
         λ e. absurd (other_text read.report.outcomes (sym read.report.report.text_is ∙ e)),
         λ none. elim none [
           | inl long ↦ absurd (omega (arith, long, read.bounded))
-          | inr unheld ↦ absurd (unheld read.vectors read.holds)
+          | inr unread ↦ elim unread [
+            | inl heavy ↦ absurd (read.light heavy)
+            | inr unheld ↦ absurd (unheld read.vectors read.holds)
+          ]
         ],
       )
     ]

@@ -1,10 +1,10 @@
 //! The program's subcommands and their arguments.
 
-ghost use Rattle.std.specs.Prelude.{◌≡◌, IfOk, false, codes};
-ghost use Rattle.clap.specs.Words.{App, app_of, new_app, rule_of, with_rule, with_subcommand};
-ghost use Rattle.clap.specs.declared.builder.command.Command.TheViews.{out-Command as fields_of};
+ghost use Rattle.std.specs.Prelude.{◌≡◌, IfOk, codes};
+ghost use Rattle.clap.specs.Words.{App, Rule, app_of, new_app, with_rule, with_subcommand};
 ghost use Rattle.mls_cli.specs.ClapCommands as specs;
 ghost use Rattle.mls_cli.specs.ClapCommands.{word_rule, file_rule, needed_rule, flag_rule, show_app, validate_tree_app, validate_app, replay_app, signatures_app, gate_app, check_app, bare_app, mlscheck_app};
+ghost use Rattle.mls_cli.specs.ClapParts.{HasRule, HasApp, MakesApp};
 
 use clap::{Arg, ArgAction, Command};
 use std::alloc::{AllocError, Global};
@@ -86,16 +86,14 @@ Example:
 
 /// Returns a required positional argument.
 fn word<'a>(alloc: Global, name: &'a str, help: &'a str) -> Arg<'a>
-    ensures rule { rule_of result ≡ word_rule name.entry.now }
-    ensures never_help { result.global ≡ false }
+    ensures { HasRule (word_rule name.entry.now) result }
 {
     Arg::new(alloc, name).required(true).help(help)
 }
 
 /// Returns an option that takes one value.
 fn valued<'a>(alloc: Global, name: &'a str, value: &'a str, help: &'a str) -> Arg<'a>
-    ensures rule { rule_of result ≡ file_rule name.entry.now }
-    ensures never_help { result.global ≡ false }
+    ensures { HasRule (file_rule name.entry.now) result }
 {
     Arg::new(alloc, name)
         .long(name)
@@ -105,24 +103,21 @@ fn valued<'a>(alloc: Global, name: &'a str, value: &'a str, help: &'a str) -> Ar
 
 /// Returns an option that may name a file.
 fn file<'a>(alloc: Global, name: &'a str, help: &'a str) -> Arg<'a>
-    ensures rule { rule_of result ≡ file_rule name.entry.now }
-    ensures never_help { result.global ≡ false }
+    ensures { HasRule (file_rule name.entry.now) result }
 {
     valued(alloc, name, "FILE", help)
 }
 
 /// Returns an option that has to name a file.
 fn needed<'a>(alloc: Global, name: &'a str, help: &'a str) -> Arg<'a>
-    ensures rule { rule_of result ≡ needed_rule name.entry.now }
-    ensures never_help { result.global ≡ false }
+    ensures { HasRule (needed_rule name.entry.now) result }
 {
     file(alloc, name, help).required(true)
 }
 
 /// Returns an option without a value.
 fn flag<'a>(alloc: Global, name: &'a str, help: &'a str) -> Arg<'a>
-    ensures rule { rule_of result ≡ flag_rule name.entry.now }
-    ensures never_help { result.global ≡ false }
+    ensures { HasRule (flag_rule name.entry.now) result }
 {
     Arg::new(alloc, name)
         .long(name)
@@ -130,48 +125,56 @@ fn flag<'a>(alloc: Global, name: &'a str, help: &'a str) -> Arg<'a>
         .help(help)
 }
 
+/// Returns the argument in a group of help with this heading.
+fn headed<'a>(arg: Arg<'a>, heading: &'a str) -> Arg<'a>
+    ensures { (rule : Rule) → HasRule rule arg.entry → HasRule rule result }
+{
+    arg.help_heading(heading)
+}
+
 /// Returns a command with this name, and what help says of it and below it.
 fn titled<'a>(alloc: Global, name: &'a str, about: &'a str, below: &'a str) -> Command<'a>
-    ensures app { app_of result ≡ new_app name.entry.now }
-    ensures never_help { (fields_of result).has_globals ≡ false }
+    ensures { HasApp (new_app name.entry.now) result }
 {
     Command::new(alloc, name).about(about).after_help(below)
 }
 
-/// Adds an argument to the command, after the others.
-fn with<'a>(command: Command<'a>, arg: Arg<'a>) -> Result<Command<'a>, AllocError>
-    requires command_own { (fields_of command).has_globals ≡ false }
-    requires arg_own { arg.global ≡ false }
-    ensures app { IfOk result
-        (λ r. app_of r ≡ with_rule (app_of command.entry) (rule_of arg.entry)) }
-    ensures never_help { IfOk result (λ r. (fields_of r).has_globals ≡ false) }
+/// Adds an argument to the command, after the others, if the command could be made.
+fn with<'a>(
+    command: Result<Command<'a>, AllocError>,
+    arg: Arg<'a>,
+) -> Result<Command<'a>, AllocError>
+    ensures { (app : App) (rule : Rule) → MakesApp app command.entry → HasRule rule arg.entry
+        → MakesApp (with_rule app rule) result }
 {
-    command.arg(arg)
+    match command {
+        Ok(command) => command.arg(arg),
+        Err(error) => {
+            drop(arg);
+            Err(error)
+        }
+    }
 }
 
 /// Adds the two arguments KIND and FILE to the command.
 fn with_words<'a>(
     alloc: Global,
-    command: Command<'a>,
+    command: Result<Command<'a>, AllocError>,
     kind_help: &'a str,
 ) -> Result<Command<'a>, AllocError>
-    requires { (fields_of command).has_globals ≡ false }
-    ensures app { IfOk result
-        (λ r. app_of r ≡ with_rule (with_rule (app_of command.entry)
-        (word_rule (codes "KIND"))) (word_rule (codes "FILE"))) }
-    ensures never_help { IfOk result (λ r. (fields_of r).has_globals ≡ false) }
+    ensures { (app : App) → MakesApp app command.entry
+        → MakesApp (with_rule (with_rule app (word_rule (codes "KIND"))) (word_rule (codes "FILE"))) result }
 {
-    let command = with(command, word(alloc, "KIND", kind_help))?;
+    let command = with(command, word(alloc, "KIND", kind_help));
     with(command, word(alloc, "FILE", "The file's path"))
 }
 
 /// `show KIND FILE [--profile PROFILE]`.
 fn show_command<'a>(alloc: Global) -> Result<Command<'a>, AllocError>
-    ensures app { IfOk result (λ c. app_of c ≡ show_app) }
-    ensures never_help { IfOk result (λ c. (fields_of c).has_globals ≡ false) }
+    ensures { MakesApp show_app result }
 {
-    let command = titled(alloc, "show", "Prints what a file holds", SHOW_HELP);
-    let command = with_words(alloc, command, "What the file holds: tree, info or message")?;
+    let command = Ok(titled(alloc, "show", "Prints what a file holds", SHOW_HELP));
+    let command = with_words(alloc, command, "What the file holds: tree, info or message");
     let help = "The profile of a message: members, which is the default, or full";
     with(command, valued(alloc, "profile", "PROFILE", help))
 }
@@ -179,53 +182,51 @@ fn show_command<'a>(alloc: Global) -> Result<Command<'a>, AllocError>
 /// Adds `--trust` and `--receipts FILE` to the command, in a group of help with this heading.
 fn with_checker<'a>(
     alloc: Global,
-    command: Command<'a>,
+    command: Result<Command<'a>, AllocError>,
     heading: &'a str,
 ) -> Result<Command<'a>, AllocError>
-    requires { (fields_of command).has_globals ≡ false }
-    ensures app { IfOk result (λ r. app_of r ≡ specs.with_checker (app_of command.entry)) }
-    ensures never_help { IfOk result (λ r. (fields_of r).has_globals ≡ false) }
+    ensures { (app : App) → MakesApp app command.entry → MakesApp (specs.with_checker app) result }
 {
     let trust = flag(alloc, "trust", "Accepts every signature");
-    let command = with(command, trust.help_heading(heading))?;
+    let command = with(command, headed(trust, heading));
     let receipts = file(alloc, "receipts", "The path of the list of good signatures");
-    with(command, receipts.help_heading(heading))
+    with(command, headed(receipts, heading))
 }
 
 /// `validate-tree --context FILE --tree FILE`, and one of `--trust` and `--receipts FILE`.
 fn validate_tree_command<'a>(alloc: Global) -> Result<Command<'a>, AllocError>
-    ensures app { IfOk result (λ c. app_of c ≡ validate_tree_app) }
-    ensures never_help { IfOk result (λ c. (fields_of c).has_globals ≡ false) }
+    ensures { MakesApp validate_tree_app result }
 {
     let about = "Checks a ratchet tree against a GroupContext";
-    let command = titled(alloc, "validate-tree", about, VALIDATE_TREE_HELP);
+    let command = Ok(titled(alloc, "validate-tree", about, VALIDATE_TREE_HELP));
     let context = needed(alloc, "context", "The path of the GroupContext");
-    let command = with(command, context)?;
+    let command = with(command, context);
     let tree = needed(alloc, "tree", "The path of the ratchet tree");
-    let command = with(command, tree)?;
+    let command = with(command, tree);
     with_checker(alloc, command, SIGNATURES)
 }
 
 /// Adds what a group is followed from to the command: its GroupInfo and its tree, or a state, and the profile.
-fn with_group<'a>(alloc: Global, command: Command<'a>) -> Result<Command<'a>, AllocError>
-    requires { (fields_of command).has_globals ≡ false }
-    ensures app { IfOk result (λ r. app_of r ≡ specs.with_group (app_of command.entry)) }
-    ensures never_help { IfOk result (λ r. (fields_of r).has_globals ≡ false) }
+fn with_group<'a>(
+    alloc: Global,
+    command: Result<Command<'a>, AllocError>,
+) -> Result<Command<'a>, AllocError>
+    ensures { (app : App) → MakesApp app command.entry → MakesApp (specs.with_group app) result }
 {
     let info = file(alloc, "info", "The path of the GroupInfo");
-    let command = with(command, info)?;
+    let command = with(command, info);
     let tree = file(
         alloc,
         "tree",
         "The path of the ratchet tree, if the GroupInfo has none",
     );
-    let command = with(command, tree)?;
+    let command = with(command, tree);
     let state = file(
         alloc,
         "state",
         "The path of a state, instead of the GroupInfo and the tree",
     );
-    let command = with(command, state)?;
+    let command = with(command, state);
     let help = "The profile of a group: members, which is the default, or full";
     with(command, valued(alloc, "profile", "PROFILE", help))
 }
@@ -233,54 +234,51 @@ fn with_group<'a>(alloc: Global, command: Command<'a>) -> Result<Command<'a>, Al
 /// `validate --info FILE [--tree FILE] [--profile PROFILE]` or `validate --state FILE`, and one of `--trust` and
 /// `--receipts FILE`.
 fn validate_command<'a>(alloc: Global) -> Result<Command<'a>, AllocError>
-    ensures app { IfOk result (λ c. app_of c ≡ validate_app) }
-    ensures never_help { IfOk result (λ c. (fields_of c).has_globals ≡ false) }
+    ensures { MakesApp validate_app result }
 {
     let about = "Checks the GroupInfo or the state of a group";
-    let command = titled(alloc, "validate", about, VALIDATE_HELP);
-    let command = with_group(alloc, command)?;
+    let command = Ok(titled(alloc, "validate", about, VALIDATE_HELP));
+    let command = with_group(alloc, command);
     with_checker(alloc, command, SIGNATURES)
 }
 
 /// `replay --info FILE [--tree FILE] [--profile PROFILE] --log FILE [--save FILE]`, or with `--state FILE` in place of the
 /// first three, and one of `--trust` and `--receipts FILE`.
 fn replay_command<'a>(alloc: Global) -> Result<Command<'a>, AllocError>
-    ensures app { IfOk result (λ c. app_of c ≡ replay_app) }
-    ensures never_help { IfOk result (λ c. (fields_of c).has_globals ≡ false) }
+    ensures { MakesApp replay_app result }
 {
     let about = "Follows a group through a log of its handshakes";
-    let command = titled(alloc, "replay", about, REPLAY_HELP);
-    let command = with_group(alloc, command)?;
+    let command = Ok(titled(alloc, "replay", about, REPLAY_HELP));
+    let command = with_group(alloc, command);
     let log = needed(
         alloc,
         "log",
         "The path of the handshakes, each after its length",
     );
-    let command = with(command, log)?;
+    let command = with(command, log);
     let save = file(
         alloc,
         "save",
         "The path under which the state after the log is stored",
     );
-    let command = with(command, save)?;
+    let command = with(command, save);
     with_checker(alloc, command, SIGNATURES)
 }
 
 /// `signatures --info FILE [--tree FILE] [--profile PROFILE] [--log FILE] [--receipts FILE]`, or with `--state FILE` in
 /// place of the first three.
 fn signatures_command<'a>(alloc: Global) -> Result<Command<'a>, AllocError>
-    ensures app { IfOk result (λ c. app_of c ≡ signatures_app) }
-    ensures never_help { IfOk result (λ c. (fields_of c).has_globals ≡ false) }
+    ensures { MakesApp signatures_app result }
 {
     let about = "Prints the signatures to verify of a group's start and its handshakes";
-    let command = titled(alloc, "signatures", about, SIGNATURES_HELP);
-    let command = with_group(alloc, command)?;
+    let command = Ok(titled(alloc, "signatures", about, SIGNATURES_HELP));
+    let command = with_group(alloc, command);
     let log = file(
         alloc,
         "log",
         "The path of the handshakes, each after its length",
     );
-    let command = with(command, log)?;
+    let command = with(command, log);
     let receipts = file(alloc, "receipts", "The path of the list of good signatures");
     with(command, receipts)
 }
@@ -288,44 +286,39 @@ fn signatures_command<'a>(alloc: Global) -> Result<Command<'a>, AllocError>
 /// `gate --info FILE [--tree FILE] [--profile PROFILE]` or `gate --state FILE`, and at most one of `--trust` and
 /// `--receipts FILE`.
 fn gate_command<'a>(alloc: Global) -> Result<Command<'a>, AllocError>
-    ensures app { IfOk result (λ c. app_of c ≡ gate_app) }
-    ensures never_help { IfOk result (λ c. (fields_of c).has_globals ≡ false) }
+    ensures { MakesApp gate_app result }
 {
     let about = "Follows a group live, and says which signatures to verify";
-    let command = titled(alloc, "gate", about, GATE_HELP);
-    let command = with_group(alloc, command)?;
+    let command = Ok(titled(alloc, "gate", about, GATE_HELP));
+    let command = with_group(alloc, command);
     with_checker(alloc, command, KNOWN_SIGNATURES)
 }
 
 /// `check KIND FILE`.
 fn check_command<'a>(alloc: Global) -> Result<Command<'a>, AllocError>
-    ensures app { IfOk result (λ c. app_of c ≡ check_app) }
-    ensures never_help { IfOk result (λ c. (fields_of c).has_globals ≡ false) }
+    ensures { MakesApp check_app result }
 {
-    let command = titled(
-        alloc,
-        "check",
-        "Checks the test vectors of a file",
-        CHECK_HELP,
-    );
-    with_words(
-        alloc,
-        command,
-        "What the vectors check: tree-math, tree-validation, tree-operations or transcript",
-    )
+    let about = "Checks the test vectors of a file";
+    let command = Ok(titled(alloc, "check", about, CHECK_HELP));
+    let help = "What the vectors check: tree-math, tree-validation, tree-operations or transcript";
+    with_words(alloc, command, help)
 }
 
-/// Adds a subcommand to the command, after the others, if it could be made.
+/// Adds a subcommand to the command, after the others, if both could be made.
 fn with_command<'a>(
-    command: Command<'a>,
+    command: Result<Command<'a>, AllocError>,
     sub: Result<Command<'a>, AllocError>,
 ) -> Result<Command<'a>, AllocError>
-    requires command_own { (fields_of command).has_globals ≡ false }
-    requires sub_own { IfOk sub (λ s. (fields_of s).has_globals ≡ false) }
-    ensures app { (app : App) → IfOk sub.entry (λ s. app_of s ≡ app)
-        → IfOk result (λ r. app_of r ≡ with_subcommand (app_of command.entry) app.top) }
-    ensures never_help { IfOk result (λ r. (fields_of r).has_globals ≡ false) }
+    ensures { (app own : App) → IfOk command.entry (λ c. app_of c ≡ app) → MakesApp own sub.entry
+        → IfOk result (λ r. app_of r ≡ with_subcommand app own.top) }
 {
+    let command = match command {
+        Ok(command) => command,
+        Err(error) => {
+            drop(sub);
+            return Err(error);
+        }
+    };
     match sub {
         Ok(sub) => command.subcommand(sub),
         Err(error) => {
@@ -337,8 +330,7 @@ fn with_command<'a>(
 
 /// Returns the program without its subcommands.
 fn bare_command<'a>(alloc: Global) -> Command<'a>
-    ensures app { app_of result ≡ bare_app }
-    ensures never_help { (fields_of result).has_globals ≡ false }
+    ensures { app_of result ≡ bare_app }
 {
     Command::new(alloc, "mlscheck")
         .about("Checks the public state of MLS groups (RFC 9420)")
@@ -349,14 +341,14 @@ fn bare_command<'a>(alloc: Global) -> Command<'a>
 
 /// Returns the program with all of its subcommands.
 pub(crate) fn mlscheck_command<'a>(alloc: Global) -> Result<Command<'a>, AllocError>
-    ensures app { IfOk result (λ c. app_of c ≡ mlscheck_app) }
-    ensures never_help { IfOk result (λ c. (fields_of c).has_globals ≡ false) }
+    ensures { IfOk result (λ c. app_of c ≡ mlscheck_app) }
 {
-    let command = with_command(bare_command(alloc), show_command(alloc))?;
-    let command = with_command(command, validate_tree_command(alloc))?;
-    let command = with_command(command, validate_command(alloc))?;
-    let command = with_command(command, replay_command(alloc))?;
-    let command = with_command(command, signatures_command(alloc))?;
-    let command = with_command(command, gate_command(alloc))?;
+    let command = Ok(bare_command(alloc));
+    let command = with_command(command, show_command(alloc));
+    let command = with_command(command, validate_tree_command(alloc));
+    let command = with_command(command, validate_command(alloc));
+    let command = with_command(command, replay_command(alloc));
+    let command = with_command(command, signatures_command(alloc));
+    let command = with_command(command, gate_command(alloc));
     with_command(command, check_command(alloc))
 }

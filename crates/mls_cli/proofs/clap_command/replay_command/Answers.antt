@@ -1,12 +1,8 @@
-use Rattle.std.proofs.Common.{◌∙◌, ap}
-use Rattle.std.proofs.lemmas.Result.{IfOk-weaker}
-use Rattle.clap.specs.Words.{with_rule}
-use Rattle.mls_cli.specs.ClapCommands.{with_group, with_checker}
 use Rattle.mls_cli.proofs.clap_command.replay_command.Goals as goal
 
-pub returns-clause-app : goal.returns-clause-app
-returns-clause-app c =
-    let group = c.in_ok-command.ensures.app ∙ ap with_group c.titled-command.ensures.app in
-    let log = c.in_ok-command-2.ensures.app ∙ (λ i. with_rule (group i) (c.needed-log.ensures.rule i)) in
-    let save = c.in_ok-command-3.ensures.app ∙ (λ i. with_rule (log i) (c.file-save.ensures.rule i)) in
-    IfOk-weaker c.with_checker.result _ _ (λ r app. app ∙ ap with_checker save) c.with_checker.ensures.app
+pub returns : goal.returns
+returns c =
+    let group = c.with_group-command.ensures _ c.titled.ensures in
+    let log = c.with-command.ensures _ _ group c.needed-log.ensures in
+    let save = c.with-command-2.ensures _ _ log c.file-save.ensures in
+    c.with_checker.ensures _ save

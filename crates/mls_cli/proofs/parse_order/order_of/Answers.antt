@@ -24,7 +24,7 @@ none_among k (x ∷ xs) among e = cc
 
 pub returns-in-Ok-clause-order : goal.returns-in-Ok-clause-order
 returns-in-Ok-clause-order c =
-    let app_is = c.in_ok-command.ensures.app in
+    let app_is = c.in_ok-command.ensures in
     let words : List Text = map string_bytes c.args.words.now in
     let found = (c.in-Ok.ensures.matches (ap is_simple app_is ∙ app_is_simple)).1 ∙ ap (λ (a : App). subcommand_of a words) app_is in
     let passes = ap (λ (a : App). fault_of a words) (sym app_is) ∙ c.in-Ok.ensures.kinds (ap is_simple_and_free app_is ∙ app_is_free) in
@@ -32,7 +32,7 @@ returns-in-Ok-clause-order c =
 
 pub returns-in-Ok-clause-refused : goal.returns-in-Ok-clause-refused
 returns-in-Ok-clause-refused c =
-    let app_is = c.in_ok-command.ensures.app in
+    let app_is = c.in_ok-command.ensures in
     let words : List Text = map string_bytes c.args.words.now in
     let found = (c.in-Ok.ensures.matches (ap is_simple app_is ∙ app_is_simple)).1 ∙ ap (λ (a : App). subcommand_of a words) app_is in
     IfErr-weaker c.read_order-order.result _ _ (λ e h not_memory o is_order. h not_memory o (subst (λ f. IsGiven f o) (sym found) is_order.found)) c.read_order-order.ensures.refused
@@ -42,7 +42,7 @@ returns-in-Ok-clause-help c = IfErr-weaker c.read_order-order.result _ _ (λ e h
 
 pub returns-in-Err-clause-refused : goal.returns-in-Err-clause-refused
 returns-in-Err-clause-refused c not_memory o is_order =
-    let app_is = c.in_ok-command.ensures.app in
+    let app_is = c.in_ok-command.ensures in
     let words : List Text = map string_bytes c.args.words.now in
     elim (c.in-Err.ensures.kinds (ap is_simple_and_free app_is ∙ app_is_free)) [
       | inl memory ↦ not_memory (c.refusal-fault.ensures.memory memory)
@@ -51,7 +51,7 @@ returns-in-Err-clause-refused c not_memory o is_order =
 
 pub returns-in-Err-clause-help : goal.returns-in-Err-clause-help
 returns-in-Err-clause-help c help =
-    let app_is = c.in_ok-command.ensures.app in
+    let app_is = c.in_ok-command.ensures in
     let words : List Text = map string_bytes c.args.words.now in
     let kinds = c.in-Err.ensures.kinds (ap is_simple_and_free app_is ∙ app_is_free) in
     elim (c.refusal-fault.ensures.help help) [
@@ -71,7 +71,7 @@ only_one k only kinds among is_one = elim (subst (λ (kinds : Kinds). IsAmong k 
 
 pub returns-in-Err-clause-usage : goal.returns-in-Err-clause-usage
 returns-in-Err-clause-usage c usage alone =
-    let app_is = c.in_ok-command.ensures.app in
+    let app_is = c.in_ok-command.ensures in
     let words : List Text = map string_bytes c.args.words.now in
     let other = c.refusal-fault.ensures.usage usage in
     elim (c.in-Err.ensures.kinds (ap is_simple_and_free app_is ∙ app_is_free)) [
@@ -86,7 +86,7 @@ returns-in-Err-clause-usage c usage alone =
 
 pub returns-in-Ok-clause-usage : goal.returns-in-Ok-clause-usage
 returns-in-Ok-clause-usage c =
-    let app_is = c.in_ok-command.ensures.app in
+    let app_is = c.in_ok-command.ensures in
     let words : List Text = map string_bytes c.args.words.now in
     let passes = ap (λ (a : App). fault_of a words) (sym app_is) ∙ c.in-Ok.ensures.kinds (ap is_simple_and_free app_is ∙ app_is_free) in
     IfErr-weaker c.read_order-order.result _ _ (λ e own usage alone. elim alone [ inl only ↦ cc | inr only ↦ cc ]) c.read_order-order.ensures.never_help

@@ -2,6 +2,7 @@
 
 use crate::fault::RowFault;
 use crate::row::have;
+use crate::text_writer::TextWriter;
 use std::alloc::{AllocError, Global};
 use std::fmt::{Debug, Display};
 
@@ -28,6 +29,23 @@ impl CallResult {
         }
     }
 
+    /// Text that was made in two ways, if it was.
+    pub(crate) fn of_both(
+        made: Result<String, RowFault>,
+        other: Result<String, RowFault>,
+    ) -> Result<CallResult, RowFault> {
+        match made {
+            Ok(text) => match other {
+                Ok(other) => Ok(CallResult {
+                    text,
+                    other: Some(other),
+                }),
+                Err(fault) => Err(fault),
+            },
+            Err(fault) => Err(fault),
+        }
+    }
+
     /// Bytes by their hexadecimal digits.
     pub(crate) fn bytes(alloc: Global, bytes: &[u8]) -> Result<CallResult, RowFault> {
         CallResult::of(have(hex::encode(alloc, bytes)))
@@ -40,8 +58,7 @@ impl CallResult {
 
     /// A fault by its name.
     pub(crate) fn name<E: Debug>(alloc: Global, fault: &E) -> Result<CallResult, RowFault> {
-        let name = format!(in alloc; "{fault:?}")?;
-        CallResult::of(have(name_of(alloc, name.as_str())))
+        CallResult::of(name_of(alloc, format!(in alloc; "{fault:?}")))
     }
 
     /// A fault by its name, and in words.
@@ -49,12 +66,8 @@ impl CallResult {
         alloc: Global,
         fault: &E,
     ) -> Result<CallResult, RowFault> {
-        let words = format!(in alloc; "{fault}")?;
-        let name = format!(in alloc; "{fault:?}")?;
-        Ok(CallResult {
-            text: name_of(alloc, name.as_str())?,
-            other: Some(words),
-        })
+        let name = name_of(alloc, format!(in alloc; "{fault:?}"));
+        CallResult::of_both(name, have(format!(in alloc; "{fault}")))
     }
 
     /// Whether this is what was expected.
@@ -69,15 +82,31 @@ impl CallResult {
     }
 }
 
-/// A value's name without brackets: what it holds follows after a space.
-pub(crate) fn name_of(alloc: Global, name: &str) -> Result<String, AllocError> {
-    let mut text = String::new(alloc);
+/// Whether two texts were made and are equal.
+pub(crate) fn are_same(one: &Result<String, RowFault>, other: &Result<String, RowFault>) -> bool {
+    match (one, other) {
+        (Ok(one), Ok(other)) => one.as_str() == other.as_str(),
+        _ => false,
+    }
+}
+
+/// A name without brackets: what they hold follows after a space.
+fn without_brackets(alloc: Global, name: &str) -> Result<String, RowFault> {
+    let mut text = TextWriter::new(alloc);
     for c in name.chars() {
         match c {
-            '(' => text.push(' ')?,
+            '(' => text.add_char(' '),
             ')' => {}
-            _ => text.push(c)?,
+            _ => text.add_char(c),
         }
     }
-    Ok(text)
+    text.finish()
+}
+
+/// A value's name, if it was made, without brackets: what it holds follows after a space.
+pub(crate) fn name_of(alloc: Global, made: Result<String, AllocError>) -> Result<String, RowFault> {
+    match made {
+        Ok(name) => without_brackets(alloc, name.as_str()),
+        Err(_) => Err(RowFault::OutOfMemory),
+    }
 }

@@ -18,47 +18,67 @@ use std::fmt::Debug;
 /// A word if there is no fault.
 fn validity<E: Debug + Drop>(
     alloc: Global,
-    validated: Result<(), E>,
+    validated: Result<Result<(), E>, RowFault>,
     word: &str,
 ) -> Result<CallResult, RowFault> {
     match validated {
-        Ok(()) => CallResult::word(alloc, word),
-        Err(fault) => CallResult::name(alloc, &fault),
+        Ok(Ok(())) => CallResult::word(alloc, word),
+        Ok(Err(fault)) => CallResult::name(alloc, &fault),
+        Err(fault) => Err(fault),
     }
 }
 
-/// Whether something holds.
-fn truth(alloc: Global, holds: bool) -> Result<CallResult, RowFault> {
-    CallResult::of(have(format!(in alloc; "{holds}")))
-}
-
-// ---- trees
-
-/// A copy of a tree in which each hash is cached.
-fn filled(alloc: Global, suite: Suite, tree: &PublicTree) -> Result<PublicTree, RowFault> {
-    let mut copy = have(tree.try_clone(alloc))?;
-    match fill_hashes(alloc, suite, &mut copy) {
-        Ok(_) => Ok(copy),
+/// Whether something holds, if that was found.
+fn truth<E: Drop>(alloc: Global, holds: Result<bool, E>) -> Result<CallResult, RowFault> {
+    match holds {
+        Ok(true) => CallResult::word(alloc, "true"),
+        Ok(false) => CallResult::word(alloc, "false"),
         Err(_) => Err(RowFault::OutOfMemory),
     }
 }
 
-/// A tree that is read from the encoding of another one, with the hashes of its leaves. `None` if that tree has no
-/// encoding, or more leaves than its encoding has.
-fn hashed_as_read(
+// ---- trees
+
+/// What the validator finds of a tree by cached hashes.
+fn validated_by_hashes(
+    alloc: Global,
+    context: &GroupContext,
+    tree: &PublicTree,
+) -> Result<Result<(), TreeFault>, RowFault> {
+    let suite = have(Suite::from_u16(context.cipher_suite))?;
+    let mut copy = have(tree.try_clone(alloc))?;
+    match fill_hashes(alloc, suite, &mut copy) {
+        Ok(_) => {
+            let found = validate_tree(alloc, suite, context, &copy);
+            drop(copy);
+            Ok(found)
+        }
+        Err(_) => {
+            drop(copy);
+            Err(RowFault::OutOfMemory)
+        }
+    }
+}
+
+/// What the validator finds of a tree that is read from the encoding of another one, by hashes of leaves as they are read. `None` if
+/// that tree has no encoding, or more leaves than its encoding has.
+fn validated_as_read(
     alloc: Global,
     suite: Suite,
+    context: &GroupContext,
     tree: &PublicTree,
-) -> Result<Option<PublicTree>, RowFault> {
+) -> Result<Option<Result<(), TreeFault>>, RowFault> {
     let Ok(encoding) = encode_ratchet_tree(alloc, tree.nodes()) else {
         return Ok(None);
     };
     let read = have(decode_with_leaf_hashes(alloc, suite, encoding))?;
-    if read.leaf_count() == tree.leaf_count() {
-        Ok(Some(read))
-    } else {
-        drop(read);
-        Ok(None)
+    let is_whole = read.leaf_count() == tree.leaf_count();
+    let found = validated_by_hashes(alloc, context, &read);
+    drop(read);
+    match found {
+        Ok(found) if is_whole => Ok(Some(found)),
+        Ok(_) => Ok(None),
+        Err(fault) => Err(fault),
     }
 }
 
@@ -71,25 +91,19 @@ fn validated(
     let Ok(suite) = Suite::from_u16(context.cipher_suite) else {
         return Err(RowFault::Field(1, "a context of a suite that is supported"));
     };
-    let copy = filled(alloc, suite, tree)?;
-    let by_hashes = validate_tree(alloc, suite, context, &copy);
-    drop(copy);
     let found = validate_tree(alloc, suite, context, tree);
-    if found != by_hashes {
-        return Err(RowFault::TwoResults);
+    let by_hashes = validated_by_hashes(alloc, context, tree)?;
+    let as_read = validated_as_read(alloc, suite, context, tree)?;
+    if by_hashes == found && as_read.unwrap_or(found) == found {
+        Ok(found)
+    } else {
+        Err(RowFault::TwoResults)
     }
-    if let Some(read) = hashed_as_read(alloc, suite, tree)? {
-        let read = filled(alloc, suite, &read)?;
-        if validate_tree(alloc, suite, context, &read) != found {
-            return Err(RowFault::TwoResults);
-        }
-    }
-    Ok(found)
 }
 
 /// `valid_tree | CONTEXT | TREE`: `valid`, or the first fault of the tree.
 pub(crate) fn valid_tree(row: &Row) -> Result<CallResult, RowFault> {
-    row.has(2)?;
+    row.has(2);
     let tree = row.tree(2)?;
     let found = match row.value::<GroupContext>(1, "a context") {
         Ok(context) => {
@@ -100,24 +114,23 @@ pub(crate) fn valid_tree(row: &Row) -> Result<CallResult, RowFault> {
         Err(fault) => Err(fault),
     };
     drop(tree);
-    validity(row.alloc, found?, "valid")
+    validity(row.alloc, found, "valid")
 }
 
 /// `distinct_keys | TREE`: whether no two nodes have one encryption key.
 pub(crate) fn distinct_keys(row: &Row) -> Result<CallResult, RowFault> {
-    row.has(1)?;
+    row.has(1);
     let tree = row.tree(1)?;
     let found = has_distinct_keys(row.alloc, &tree);
     drop(tree);
-    truth(row.alloc, have(found)?)
+    truth(row.alloc, found)
 }
 
 /// `parent_hash_of | SUITE | PARENT | HASH`: the parent hash of a parent node, by the tree hash of the copath child.
 pub(crate) fn hash_of_node(row: &Row) -> Result<CallResult, RowFault> {
-    row.has(3)?;
+    row.has(3);
     let suite = suite_at(row, 1)?;
-    let bytes = row.bytes(3)?;
-    let Some(half) = HashValue::new(bytes.as_slice()) else {
+    let Some(half) = HashValue::new(row.bytes(3).as_slice()) else {
         return Err(RowFault::Field(3, "a hash"));
     };
     let parent = row.value::<ParentNode>(2, "a parent")?;
@@ -137,9 +150,9 @@ fn members_by<C: SignatureCheck>(
     tree: &PublicTree,
     checker: &C,
 ) -> Result<Result<(), MemberFault>, RowFault> {
-    let suite = row.short_number(1)?;
     let group_id = row.opaque(2)?;
     let required = row.value::<RequiredCapabilities>(3, "required capabilities")?;
+    let suite = row.short_number(1);
     let found = validate_members(row.alloc, suite, &group_id, &required, tree, checker);
     drop(required);
     Ok(found)
@@ -147,50 +160,47 @@ fn members_by<C: SignatureCheck>(
 
 /// `members | SUITE | GROUP ID | REQUIRED | TREE | CHECKER`: `members`, or the first fault of the leaves.
 pub(crate) fn members(row: &Row) -> Result<CallResult, RowFault> {
-    row.has(5)?;
+    row.has(5);
     let tree = row.tree(4)?;
     let found = if row.is_trusting(5) {
         members_by(row, &tree, &Trusting)
     } else {
-        let listed = row.receipts(5);
-        match &listed {
-            Ok(listed) => members_by(row, &tree, listed),
-            Err(_) => Err(RowFault::Field(5, "receipts")),
-        }
+        members_by(row, &tree, &row.receipts(5))
     };
     drop(tree);
-    validity(row.alloc, found?, "members")
+    validity(row.alloc, found, "members")
 }
 
 /// Whether a leaf is signed by a checker.
-fn leaf_signed_by<C: SignatureCheck>(row: &Row, checker: &C) -> Result<bool, RowFault> {
-    let suite = row.short_number(1)?;
+fn leaf_signed_by<C: SignatureCheck>(row: &Row, checker: &C) -> Result<CallResult, RowFault> {
     let group_id = row.opaque(2)?;
-    let index = row.number(3)?;
     let leaf = row.value::<EncodedLeaf>(4, "a leaf")?;
-    let found = is_leaf_signed(row.alloc, suite, &group_id, index, &leaf, checker);
+    let suite = row.short_number(1);
+    let found = is_leaf_signed(row.alloc, suite, &group_id, row.number(3), &leaf, checker);
     drop(leaf);
-    have(found)
+    truth(row.alloc, found)
 }
 
 /// `leaf_signed | SUITE | GROUP ID | INDEX | LEAF | CHECKER`: whether the signature of a leaf is good.
 pub(crate) fn leaf_signed(row: &Row) -> Result<CallResult, RowFault> {
-    row.has(5)?;
-    let found = if row.is_trusting(5) {
-        leaf_signed_by(row, &Trusting)?
+    row.has(5);
+    if row.is_trusting(5) {
+        leaf_signed_by(row, &Trusting)
     } else {
-        leaf_signed_by(row, &row.receipts(5)?)?
-    };
-    truth(row.alloc, found)
+        leaf_signed_by(row, &row.receipts(5))
+    }
 }
 
 /// A field that is a rule that needs no other leaf.
-fn rule_at(row: &Row, at: usize) -> Result<LeafRule, RowFault> {
+fn rule_at(row: &Row, at: usize) -> LeafRule {
     match row.word(at) {
-        "extensions" => Ok(LeafRule::Extensions),
-        "requirements" => Ok(LeafRule::Requirements),
-        "signature" => Ok(LeafRule::Signature),
-        _ => Err(RowFault::Field(at, "a rule of leaves")),
+        "extensions" => LeafRule::Extensions,
+        "requirements" => LeafRule::Requirements,
+        "signature" => LeafRule::Signature,
+        _ => {
+            row.refuse(at, "a rule of leaves");
+            LeafRule::Signature
+        }
     }
 }
 
@@ -200,10 +210,10 @@ fn first_failing(
     context: &GroupContext,
     required: &RequiredCapabilities,
 ) -> Result<Option<u32>, RowFault> {
-    let rule = rule_at(row, 1)?;
-    let indices = row.numbers(5)?;
-    let checker = Receipts::new(row.alloc);
     let tree = row.tree(4)?;
+    let rule = rule_at(row, 1);
+    let indices = row.numbers(5);
+    let checker = Receipts::new(row.alloc);
     let found = match SortedRequirements::new(row.alloc, required) {
         Ok(sorted) => {
             let rules = LeafRules {
@@ -223,7 +233,7 @@ fn first_failing(
 /// `changed_leaves | RULE | CONTEXT | REQUIRED | TREE | NODE INDICES`: the smallest leaf index of a leaf at these node indices that
 /// fails a rule that needs no other leaf, if no signature is good; or `none`.
 pub(crate) fn changed_leaves(row: &Row) -> Result<CallResult, RowFault> {
-    row.has(5)?;
+    row.has(5);
     let context = row.value::<GroupContext>(2, "a context")?;
     let found = match row.value::<RequiredCapabilities>(3, "required capabilities") {
         Ok(required) => {
@@ -234,84 +244,84 @@ pub(crate) fn changed_leaves(row: &Row) -> Result<CallResult, RowFault> {
         Err(fault) => Err(fault),
     };
     drop(context);
-    match found? {
-        Some(leaf) => CallResult::of(have(format!(in row.alloc; "{leaf}"))),
-        None => CallResult::word(row.alloc, "none"),
+    match found {
+        Ok(Some(leaf)) => CallResult::of(have(format!(in row.alloc; "{leaf}"))),
+        Ok(None) => CallResult::word(row.alloc, "none"),
+        Err(fault) => Err(fault),
+    }
+}
+
+/// A field that is a kind of keys.
+fn key_kind_at(row: &Row, at: usize) -> KeyKind {
+    match row.word(at) {
+        "encryption" => KeyKind::Encryption,
+        "signature" => KeyKind::Signature,
+        _ => {
+            row.refuse(at, "encryption or signature");
+            KeyKind::Signature
+        }
     }
 }
 
 /// `key_in | TREE | encryption or signature | KEY`: whether a node of the tree has this key.
 pub(crate) fn key_in(row: &Row) -> Result<CallResult, RowFault> {
-    row.has(3)?;
-    let kind = match row.word(2) {
-        "encryption" => KeyKind::Encryption,
-        "signature" => KeyKind::Signature,
-        _ => return Err(RowFault::Field(2, "encryption or signature")),
-    };
-    let key = row.bytes(3)?;
+    row.has(3);
     let tree = row.tree(1)?;
+    let kind = key_kind_at(row, 2);
+    let key = row.bytes(3);
     let found = match TreeIndex::of(row.alloc, &tree) {
         Ok(index) => {
             let found = index.has_key(&tree, kind, key.as_slice());
             drop(index);
             Ok(found)
         }
-        Err(_) => Err(RowFault::OutOfMemory),
+        Err(fault) => Err(fault),
     };
     drop(tree);
-    truth(row.alloc, found?)
+    truth(row.alloc, found)
 }
 
 // ---- signatures
 
 /// Whether a signature is good by a checker.
-fn signed_by<C: SignatureCheck>(row: &Row, checker: &C) -> Result<bool, RowFault> {
-    let suite = row.short_number(2)?;
-    let key = row.bytes(3)?;
-    let label = row.text(4)?;
-    let content = row.bytes(5)?;
-    let signature = row.bytes(6)?;
-    have(signed(
+fn signed_by<C: SignatureCheck>(row: &Row, checker: &C) -> Result<CallResult, RowFault> {
+    let suite = row.short_number(2);
+    let found = signed(
         row.alloc,
         checker,
         suite,
-        key.as_slice(),
-        label.as_str(),
-        content.as_slice(),
-        signature.as_slice(),
-    ))
+        row.bytes(3).as_slice(),
+        row.text(4).as_str(),
+        row.bytes(5).as_slice(),
+        row.bytes(6).as_slice(),
+    );
+    truth(row.alloc, found)
 }
 
 /// `signed | CHECKER | SUITE | KEY | LABEL | CONTENT | SIGNATURE`: whether the signature of a content under a label is good.
 pub(crate) fn is_signed(row: &Row) -> Result<CallResult, RowFault> {
-    row.has(6)?;
-    let found = if row.is_trusting(1) {
-        signed_by(row, &Trusting)?
+    row.has(6);
+    if row.is_trusting(1) {
+        signed_by(row, &Trusting)
     } else {
-        signed_by(row, &row.receipts(1)?)?
-    };
-    truth(row.alloc, found)
+        signed_by(row, &row.receipts(1))
+    }
 }
 
 /// `listed | FILE | SUITE | KEY | SIGN CONTENT | SIGNATURE`: whether a signature is good by a file of receipts, or why the file can't be
 /// read.
 pub(crate) fn listed(row: &Row) -> Result<CallResult, RowFault> {
-    row.has(5)?;
-    let file = row.bytes(1)?;
-    let suite = row.short_number(2)?;
-    let key = row.bytes(3)?;
-    let content = row.bytes(4)?;
-    let signature = row.bytes(5)?;
-    match Receipts::read(row.alloc, file.as_slice()) {
+    row.has(5);
+    match Receipts::read(row.alloc, row.bytes(1).as_slice()) {
         Ok(listed) => {
             let found = listed.good(
-                suite,
-                key.as_slice(),
-                content.as_slice(),
-                signature.as_slice(),
+                row.short_number(2),
+                row.bytes(3).as_slice(),
+                row.bytes(4).as_slice(),
+                row.bytes(5).as_slice(),
             );
             drop(listed);
-            truth(row.alloc, found)
+            CallResult::of(have(format!(in row.alloc; "{found}")))
         }
         Err(fault) => CallResult::fault(row.alloc, &fault),
     }

@@ -3,16 +3,9 @@
 use crate::bytes::ByteReader;
 use crate::fault::RowFault;
 use crate::names::Names;
+use crate::text_writer::TextWriter;
 use crate::token::Token;
-use std::alloc::{AllocError, Global};
-
-/// Adds a word after a space.
-fn add_word(text: &mut String, word: &str) -> Result<(), AllocError> {
-    if !text.is_empty() {
-        text.push(' ')?;
-    }
-    text.push_str(word)
-}
+use std::alloc::Global;
 
 /// The word of a result that is itself.
 fn plain(token: &Token) -> Option<&str> {
@@ -24,6 +17,14 @@ fn plain(token: &Token) -> Option<&str> {
     }
 }
 
+/// Adds the bytes that were read, if no bracket is open.
+fn add_bytes(text: &mut TextWriter, reader: &mut ByteReader<'_>) {
+    if reader.is_outside() {
+        text.separate(" ");
+        text.add_digits(reader.take_bytes().as_slice());
+    }
+}
+
 /// Words with a space between two. Names, texts, vectors, hashes and groups are the hexadecimal digits of their bytes; any
 /// other word is itself.
 pub(crate) fn expected_of(
@@ -31,23 +32,22 @@ pub(crate) fn expected_of(
     names: &Names,
     tokens: &[Token],
 ) -> Result<String, RowFault> {
-    let mut text = String::new(alloc);
+    let mut text = TextWriter::new(alloc);
     let mut reader = ByteReader::new(alloc, names);
     for token in tokens {
         match plain(token) {
-            Some(word) if reader.is_outside() => add_word(&mut text, word)?,
+            Some(word) if reader.is_outside() => {
+                text.separate(" ");
+                text.add(word);
+            }
             _ => {
-                reader.take(token)?;
-                if reader.is_outside() {
-                    let digits = hex::encode(alloc, reader.take_bytes().as_slice())?;
-                    add_word(&mut text, digits.as_str())?;
-                }
+                reader.take(token);
+                add_bytes(&mut text, &mut reader);
             }
         }
     }
-    if reader.is_outside() {
-        Ok(text)
-    } else {
-        Err(RowFault::Brackets)
+    match reader.finish() {
+        Ok(_) => text.finish(),
+        Err(fault) => Err(fault),
     }
 }

@@ -8,8 +8,10 @@ use crate::expected::expected_of;
 use crate::fault::RowFault;
 use crate::names::{Names, copy_of, is_name};
 use crate::row::{Parts, Row, only_word, parts_of};
-use crate::token::tokens_of;
+use crate::text_writer::TextWriter;
+use crate::token::{Token, tokens_of};
 use std::alloc::Global;
+use std::cell::Cell;
 use std::{fs, io};
 
 /// How many rows of a kind there are.
@@ -32,20 +34,39 @@ fn count(alloc: Global, counts: &mut Vec<KindCount>, kind: &str) -> Result<(), R
     Ok(())
 }
 
-/// Makes the call of a row, and compares its result.
-fn check_row(alloc: Global, names: &Names, parts: &Parts) -> Result<(), RowFault> {
-    let row = Row {
-        alloc,
-        names,
-        fields: parts.fields.as_slice(),
-    };
-    let wanted = expected_of(alloc, names, parts.expected.as_slice())?;
-    let found = call(&row)?;
+/// Makes the call of a row. A fault that is found of its fields comes before what the call returns.
+fn result_of(row: &Row) -> Result<CallResult, RowFault> {
+    let found = call(row);
+    match row.take_fault() {
+        Some(fault) => Err(fault),
+        None => found,
+    }
+}
+
+/// Compares the result of a row with the one that is expected.
+fn compare(wanted: String, found: CallResult) -> Result<(), RowFault> {
     if found.is(wanted.as_str()) {
         Ok(())
     } else {
         let CallResult { text, .. } = found;
         Err(RowFault::Wrong(wanted, text))
+    }
+}
+
+/// Makes the call of a row, and compares its result.
+fn check_row<'a>(alloc: Global, names: &'a Names, parts: &'a Parts) -> Result<(), RowFault> {
+    let wanted = expected_of(alloc, names, parts.expected.as_slice())?;
+    let row = Row {
+        alloc,
+        names,
+        fields: parts.fields.as_slice(),
+        fault: Cell::new(None),
+    };
+    let found = result_of(&row);
+    drop(row);
+    match found {
+        Ok(found) => compare(wanted, found),
+        Err(fault) => Err(fault),
     }
 }
 
@@ -85,20 +106,36 @@ impl Found {
         rows
     }
 
-    /// Reads a name or a row.
-    fn take(&mut self, alloc: Global, names: &mut Names, entry: &Entry) -> Result<(), RowFault> {
-        let parts = parts_of(alloc, tokens_of(alloc, entry.text.as_str())?)?;
-        if let Some(name) = defined(&parts) {
-            let bytes = bytes_of(alloc, names, parts.expected.as_slice())?;
-            self.names = self.names.saturating_add(1);
-            return names.define(copy_of(alloc, name)?, bytes);
-        }
+    /// Reads a name and its bytes.
+    fn take_name(
+        &mut self,
+        alloc: Global,
+        names: &mut Names,
+        name: &str,
+        expected: &[Token],
+    ) -> Result<(), RowFault> {
+        let bytes = bytes_of(alloc, names, expected)?;
+        self.names = self.names.saturating_add(1);
+        names.define(copy_of(alloc, name)?, bytes)
+    }
+
+    /// Reads a row.
+    fn take_row(&mut self, alloc: Global, names: &Names, parts: &Parts) -> Result<(), RowFault> {
         let kind = parts
             .fields
             .first()
             .and_then(|field| only_word(field.as_slice()));
         count(alloc, &mut self.counts, kind.unwrap_or(""))?;
-        check_row(alloc, names, &parts)
+        check_row(alloc, names, parts)
+    }
+
+    /// Reads a name or a row.
+    fn take(&mut self, alloc: Global, names: &mut Names, entry: &Entry) -> Result<(), RowFault> {
+        let parts = parts_of(alloc, tokens_of(alloc, entry.text.as_str())?)?;
+        match defined(&parts) {
+            Some(name) => self.take_name(alloc, names, name, parts.expected.as_slice()),
+            None => self.take_row(alloc, names, &parts),
+        }
     }
 
     /// What is in the file, in words.
@@ -107,11 +144,12 @@ impl Found {
         if self.names == 0 && rows == 0 {
             return Err(RowFault::Empty);
         }
-        let mut text = format!(in alloc; "{} names, {rows} rows", self.names)?;
+        let mut text = TextWriter::new(alloc);
+        text.add_made(format!(in alloc; "{} names, {rows} rows", self.names));
         for count in self.counts.iter() {
-            write!(text, ", {} {}", count.kind, count.rows)?;
+            text.add_made(format!(in alloc; ", {} {}", count.kind, count.rows));
         }
-        Ok(text)
+        text.finish()
     }
 }
 

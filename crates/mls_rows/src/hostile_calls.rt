@@ -5,7 +5,8 @@ use crate::fault::RowFault;
 use crate::row::{Row, have};
 use crate::state::brief_state;
 use crate::stories::{started, taken_text};
-use mls_check::{Receipts, SignatureCheck, Trusting};
+use crate::text_writer::TextWriter;
+use mls_check::{Receipts, Trusting};
 use mls_follow::{Follower, Refusal, ResumeFault};
 use mls_msgs::decode_message;
 use mls_nodes::{NodeFault, decode_leaf, decode_ratchet_tree};
@@ -63,34 +64,41 @@ fn is_truncated(alloc: Global, what: &str, front: &[u8]) -> bool {
 
 /// `cut | tree, leaf, state or message | BYTES`: how many bytes an encoding has. Each shorter front of it has to be truncated.
 pub(crate) fn cut(row: &Row) -> Result<CallResult, RowFault> {
-    row.has(2)?;
-    let bytes = row.bytes(2)?;
+    row.has(2);
+    let bytes = row.bytes(2);
     for size in 0..bytes.len() {
         let front = bytes.as_slice().get(..size).unwrap_or(&[]);
         if !is_truncated(row.alloc, row.word(1), front) {
-            return Err(RowFault::CutIsRead(size));
+            row.record(RowFault::CutIsRead(size));
         }
     }
     CallResult::of(have(format!(in row.alloc; "{}", bytes.len())))
 }
 
 /// Whether a follower that starts from the first field refuses bytes as malformed.
-fn is_malformed(row: &Row, bytes: &[u8]) -> Result<bool, RowFault> {
-    let mut follower = started(row, Trusting)?;
-    let taken = follower.take(bytes);
-    drop(follower);
-    Ok(matches!(taken, Err(Refusal::Malformed)))
+fn is_malformed(row: &Row, bytes: &[u8]) -> bool {
+    match started(row, Trusting) {
+        Ok(mut follower) => {
+            let taken = follower.take(bytes);
+            drop(follower);
+            matches!(taken, Err(Refusal::Malformed))
+        }
+        Err(fault) => {
+            row.record(fault);
+            false
+        }
+    }
 }
 
 /// `cut_message | INFO | MESSAGE`: how many bytes a message has. A follower that starts from a GroupInfo has to refuse each shorter front
 /// of it as malformed.
 pub(crate) fn cut_message(row: &Row) -> Result<CallResult, RowFault> {
-    row.has(2)?;
-    let bytes = row.bytes(2)?;
+    row.has(2);
+    let bytes = row.bytes(2);
     for size in 0..bytes.len() {
         let front = bytes.as_slice().get(..size).unwrap_or(&[]);
-        if !is_malformed(row, front)? {
-            return Err(RowFault::CutIsRead(size));
+        if !is_malformed(row, front) {
+            row.record(RowFault::CutIsRead(size));
         }
     }
     CallResult::of(have(format!(in row.alloc; "{}", bytes.len())))
@@ -99,65 +107,66 @@ pub(crate) fn cut_message(row: &Row) -> Result<CallResult, RowFault> {
 // ---- changed bits
 
 /// The result for a message, if it is accepted. A refused one has to leave the state unchanged.
-fn accepted<C: SignatureCheck>(
-    alloc: Global,
-    follower: &mut Follower<C>,
-    message: &[u8],
-) -> Result<Option<String>, RowFault> {
-    let before = brief_state(alloc, follower)?;
-    if let Ok(taken) = follower.take(message) {
-        return Ok(Some(taken_text(alloc, taken)?));
-    }
-    if before.as_slice() == brief_state(alloc, follower)?.as_slice() {
-        Ok(None)
-    } else {
-        Err(RowFault::Changed(1))
+fn accepted(row: &Row, follower: &mut Follower<Receipts>, message: &[u8]) -> Option<String> {
+    let before = row.made(brief_state(row.alloc, follower));
+    match follower.take(message) {
+        Ok(taken) => row.some(taken_text(row.alloc, taken)),
+        Err(_) => {
+            let after = row.made(brief_state(row.alloc, follower));
+            if before.as_slice() != after.as_slice() {
+                row.record(RowFault::Changed(1));
+            }
+            None
+        }
     }
 }
 
 /// Whether a follower accepts the message of a field.
-fn accepts(row: &Row, follower: &mut Follower<Receipts>, at: usize) -> Result<bool, RowFault> {
-    let message = row.bytes(at)?;
-    Ok(follower.take(message.as_slice()).is_ok())
+fn accepts(row: &Row, follower: &mut Follower<Receipts>, at: usize) -> bool {
+    follower.take(row.bytes(at).as_slice()).is_ok()
 }
 
 /// Has a follower accept the messages of the fields from the third to the last but two.
-fn accept_first(row: &Row, follower: &mut Follower<Receipts>) -> Result<(), RowFault> {
+fn accept_first(row: &Row, follower: &mut Follower<Receipts>) {
     for at in 3..row.len().saturating_sub(1) {
-        if !accepts(row, follower, at)? {
-            return Err(RowFault::Field(at, "a message that is accepted"));
+        if !accepts(row, follower, at) {
+            row.refuse(at, "a message that is accepted");
         }
     }
-    Ok(())
 }
 
 /// A follower that has accepted the messages of the fields from the third to the last but two.
 fn ready(row: &Row) -> Result<Follower<Receipts>, RowFault> {
-    let mut follower = started(row, row.receipts(2)?)?;
-    match accept_first(row, &mut follower) {
-        Ok(()) => Ok(follower),
-        Err(fault) => {
-            drop(follower);
-            Err(fault)
-        }
+    let mut follower = started(row, row.receipts(2))?;
+    accept_first(row, &mut follower);
+    Ok(follower)
+}
+
+/// Replaces a follower by another one that is ready.
+fn make_ready(row: &Row, follower: &mut Follower<Receipts>) {
+    match ready(row) {
+        Ok(new) => drop(mem::replace(follower, new)),
+        Err(fault) => row.record(fault),
     }
 }
 
-/// Whether a message is accepted with the result of the unchanged one. The follower is then replaced by another one that is ready.
+/// Whether a message is accepted, which has to be with the result of the unchanged one. The follower is then replaced by another one that
+/// is ready.
 fn is_accepted(
     row: &Row,
     follower: &mut Follower<Receipts>,
     message: &[u8],
     unchanged: &str,
-) -> Result<bool, RowFault> {
-    match accepted(row.alloc, follower, message)? {
-        None => Ok(false),
-        Some(found) if found.as_str() == unchanged => {
-            let old = mem::replace(follower, ready(row)?);
-            drop(old);
-            Ok(true)
+) -> bool {
+    match accepted(row, follower, message) {
+        Some(found) => {
+            if found.as_str() != unchanged {
+                row.record(RowFault::OtherResult);
+            }
+            make_ready(row, follower);
+            true
         }
-        Some(_) => Err(RowFault::OtherResult),
+        None => false,
     }
 }
 
@@ -168,17 +177,16 @@ fn unchecked_bits(
     message: &mut Vec<u8>,
     at: usize,
     unchanged: &str,
-) -> Result<u32, RowFault> {
+) -> u32 {
     let mut count = 0u32;
     for bit in [1u8, 2, 4, 8, 16, 32, 64, 128] {
         flip(message, at, bit);
-        let found = is_accepted(row, follower, message.as_slice(), unchanged);
-        flip(message, at, bit);
-        if found? {
+        if is_accepted(row, follower, message.as_slice(), unchanged) {
             count = count.saturating_add(1);
         }
+        flip(message, at, bit);
     }
-    Ok(count)
+    count
 }
 
 /// Changes one bit of a byte.
@@ -202,25 +210,29 @@ fn resumes(alloc: Global, bytes: &[u8]) -> bool {
     }
 }
 
+/// Checks that no follower resumes from a state of which a bit of a byte is changed.
+fn check_bits(row: &Row, state: &mut Vec<u8>, at: usize) {
+    for bit in [1u8, 2, 4, 8, 16, 32, 64, 128] {
+        flip(state, at, bit);
+        if resumes(row.alloc, state.as_slice()) {
+            row.record(RowFault::Changed(at));
+        }
+        flip(state, at, bit);
+    }
+}
+
 /// `state_bits | STATE`: how many bits the file of a state has from which a follower resumes. None may resume if one of
 /// them is changed.
 pub(crate) fn state_bits(row: &Row) -> Result<CallResult, RowFault> {
-    row.has(1)?;
-    let mut state = row.bytes(1)?;
+    row.has(1);
+    let mut state = row.bytes(1);
     if !resumes(row.alloc, state.as_slice()) {
-        return Err(RowFault::Field(1, "a state"));
+        row.refuse(1, "a state");
     }
-    let mut count = 0usize;
     for at in 0..state.len() {
-        for bit in [1u8, 2, 4, 8, 16, 32, 64, 128] {
-            flip(&mut state, at, bit);
-            if resumes(row.alloc, state.as_slice()) {
-                return Err(RowFault::Changed(at));
-            }
-            flip(&mut state, at, bit);
-            count = count.saturating_add(1);
-        }
+        check_bits(row, &mut state, at);
     }
+    let count = state.len().saturating_mul(8);
     CallResult::of(have(format!(in row.alloc; "{count}")))
 }
 
@@ -231,24 +243,24 @@ fn unchecked_bytes(
     message: &mut Vec<u8>,
     ends: (usize, usize),
     unchanged: &str,
-) -> Result<Vec<usize>, RowFault> {
+) -> Vec<usize> {
     let mut unchecked = Vec::new(row.alloc);
     for at in ends.0..ends.1 {
-        match unchecked_bits(row, follower, message, at, unchanged)? {
+        match unchecked_bits(row, follower, message, at, unchanged) {
             0 => {}
-            8 => unchecked.push(at)?,
-            _ => return Err(RowFault::OtherResult),
+            8 => row.require(unchecked.push(at)),
+            _ => row.record(RowFault::OtherResult),
         }
     }
-    Ok(unchecked)
+    unchecked
 }
 
 /// The result of a follower that is ready for the unchanged message.
 fn unchanged_result(row: &Row, message: &[u8]) -> Result<String, RowFault> {
     let mut follower = ready(row)?;
-    let found = accepted(row.alloc, &mut follower, message);
+    let found = accepted(row, &mut follower, message);
     drop(follower);
-    match found? {
+    match found {
         Some(found) => Ok(found),
         None => Err(RowFault::Field(row.len().saturating_sub(1), "a message that is accepted")),
     }
@@ -256,38 +268,55 @@ fn unchanged_result(row: &Row, message: &[u8]) -> Result<String, RowFault> {
 
 /// Numbers that rise by their runs, each as the first and the one after the last: `3..5`.
 fn runs_text(alloc: Global, numbers: &[usize]) -> Result<String, RowFault> {
-    let mut text = String::new(alloc);
+    let mut text = TextWriter::new(alloc);
     let mut end = 0usize;
     for number in numbers {
-        if text.is_empty() {
-            write!(text, "{number}..")?;
+        if end == 0 {
+            text.add_made(format!(in alloc; "{number}.."));
         } else if *number != end {
-            write!(text, "{end} {number}..")?;
+            text.add_made(format!(in alloc; "{end} {number}.."));
         }
         end = number.saturating_add(1);
     }
-    if !text.is_empty() {
-        write!(text, "{end}")?;
+    if end != 0 {
+        text.add_number(end as u64);
     }
-    Ok(text)
+    text.finish()
+}
+
+/// A field that is two numbers.
+fn ends_at(row: &Row, at: usize) -> (usize, usize) {
+    match row.numbers(at).as_slice() {
+        [first, end] => (*first as usize, *end as usize),
+        _ => {
+            row.refuse(at, "two numbers");
+            (0, 0)
+        }
+    }
+}
+
+/// The runs of those bytes of a message from the first to the one before the end whose bits aren't checked.
+fn bits_result(
+    row: &Row,
+    message: &mut Vec<u8>,
+    ends: (usize, usize),
+    unchanged: &str,
+) -> Result<CallResult, RowFault> {
+    let mut follower = ready(row)?;
+    let found = unchecked_bytes(row, &mut follower, message, ends, unchanged);
+    drop(follower);
+    CallResult::of(runs_text(row.alloc, found.as_slice()))
 }
 
 /// `bits | INFO | RECEIPTS | MESSAGE | .. | FIRST END`: of the last message, those of the bytes from the first to the one before the end
 /// whose bits aren't checked: the message is accepted all the same, whichever of these bits is changed. Of every other byte each bit has to
 /// be checked: the message is refused whichever of them is changed, which has to leave the state unchanged.
 pub(crate) fn bits(row: &Row) -> Result<CallResult, RowFault> {
-    if row.len() < 4 {
-        return Err(RowFault::Fields(4));
+    row.has_at_least(4);
+    let ends = ends_at(row, row.len());
+    let mut message = row.bytes(row.len().saturating_sub(1));
+    match unchanged_result(row, message.as_slice()) {
+        Ok(unchanged) => bits_result(row, &mut message, ends, unchanged.as_str()),
+        Err(fault) => Err(fault),
     }
-    let last = row.len();
-    let ends = match row.numbers(last)?.as_slice() {
-        [first, end] => (*first as usize, *end as usize),
-        _ => return Err(RowFault::Field(last, "two numbers")),
-    };
-    let mut message = row.bytes(last.saturating_sub(1))?;
-    let unchanged = unchanged_result(row, message.as_slice())?;
-    let mut follower = ready(row)?;
-    let found = unchecked_bytes(row, &mut follower, &mut message, ends, unchanged.as_str());
-    drop(follower);
-    Ok(CallResult::text(runs_text(row.alloc, found?.as_slice())?))
 }

@@ -25,6 +25,7 @@ mod row;
 mod run_calls;
 mod state;
 mod stories;
+mod text_writer;
 mod token;
 mod tree_calls;
 

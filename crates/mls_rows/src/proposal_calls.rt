@@ -4,6 +4,7 @@ use crate::call_result::CallResult;
 use crate::fault::RowFault;
 use crate::row::Row;
 use crate::state::sender_text;
+use crate::text_writer::TextWriter;
 use mls_apply::{
     ApplyFault, EpochState, KnownProposal, ListItem, PendingProposals, check_join, check_proposal,
     join_items, resolve_list,
@@ -13,7 +14,7 @@ use mls_hash::Suite;
 use mls_msgs::{Commit, Proposal, Sender, encode_proposal};
 use mls_nodes::GroupContext;
 use mls_tree::{HashValue, PublicTree};
-use mls_wire::{CodecFault, Reader, WireFault, read_value};
+use mls_wire::{CodecFault, Reader, read_value};
 use std::alloc::Global;
 
 /// `none`, or a fault.
@@ -26,30 +27,20 @@ fn fault_result(alloc: Global, fault: Option<ApplyFault>) -> Result<CallResult, 
 
 /// Why a proposal is refused in this context and tree.
 fn checked<C: SignatureCheck>(
-    alloc: Global,
+    row: &Row,
     context: &GroupContext,
     tree: &PublicTree,
-    sender: u32,
     proposal: &Proposal,
     checker: &C,
-) -> Result<Option<ApplyFault>, RowFault> {
+) -> Result<CallResult, RowFault> {
     match Suite::from_u16(context.cipher_suite) {
         Ok(suite) if suite.number() == context.cipher_suite => {
+            let sender = Sender::Member(row.number(3));
             let epoch = EpochState { context, tree };
-            Ok(check_proposal(alloc, &epoch, Sender::Member(sender), proposal, checker).err())
+            let found = check_proposal(row.alloc, &epoch, sender, proposal, checker);
+            fault_result(row.alloc, found.err())
         }
         _ => Err(RowFault::Field(1, "a context of a suite that is followed")),
-    }
-}
-
-/// The same of a row's fields.
-fn checked_by<C: SignatureCheck>(row: &Row, checker: &C) -> Result<Option<ApplyFault>, RowFault> {
-    let sender = row.number(3)?;
-    let context = row.value::<GroupContext>(1, "a context")?;
-    let proposal = row.value::<Proposal>(5, "a proposal");
-    match proposal {
-        Ok(proposal) => checked_in(row, &context, sender, &proposal, checker),
-        Err(fault) => Err(fault),
     }
 }
 
@@ -57,24 +48,38 @@ fn checked_by<C: SignatureCheck>(row: &Row, checker: &C) -> Result<Option<ApplyF
 fn checked_in<C: SignatureCheck>(
     row: &Row,
     context: &GroupContext,
-    sender: u32,
     proposal: &Proposal,
     checker: &C,
-) -> Result<Option<ApplyFault>, RowFault> {
+) -> Result<CallResult, RowFault> {
     let tree = row.tree(2)?;
-    checked(row.alloc, context, &tree, sender, proposal, checker)
+    let found = checked(row, context, &tree, proposal, checker);
+    drop(tree);
+    found
+}
+
+/// The same of a proposal and the context of its field.
+fn checked_by<C: SignatureCheck>(
+    row: &Row,
+    proposal: &Proposal,
+    checker: &C,
+) -> Result<CallResult, RowFault> {
+    let context = row.value::<GroupContext>(1, "a context")?;
+    let found = checked_in(row, &context, proposal, checker);
+    drop(context);
+    found
 }
 
 /// `proposal | CONTEXT | TREE | SENDER | CHECKER | PROPOSAL`: why a member's proposal is refused, or `none`.
 pub(crate) fn proposal(row: &Row) -> Result<CallResult, RowFault> {
-    row.has(5)?;
-    let fault = if row.is_trusting(4) {
-        checked_by(row, &Trusting)?
+    row.has(5);
+    let proposal = row.value::<Proposal>(5, "a proposal")?;
+    let found = if row.is_trusting(4) {
+        checked_by(row, &proposal, &Trusting)
     } else {
-        let listed = row.receipts(4)?;
-        checked_by(row, &listed)?
+        checked_by(row, &proposal, &row.receipts(4))
     };
-    fault_result(row.alloc, fault)
+    drop(proposal);
+    found
 }
 
 /// Reads a pending proposal: a vector that is its reference, its sender, and itself.
@@ -92,38 +97,43 @@ fn read_known(alloc: Global, reader: &mut Reader<'_>) -> Result<KnownProposal, C
     }
 }
 
+/// Adds the next pending proposal. Returns whether there was one.
+fn add_known(row: &Row, at: usize, reader: &mut Reader<'_>, all: &mut PendingProposals) -> bool {
+    match read_known(row.alloc, reader) {
+        Ok(known) => {
+            row.require(all.push(row.alloc, known));
+            true
+        }
+        Err(_) => {
+            row.refuse(at, "pending proposals");
+            false
+        }
+    }
+}
+
 /// A field that is pending proposals, one after the other.
-fn known_at(row: &Row, at: usize) -> Result<PendingProposals, RowFault> {
-    let bytes = row.bytes(at)?;
+fn known_at(row: &Row, at: usize) -> PendingProposals {
+    let bytes = row.bytes(at);
     let mut reader = Reader::new(bytes.as_slice());
     let mut all = PendingProposals::new(row.alloc);
     for _ in 0..bytes.len() {
-        if reader.at_end() {
-            return Ok(all);
-        }
-        match read_known(row.alloc, &mut reader) {
-            Ok(known) => all.push(row.alloc, known)?,
-            Err(_) => return Err(RowFault::Field(at, "pending proposals")),
+        if reader.at_end() || !add_known(row, at, &mut reader, &mut all) {
+            break;
         }
     }
-    Ok(all)
+    all
 }
 
 /// Proposals, each after its sender.
 fn items_text(alloc: Global, items: &[ListItem<'_>]) -> Result<String, RowFault> {
-    let mut text = String::new(alloc);
+    let mut text = TextWriter::new(alloc);
     for item in items {
-        if !text.is_empty() {
-            text.push(' ')?;
-        }
-        let Ok(proposal) = encode_proposal(alloc, item.proposal) else {
-            return Err(RowFault::OutOfMemory);
-        };
-        let proposal = hex::encode(alloc, proposal.as_slice())?;
-        let sender = sender_text(alloc, item.sender)?;
-        write!(text, "{sender} {proposal}")?;
+        text.separate(" ");
+        text.add_made(sender_text(alloc, item.sender));
+        text.add(" ");
+        text.add_made_digits(encode_proposal(alloc, item.proposal));
     }
-    Ok(text)
+    text.finish()
 }
 
 /// The proposals of the list of a commit, each after its sender, or the fault.
@@ -145,28 +155,25 @@ fn resolved_text(
 
 /// `resolve | PENDING | COMMITTER | COMMIT`: the proposals of the list of a commit, each after its sender.
 pub(crate) fn resolve(row: &Row) -> Result<CallResult, RowFault> {
-    row.has(3)?;
-    let committer = row.number(2)?;
-    let known = known_at(row, 1)?;
-    let commit = match row.value(3, "a commit") {
-        Ok(commit) => commit,
-        Err(fault) => {
-            drop(known);
-            return Err(fault);
-        }
-    };
-    let text = resolved_text(row.alloc, &commit, committer, &known);
+    row.has(3);
+    let commit = row.value::<Commit>(3, "a commit")?;
+    let known = known_at(row, 1);
+    let text = resolved_text(row.alloc, &commit, row.number(2), &known);
     drop(commit);
     drop(known);
     text
 }
 
-/// Why an external commit is refused in this context and the tree of its field, before its list is applied.
-fn joined_in(
-    row: &Row,
-    context: &GroupContext,
-    commit: &Commit,
-) -> Result<Option<ApplyFault>, RowFault> {
+/// Why an external commit is refused in the context and the tree of their fields, before its list is applied.
+fn joined(row: &Row, commit: &Commit) -> Result<CallResult, RowFault> {
+    let context = row.value::<GroupContext>(1, "a context")?;
+    let found = joined_in(row, &context, commit);
+    drop(context);
+    found
+}
+
+/// The same in this context.
+fn joined_in(row: &Row, context: &GroupContext, commit: &Commit) -> Result<CallResult, RowFault> {
     let tree = row.tree(2)?;
     let epoch = EpochState {
         context,
@@ -174,24 +181,21 @@ fn joined_in(
     };
     let found = check_join(row.alloc, &epoch, commit);
     drop(tree);
-    Ok(found.err())
+    fault_result(row.alloc, found.err())
 }
 
 /// `check_join | CONTEXT | TREE | COMMIT`: why an external commit is refused before its list is applied, or `none`.
 pub(crate) fn join(row: &Row) -> Result<CallResult, RowFault> {
-    row.has(3)?;
-    let context = row.value::<GroupContext>(1, "a context")?;
-    let fault = match row.value::<Commit>(3, "a commit") {
-        Ok(commit) => joined_in(row, &context, &commit),
-        Err(fault) => Err(fault),
-    };
-    drop(context);
-    fault_result(row.alloc, fault?)
+    row.has(3);
+    let commit = row.value::<Commit>(3, "a commit")?;
+    let found = joined(row, &commit);
+    drop(commit);
+    found
 }
 
 /// `join_items | COMMIT`: the proposals that an external commit includes by value, each after its sender.
 pub(crate) fn items_of_join(row: &Row) -> Result<CallResult, RowFault> {
-    row.has(1)?;
+    row.has(1);
     let commit = row.value::<Commit>(1, "a commit")?;
     let text = match join_items(row.alloc, commit.proposals.as_slice()) {
         Ok(items) => {
@@ -207,9 +211,9 @@ pub(crate) fn items_of_join(row: &Row) -> Result<CallResult, RowFault> {
 
 /// `pending | PENDING | REFERENCE`: the sender of the first pending proposal of a reference, or `none`.
 pub(crate) fn find(row: &Row) -> Result<CallResult, RowFault> {
-    row.has(2)?;
-    let reference = row.bytes(2)?;
-    let known = known_at(row, 1)?;
+    row.has(2);
+    let reference = row.bytes(2);
+    let known = known_at(row, 1);
     let sender = known.find(reference.as_slice()).map(|found| found.sender);
     drop(known);
     match sender {

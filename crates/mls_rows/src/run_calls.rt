@@ -1,8 +1,9 @@
 //! Rows of the whole program (docs/FORMATS.md): a command over files in memory; and of logs.
 
-use crate::call_result::CallResult;
+use crate::call_result::{CallResult, are_same};
 use crate::fault::RowFault;
 use crate::row::{Row, have};
+use crate::text_writer::TextWriter;
 use crate::token::Token;
 use mls_cli::{
     CheckKind, CheckerChoice, FileName, Files, GroupFiles, GroupReport, Order, Profile, ShowKind,
@@ -70,47 +71,68 @@ impl<'a> Files for Shelf<'a> {
     }
 }
 
-/// The words of a command, after the program's name.
-fn words_at(row: &Row, at: usize) -> Result<Vec<String>, RowFault> {
-    let mut words = Vec::new(row.alloc);
-    words.push(String::from_str(row.alloc, "mlscheck")?)?;
-    for token in row.field(at) {
-        match token {
-            Token::Word(word) => words.push(String::from_str(row.alloc, word.as_str())?)?,
-            _ => return Err(RowFault::Field(at, "words")),
-        }
+/// Adds a copy of a word.
+fn add_word(row: &Row, words: &mut Vec<String>, word: &str) {
+    match String::from_str(row.alloc, word) {
+        Ok(word) => row.require(words.push(word)),
+        Err(_) => row.record(RowFault::OutOfMemory),
     }
-    Ok(words)
 }
 
-/// A field that is a file: its name with a colon, and its bytes.
-fn file_at(row: &Row, at: usize) -> Result<NamedFile, RowFault> {
+/// The words of a command, after the program's name.
+fn words_at(row: &Row, at: usize) -> Vec<String> {
+    let mut words = Vec::new(row.alloc);
+    add_word(row, &mut words, "mlscheck");
+    for token in row.field(at) {
+        match token {
+            Token::Word(word) => add_word(row, &mut words, word.as_str()),
+            _ => row.refuse(at, "words"),
+        }
+    }
+    words
+}
+
+/// The name of the file that a field is: its first word, without the colon.
+fn name_at<'a>(row: &Row<'a>, at: usize) -> &'a str {
     let name = match row.field(at) {
         [Token::Word(word), ..] => word.as_str().strip_suffix(':'),
         _ => None,
     };
-    let Some(name) = name else {
-        return Err(RowFault::Field(at, "a file"));
-    };
-    let name = String::from_str(row.alloc, name)?;
-    let bytes = row.bytes_after_word(at)?;
-    Ok(NamedFile { name, bytes })
+    if name.is_none() {
+        row.refuse(at, "a file");
+    }
+    name.unwrap_or("")
 }
 
-/// The fields from one on that are files.
-fn files_from(row: &Row, first: usize) -> Result<Vec<NamedFile>, RowFault> {
-    let mut files = Vec::new(row.alloc);
-    for at in first..row.fields.len() {
-        files.push(file_at(row, at)?)?;
+/// Adds the file that a field is: its name with a colon, and its bytes.
+fn add_file(row: &Row, files: &mut Vec<NamedFile>, at: usize) {
+    match String::from_str(row.alloc, name_at(row, at)) {
+        Ok(name) => {
+            let bytes = row.bytes_after_word(at);
+            row.require(files.push(NamedFile { name, bytes }));
+        }
+        Err(_) => row.record(RowFault::OutOfMemory),
     }
-    Ok(files)
+}
+
+/// The fields from the second on that are files.
+fn files_of(row: &Row) -> Vec<NamedFile> {
+    let mut files = Vec::new(row.alloc);
+    for at in 2..row.fields.len() {
+        add_file(row, &mut files, at);
+    }
+    files
 }
 
 /// The text that a sink took.
-fn text_of(alloc: Global, sink: &MemorySink) -> Result<String, RowFault> {
-    match String::from_utf8(Vec::from_slice(alloc, sink.bytes())?) {
-        Ok(text) => Ok(text),
-        Err(_) => Err(RowFault::Field(1, "a command that prints text")),
+fn text_of(row: &Row, sink: &MemorySink) -> String {
+    let bytes = row.made(have(Vec::from_slice(row.alloc, sink.bytes())));
+    match String::from_utf8(bytes) {
+        Ok(text) => text,
+        Err(_) => {
+            row.refuse(1, "a command that prints text");
+            String::new(row.alloc)
+        }
     }
 }
 
@@ -126,83 +148,100 @@ struct Printed {
 /// Runs the program over files, which are read and printed in pieces of a size.
 fn run_over(row: &Row, files: &[NamedFile], piece: usize) -> Result<Printed, RowFault> {
     let alloc = row.alloc;
-    let words = words_at(row, 1)?;
+    let mut out = have(MemorySink::new(alloc, 100_000, piece.max(1), None))?;
+    let mut notes = have(MemorySink::new(alloc, 10_000, piece.max(1), None))?;
+    let words = words_at(row, 1);
     let shelf = Shelf {
         alloc,
         files,
         piece,
         stored: Cell::new(None),
     };
-    let mut out = have(MemorySink::new(alloc, 100_000, piece.max(1), None))?;
-    let mut notes = have(MemorySink::new(alloc, 10_000, piece.max(1), None))?;
     let status = run_program(alloc, words.as_slice(), &shelf, &mut out, &mut notes);
-    let output = text_of(alloc, &out)?;
-    let notes = text_of(alloc, &notes)?;
-    let stored = shelf.stored.take();
     Ok(Printed {
         status,
-        output,
-        notes,
-        stored,
+        output: text_of(row, &out),
+        notes: text_of(row, &notes),
+        stored: shelf.stored.take(),
     })
 }
 
 /// Adds each line of a text after a mark. Of a text whose last line has no end this is said.
-fn add_lines(all: &mut String, text: &str, mark: &str) -> Result<(), RowFault> {
+fn add_lines(all: &mut TextWriter, text: &str, mark: &str) {
     for line in text.lines() {
-        write!(all, " {mark} {line}")?;
+        all.add(mark);
+        all.add(line);
     }
     if !text.is_empty() && !text.ends_with('\n') {
-        all.push_str(" without end")?;
+        all.add(" without end");
     }
-    Ok(())
+}
+
+/// Adds the name and the bytes of a file.
+fn put_file(all: &mut TextWriter, file: &NamedFile) {
+    all.add(" + ");
+    all.add(file.name.as_str());
+    all.add(" ");
+    all.add_digits(file.bytes.as_slice());
 }
 
 /// The exit status, each line of the output after `/`, each one of the notes after `|`, and the name and the bytes of a file
 /// that was stored after `+`.
 fn printed_text(alloc: Global, printed: &Printed) -> Result<String, RowFault> {
-    let mut all = format!(in alloc; "{}", printed.status)?;
-    add_lines(&mut all, printed.output.as_str(), "/")?;
-    add_lines(&mut all, printed.notes.as_str(), "|")?;
+    let mut all = TextWriter::new(alloc);
+    all.add_number(u64::from(printed.status));
+    add_lines(&mut all, printed.output.as_str(), " / ");
+    add_lines(&mut all, printed.notes.as_str(), " | ");
     if let Some(file) = &printed.stored {
-        let bytes = hex::encode(alloc, file.bytes.as_slice())?;
-        let name = file.name.as_str();
-        write!(all, " + {name} {bytes}")?;
+        put_file(&mut all, file);
     }
-    Ok(all)
+    all.finish()
+}
+
+/// What the program prints over files in pieces of a size.
+fn text_over(row: &Row, files: &[NamedFile], piece: usize) -> Result<String, RowFault> {
+    match run_over(row, files, piece) {
+        Ok(printed) => printed_text(row.alloc, &printed),
+        Err(fault) => Err(fault),
+    }
 }
 
 /// `run | COMMAND | FILE | ..`: the exit status of the program, what it prints, and the file that it stores.
 pub(crate) fn run(row: &Row) -> Result<CallResult, RowFault> {
-    let files = files_from(row, 2)?;
-    let printed = run_over(row, files.as_slice(), 40)?;
-    CallResult::of(printed_text(row.alloc, &printed))
+    CallResult::of(text_over(row, files_of(row).as_slice(), 40))
 }
 
 /// `run_in_pieces | COMMAND | FILE | ..`: the same in pieces of each size from 1 to 80, which must all give one result.
 pub(crate) fn run_in_pieces(row: &Row) -> Result<CallResult, RowFault> {
-    let files = files_from(row, 2)?;
-    let first = printed_text(row.alloc, &run_over(row, files.as_slice(), 1)?)?;
+    let files = files_of(row);
+    let first = text_over(row, files.as_slice(), 1);
     for piece in 2..81 {
-        let next = printed_text(row.alloc, &run_over(row, files.as_slice(), piece)?)?;
-        if first.as_str() != next.as_str() {
-            return Err(RowFault::TwoResults);
+        if !are_same(&first, &text_over(row, files.as_slice(), piece)) {
+            row.record(RowFault::TwoResults);
         }
     }
-    Ok(CallResult::text(first))
+    CallResult::of(first)
+}
+
+/// The exit status, and the first word of each line of the output.
+fn first_words_text(alloc: Global, printed: &Printed) -> Result<String, RowFault> {
+    let mut all = TextWriter::new(alloc);
+    all.add_number(u64::from(printed.status));
+    for line in printed.output.as_str().lines() {
+        if let Some((word, _)) = line.split_once(' ') {
+            all.add(" ");
+            all.add(word);
+        }
+    }
+    all.finish()
 }
 
 /// `first_words | COMMAND | FILE | ..`: the exit status, and the first word of each line of the output.
 pub(crate) fn first_words(row: &Row) -> Result<CallResult, RowFault> {
-    let files = files_from(row, 2)?;
-    let printed = run_over(row, files.as_slice(), 40)?;
-    let mut all = format!(in row.alloc; "{}", printed.status)?;
-    for line in printed.output.as_str().lines() {
-        if let Some((word, _)) = line.split_once(' ') {
-            write!(all, " {word}")?;
-        }
+    match run_over(row, files_of(row).as_slice(), 40) {
+        Ok(printed) => CallResult::of(first_words_text(row.alloc, &printed)),
+        Err(fault) => Err(fault),
     }
-    Ok(CallResult::text(all))
 }
 
 /// What a command prints as its output, or, if it fails, as its notes.
@@ -214,15 +253,23 @@ fn main_text(printed: &Printed) -> &str {
     }
 }
 
+/// The exit status of a command that prints this among other things; else all that it prints.
+fn status_text(alloc: Global, printed: &Printed, part: &str) -> Result<String, RowFault> {
+    if main_text(printed).contains(part) {
+        have(format!(in alloc; "{}", printed.status))
+    } else {
+        printed_text(alloc, printed)
+    }
+}
+
 /// `prints | COMMAND | TEXT`: the exit status of a command without files that prints this among other things.
 pub(crate) fn prints(row: &Row) -> Result<CallResult, RowFault> {
-    row.has(2)?;
-    let part = row.text(2)?;
-    let printed = run_over(row, &[], 40)?;
-    if main_text(&printed).contains(part.as_str()) {
-        return CallResult::of(have(format!(in row.alloc; "{}", printed.status)));
+    row.has(2);
+    let part = row.text(2);
+    match run_over(row, &[], 40) {
+        Ok(printed) => CallResult::of(status_text(row.alloc, &printed, part.as_str())),
+        Err(fault) => Err(fault),
     }
-    CallResult::of(printed_text(row.alloc, &printed))
 }
 
 // ---- commands
@@ -269,11 +316,13 @@ fn group_report(
     group: &GroupFiles,
     others: &[&str],
 ) -> Result<String, RowFault> {
-    let mut text = group_text(alloc, name, group)?;
+    let mut text = TextWriter::new(alloc);
+    text.add_made(group_text(alloc, name, group));
     for word in others {
-        have(write!(text, " {word}"))?;
+        text.add(" ");
+        text.add(word);
     }
-    Ok(text)
+    text.finish()
 }
 
 /// A report that checks signatures, in words.
@@ -329,11 +378,26 @@ fn order_text(alloc: Global, order: &Order) -> Result<String, RowFault> {
     }
 }
 
+/// An exit status and the lines that say what is wrong.
+fn refused_text<E: Drop>(
+    alloc: Global,
+    status: u8,
+    lines: Result<String, E>,
+) -> Result<String, RowFault> {
+    let mut all = TextWriter::new(alloc);
+    all.add_number(u64::from(status));
+    match lines {
+        Ok(lines) => add_lines(&mut all, lines.as_str(), " | "),
+        Err(_) => all.fail(),
+    }
+    all.finish()
+}
+
 /// `command | COMMAND`: what a command is parsed to: the report, its files in the order of docs/FORMATS.md, and the file of receipts; or
 /// the exit status and the lines that say what is wrong.
 pub(crate) fn command(row: &Row) -> Result<CallResult, RowFault> {
-    row.has(1)?;
-    let words = words_at(row, 1)?;
+    row.has(1);
+    let words = words_at(row, 1);
     match order_of(row.alloc, words.as_slice()) {
         Ok(order) => {
             let text = order_text(row.alloc, &order);
@@ -341,11 +405,10 @@ pub(crate) fn command(row: &Row) -> Result<CallResult, RowFault> {
             CallResult::of(text)
         }
         Err(fault) => {
-            let mut all = format!(in row.alloc; "{}", fault.status())?;
-            let text = format!(in row.alloc; "{fault}")?;
+            let status = fault.status();
+            let lines: Result<String, AllocError> = format!(in row.alloc; "{fault}");
             drop(fault);
-            add_lines(&mut all, text.as_str(), "|")?;
-            Ok(CallResult::text(all))
+            CallResult::of(refused_text(row.alloc, status, lines))
         }
     }
 }
@@ -362,47 +425,49 @@ fn step_name(step: LogStep) -> &'static str {
     }
 }
 
-/// Adds a step and the body of its record.
-fn add_step(all: &mut String, alloc: Global, step: LogStep, body: &[u8]) -> Result<(), RowFault> {
-    if !all.is_empty() {
-        all.push_str(" / ")?;
+/// Adds a step, if it was taken, and the body of its record.
+fn add_step<E: Drop>(all: &mut TextWriter, step: Result<LogStep, E>, body: &[u8]) {
+    all.separate(" / ");
+    match step {
+        Ok(step) => all.add(step_name(step)),
+        Err(_) => all.fail(),
     }
-    all.push_str(step_name(step))?;
     if !body.is_empty() {
-        let body = hex::encode(alloc, body)?;
-        write!(all, " {body}")?;
+        all.add(" ");
+        all.add_digits(body);
     }
-    Ok(())
 }
 
 /// `log | NUMBER | BYTES`: four steps of a log of at most that many records, each with its body and the number of bytes
 /// after it.
 pub(crate) fn log(row: &Row) -> Result<CallResult, RowFault> {
-    row.has(2)?;
-    let bytes = row.bytes(2)?;
+    row.has(2);
+    let bytes = row.bytes(2);
     let mut source = MemorySource::new(bytes.as_slice(), 3, None);
-    let mut records = Records::new(row.alloc, row.number(1)?);
-    let mut all = String::new(row.alloc);
+    let mut records = Records::new(row.alloc, row.number(1));
+    let mut all = TextWriter::new(row.alloc);
     for _ in 0..4 {
-        let step = have(records.next(&mut source))?;
-        add_step(&mut all, row.alloc, step, records.body())?;
-        write!(all, " {}", source.left().len())?;
+        let step = records.next(&mut source);
+        add_step(&mut all, step, records.body());
+        all.add(" ");
+        all.add_number(source.left().len() as u64);
     }
-    Ok(CallResult::text(all))
+    CallResult::of(all.finish())
 }
 
 /// `held_log | NUMBER | BYTES`: four steps of a reader that holds its source, each with its body; and the number of bytes after them.
 pub(crate) fn held_log(row: &Row) -> Result<CallResult, RowFault> {
-    row.has(2)?;
-    let bytes = row.bytes(2)?;
+    row.has(2);
+    let bytes = row.bytes(2);
     let mut source = MemorySource::new(bytes.as_slice(), 3, None);
-    let mut records = RecordReader::new(row.alloc, &mut source, row.number(1)?);
-    let mut all = String::new(row.alloc);
+    let mut records = RecordReader::new(row.alloc, &mut source, row.number(1));
+    let mut all = TextWriter::new(row.alloc);
     for _ in 0..4 {
-        let step = have(records.next())?;
-        add_step(&mut all, row.alloc, step, records.body())?;
+        let step = records.next();
+        add_step(&mut all, step, records.body());
     }
     drop(records);
-    write!(all, " / {}", source.left().len())?;
-    Ok(CallResult::text(all))
+    all.add(" / ");
+    all.add_number(source.left().len() as u64);
+    CallResult::of(all.finish())
 }

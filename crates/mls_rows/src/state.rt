@@ -2,6 +2,7 @@
 
 use crate::fault::RowFault;
 use crate::row::have;
+use crate::text_writer::TextWriter;
 use crate::tree_calls::node_key;
 use mls_apply::KnownProposal;
 use mls_check::SignatureCheck;
@@ -14,74 +15,118 @@ use std::alloc::Global;
 
 // ---- as bytes
 
-/// Adds the tree hash of each node.
-fn add_hashes(
-    alloc: Global,
-    number: u16,
-    tree: &PublicTree,
-    state: &mut Vec<u8>,
-) -> Result<(), RowFault> {
-    let suite = have(Suite::from_u16(number))?;
-    for index in 0..tree.leaf_count().saturating_mul(2).saturating_sub(1) {
-        let hash = have(tree_hash(alloc, suite, tree, index))?;
-        state.extend_from_slice(hash.as_slice())?;
+/// The state of a follower that is put together, and whether all of it was made.
+#[derive(Drop)]
+struct StateBytes {
+    bytes: Vec<u8>,
+    is_whole: bool,
+}
+
+impl StateBytes {
+    /// Nothing yet.
+    fn new(alloc: Global) -> StateBytes {
+        StateBytes {
+            bytes: Vec::new(alloc),
+            is_whole: true,
+        }
     }
-    Ok(())
-}
 
-/// Adds a sender.
-fn add_sender(state: &mut Vec<u8>, sender: Sender) -> Result<(), RowFault> {
-    let (kind, index) = match sender {
-        Sender::Member(index) => (1, index),
-        Sender::External(index) => (2, index),
-        Sender::NewMemberProposal => (3, 0),
-        Sender::NewMemberCommit => (4, 0),
-    };
-    state.push(kind)?;
-    state.extend_from_slice(&index.to_be_bytes())?;
-    Ok(())
-}
-
-/// Adds the pending proposals.
-fn add_known(alloc: Global, known: &[KnownProposal], state: &mut Vec<u8>) -> Result<(), RowFault> {
-    for proposal in known {
-        state.extend_from_slice(proposal.reference.as_slice())?;
-        add_sender(state, proposal.sender)?;
-        let bytes = have(encode_proposal(alloc, &proposal.proposal))?;
-        state.extend_from_slice(bytes.as_slice())?;
+    /// Adds bytes.
+    fn add(&mut self, bytes: &[u8]) {
+        if self.bytes.extend_from_slice(bytes).is_err() {
+            self.is_whole = false;
+        }
     }
-    Ok(())
+
+    /// Adds bytes that were made, if they were.
+    fn add_made<E: Drop>(&mut self, made: Result<Vec<u8>, E>) {
+        match made {
+            Ok(bytes) => self.add(bytes.as_slice()),
+            Err(_) => self.is_whole = false,
+        }
+    }
+
+    /// Adds the tree hash of a node.
+    fn add_hash(&mut self, alloc: Global, suite: Suite, tree: &PublicTree, index: u32) {
+        match tree_hash(alloc, suite, tree, index) {
+            Ok(hash) => self.add(hash.as_slice()),
+            Err(_) => self.is_whole = false,
+        }
+    }
+
+    /// Adds the tree hash of each node.
+    fn add_hashes(&mut self, alloc: Global, suite: Suite, tree: &PublicTree) {
+        for index in 0..tree.leaf_count().saturating_mul(2).saturating_sub(1) {
+            self.add_hash(alloc, suite, tree, index);
+        }
+    }
+
+    /// Adds a sender.
+    fn add_sender(&mut self, sender: Sender) {
+        let (kind, index) = match sender {
+            Sender::Member(index) => (1u8, index),
+            Sender::External(index) => (2, index),
+            Sender::NewMemberProposal => (3, 0),
+            Sender::NewMemberCommit => (4, 0),
+        };
+        self.add(&[kind]);
+        self.add(&index.to_be_bytes());
+    }
+
+    /// Adds the pending proposals.
+    fn add_known(&mut self, alloc: Global, known: &[KnownProposal]) {
+        for proposal in known {
+            self.add(proposal.reference.as_slice());
+            self.add_sender(proposal.sender);
+            self.add_made(encode_proposal(alloc, &proposal.proposal));
+        }
+    }
+
+    /// The state, if all of it was made.
+    fn finish(self) -> Result<Vec<u8>, RowFault> {
+        let StateBytes { bytes, is_whole } = self;
+        if is_whole {
+            Ok(bytes)
+        } else {
+            Err(RowFault::OutOfMemory)
+        }
+    }
 }
 
-/// A follower's state, with this tree in place of its own: the context, every node, the tree hash of each node index, the interim
-/// transcript hash and the pending proposals.
+/// A follower's state, with this tree in place of its own: the context, every node, the interim transcript hash, the pending
+/// proposals, and, if there is a suite, the tree hash of each node index.
 fn state_with<C: SignatureCheck>(
     alloc: Global,
     follower: &Follower<C>,
     tree: &PublicTree,
+    suite: Option<Suite>,
 ) -> Result<Vec<u8>, RowFault> {
-    let context = follower.context();
-    let mut state = have(encode_context(alloc, context))?;
-    let nodes = have(encode_ratchet_tree(alloc, tree.nodes()))?;
-    state.extend_from_slice(nodes.as_slice())?;
-    add_hashes(alloc, context.cipher_suite, tree, &mut state)?;
-    state.extend_from_slice(follower.interim().as_slice())?;
-    add_known(alloc, follower.known(), &mut state)?;
-    Ok(state)
+    let mut state = StateBytes::new(alloc);
+    state.add_made(encode_context(alloc, follower.context()));
+    state.add_made(encode_ratchet_tree(alloc, tree.nodes()));
+    state.add(follower.interim().as_slice());
+    state.add_known(alloc, follower.known());
+    if let Some(suite) = suite {
+        state.add_hashes(alloc, suite, tree);
+    }
+    state.finish()
 }
 
 /// A follower's state, with a tree that is decoded from the encoding of its own, so that no hash of it is cached.
 fn state_anew<C: SignatureCheck>(
     alloc: Global,
     follower: &Follower<C>,
+    suite: Suite,
 ) -> Result<Vec<u8>, RowFault> {
     let nodes = have(encode_ratchet_tree(alloc, follower.tree().nodes()))?;
-    let Ok(tree) = PublicTree::decode(alloc, nodes.as_slice()) else {
-        return Err(RowFault::OutOfMemory);
-    };
-    let state = state_with(alloc, follower, &tree);
-    drop(tree);
-    state
+    match PublicTree::decode(alloc, nodes.as_slice()) {
+        Ok(tree) => {
+            let state = state_with(alloc, follower, &tree, Some(suite));
+            drop(tree);
+            state
+        }
+        Err(_) => Err(RowFault::OutOfMemory),
+    }
 }
 
 /// A follower's state. Its cached hashes have to be those of its tree.
@@ -89,12 +134,12 @@ pub(crate) fn state_of<C: SignatureCheck>(
     alloc: Global,
     follower: &Follower<C>,
 ) -> Result<Vec<u8>, RowFault> {
-    let kept = state_with(alloc, follower, follower.tree())?;
-    let anew = state_anew(alloc, follower)?;
-    if kept.as_slice() == anew.as_slice() {
-        Ok(anew)
-    } else {
-        Err(RowFault::KeptHashes)
+    let suite = have(Suite::from_u16(follower.context().cipher_suite))?;
+    let kept = state_with(alloc, follower, follower.tree(), Some(suite))?;
+    match state_anew(alloc, follower, suite) {
+        Ok(anew) if kept.as_slice() == anew.as_slice() => Ok(kept),
+        Ok(_) => Err(RowFault::KeptHashes),
+        Err(fault) => Err(fault),
     }
 }
 
@@ -103,31 +148,10 @@ pub(crate) fn brief_state<C: SignatureCheck>(
     alloc: Global,
     follower: &Follower<C>,
 ) -> Result<Vec<u8>, RowFault> {
-    let mut state = have(encode_context(alloc, follower.context()))?;
-    let nodes = have(encode_ratchet_tree(alloc, follower.tree().nodes()))?;
-    state.extend_from_slice(nodes.as_slice())?;
-    state.extend_from_slice(follower.interim().as_slice())?;
-    add_known(alloc, follower.known(), &mut state)?;
-    Ok(state)
+    state_with(alloc, follower, follower.tree(), None)
 }
 
 // ---- as text
-
-/// Adds bytes after a space.
-fn add_bytes(alloc: Global, text: &mut String, bytes: &[u8]) -> Result<(), RowFault> {
-    let digits = hex::encode(alloc, bytes)?;
-    have(write!(text, " {digits}"))
-}
-
-/// Adds bytes that were made after a space.
-fn add_made<E: Drop>(
-    alloc: Global,
-    text: &mut String,
-    made: Result<Vec<u8>, E>,
-) -> Result<(), RowFault> {
-    let bytes = have(made)?;
-    add_bytes(alloc, text, bytes.as_slice())
-}
 
 /// A sender: a member by its leaf index.
 pub(crate) fn sender_text(alloc: Global, sender: Sender) -> Result<String, RowFault> {
@@ -140,57 +164,47 @@ pub(crate) fn sender_text(alloc: Global, sender: Sender) -> Result<String, RowFa
 }
 
 /// Adds a pending proposal by its reference and its sender.
-fn add_pending(alloc: Global, text: &mut String, proposal: &KnownProposal) -> Result<(), RowFault> {
-    add_bytes(alloc, text, proposal.reference.as_slice())?;
-    let sender = sender_text(alloc, proposal.sender)?;
-    have(write!(text, " of {sender}"))
+fn add_pending(text: &mut TextWriter, proposal: &KnownProposal) {
+    text.add(" ");
+    text.add_digits(proposal.reference.as_slice());
+    text.add(" of ");
+    text.add_made(sender_text(text.alloc, proposal.sender));
 }
 
 /// Adds a follower's state: the context, the ratchet_tree, the interim transcript hash, each pending proposal by its reference and
 /// its sender, and whether the group is over.
-pub(crate) fn add_state<C: SignatureCheck>(
-    alloc: Global,
-    follower: &Follower<C>,
-    text: &mut String,
-) -> Result<(), RowFault> {
-    add_made(alloc, text, encode_context(alloc, follower.context()))?;
-    add_made(
-        alloc,
-        text,
-        encode_ratchet_tree(alloc, follower.tree().nodes()),
-    )?;
-    add_bytes(alloc, text, follower.interim().as_slice())?;
+pub(crate) fn add_state<C: SignatureCheck>(follower: &Follower<C>, text: &mut TextWriter) {
+    text.add(" ");
+    text.add_made_digits(encode_context(text.alloc, follower.context()));
+    text.add(" ");
+    text.add_made_digits(encode_ratchet_tree(text.alloc, follower.tree().nodes()));
+    text.add(" ");
+    text.add_digits(follower.interim().as_slice());
     for proposal in follower.known() {
-        add_pending(alloc, text, proposal)?;
+        add_pending(text, proposal);
     }
     if follower.ended() {
-        text.push_str(" ended")?;
+        text.add(" ended");
     }
-    Ok(())
 }
 
 /// Adds a node by its encryption key, and the unmerged leaves of a parent.
-fn add_node(alloc: Global, text: &mut String, node: &Option<Node>) -> Result<(), RowFault> {
-    let key = node_key(alloc, node.as_ref())?;
-    write!(text, " {key}")?;
+fn add_node(text: &mut TextWriter, node: &Option<Node>) {
+    text.add(" ");
+    text.add_made(node_key(text.alloc, node.as_ref()));
     if let Some(Node::Parent(parent)) = node {
         let unmerged = parent.unmerged.as_slice();
         if !unmerged.is_empty() {
-            write!(text, " {unmerged:?}")?;
+            text.add_made(format!(in text.alloc; " {unmerged:?}"));
         }
     }
-    Ok(())
 }
 
 /// Adds a follower's tree: its tree hash, and each node by its key.
-pub(crate) fn add_keys<C: SignatureCheck>(
-    alloc: Global,
-    follower: &Follower<C>,
-    text: &mut String,
-) -> Result<(), RowFault> {
-    add_bytes(alloc, text, follower.context().tree_hash.as_slice())?;
+pub(crate) fn add_keys<C: SignatureCheck>(follower: &Follower<C>, text: &mut TextWriter) {
+    text.add(" ");
+    text.add_digits(follower.context().tree_hash.as_slice());
     for node in follower.tree().nodes() {
-        add_node(alloc, text, node)?;
+        add_node(text, node);
     }
-    Ok(())
 }

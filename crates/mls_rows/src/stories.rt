@@ -1,9 +1,10 @@
 //! Rows of a follower: what it returns for messages, one after the other (RFC 9420, 12.4.2 and 12.4.3).
 
-use crate::call_result::{CallResult, name_of};
+use crate::call_result::{CallResult, are_same, name_of};
 use crate::fault::RowFault;
 use crate::row::{Row, have};
 use crate::state::{add_keys, add_state, state_of};
+use crate::text_writer::TextWriter;
 use mls_check::{SignatureCheck, Trusting, validate_members, validate_tree};
 use mls_follow::{Follower, Refusal, StartRefused, Taken};
 use mls_hash::{Suite, fill_hashes};
@@ -14,36 +15,35 @@ use std::alloc::Global;
 
 // ---- results
 
-/// How many hashes of a follower's tree are not cached.
-fn empty_count<C: SignatureCheck>(alloc: Global, follower: &Follower<C>) -> Result<u32, RowFault> {
-    let suite = have(Suite::from_u16(follower.context().cipher_suite))?;
+/// Whether each hash of a follower's tree is cached.
+fn is_cached<C: SignatureCheck>(
+    alloc: Global,
+    suite: Suite,
+    follower: &Follower<C>,
+) -> Result<bool, RowFault> {
     let mut copy = have(follower.tree().try_clone(alloc))?;
     let filled = fill_hashes(alloc, suite, &mut copy);
     drop(copy);
-    have(filled)
+    match filled {
+        Ok(count) => Ok(count == 0),
+        Err(_) => Err(RowFault::OutOfMemory),
+    }
 }
 
-/// Whether both validators accept a follower's tree, by this checker.
-fn is_valid<C: SignatureCheck>(
+/// Whether the validator of members accepts a follower's tree, by this checker.
+fn has_valid_members<C: SignatureCheck>(
     alloc: Global,
     follower: &Follower<C>,
     checker: &C,
 ) -> Result<bool, RowFault> {
     let context = follower.context();
-    let tree = follower.tree();
-    let Ok(suite) = Suite::from_u16(context.cipher_suite) else {
-        return Ok(false);
-    };
-    if validate_tree(alloc, suite, context, tree).is_err() {
-        return Ok(false);
-    }
     let required = have(requirements(alloc, context))?;
     let found = validate_members(
         alloc,
         context.cipher_suite,
         &context.group_id,
         &required,
-        tree,
+        follower.tree(),
         checker,
     );
     drop(required);
@@ -52,51 +52,78 @@ fn is_valid<C: SignatureCheck>(
 
 /// An accepted message: a proposal by its reference, a commit by the epoch that it began.
 pub(crate) fn taken_text(alloc: Global, taken: Taken) -> Result<String, RowFault> {
+    let mut text = TextWriter::new(alloc);
     match taken {
         Taken::Proposal(reference) => {
-            let reference = hex::encode(alloc, reference.as_slice())?;
-            have(format!(in alloc; "proposal {reference}"))
+            text.add("proposal ");
+            text.add_digits(reference.as_slice());
         }
-        Taken::Commit(epoch) => have(format!(in alloc; "commit {epoch}")),
+        Taken::Commit(epoch) => {
+            text.add("commit ");
+            text.add_number(epoch);
+        }
     }
+    text.finish()
 }
 
 /// A refused message, by its number and its name.
 fn refusal_text(alloc: Global, refusal: Refusal) -> Result<String, RowFault> {
-    let name = format!(in alloc; "{} {refusal:?}", refusal.number())?;
-    have(name_of(alloc, name.as_str()))
+    name_of(alloc, format!(in alloc; "{} {refusal:?}", refusal.number()))
 }
 
 /// The results for the messages until now.
 #[derive(Drop)]
 struct Results {
     /// All, with ` / ` between two.
-    all: String,
-    /// The last one, if each message before it was accepted.
-    last: Option<String>,
+    all: TextWriter,
+    /// The last one.
+    last: TextWriter,
+    /// Whether each message before the last one was accepted.
+    has_last: bool,
     /// Whether each message was accepted.
     is_accepted: bool,
 }
 
 impl Results {
-    /// Adds a result.
-    fn add(&mut self, one: String, is_accepted: bool) -> Result<(), RowFault> {
-        if !self.all.is_empty() {
-            self.all.push_str(" / ")?;
+    /// None yet.
+    fn new(alloc: Global) -> Results {
+        Results {
+            all: TextWriter::new(alloc),
+            last: TextWriter::new(alloc),
+            has_last: false,
+            is_accepted: true,
         }
-        self.all.push_str(one.as_str())?;
-        self.last = if self.is_accepted { Some(one) } else { None };
+    }
+
+    /// Adds a result.
+    fn add(&mut self, one: &str, is_accepted: bool) {
+        self.all.separate(" / ");
+        self.all.add(one);
+        self.last = TextWriter::new(self.all.alloc);
+        self.last.add(one);
+        self.has_last = self.is_accepted;
         self.is_accepted = self.is_accepted && is_accepted;
-        Ok(())
     }
 
     /// Adds what follows all results.
-    fn add_end(&mut self, end: &str) -> Result<(), RowFault> {
-        self.all.push_str(end)?;
-        if let Some(last) = &mut self.last {
-            last.push_str(end)?;
+    fn add_end(&mut self, end: &str) {
+        self.all.add(end);
+        self.last.add(end);
+    }
+
+    /// All results, and the last one if each message before it was accepted.
+    fn finish(self) -> Result<CallResult, RowFault> {
+        let Results {
+            all,
+            last,
+            has_last,
+            ..
+        } = self;
+        if has_last {
+            CallResult::of_both(all.finish(), last.finish())
+        } else {
+            CallResult::of(all.finish())
         }
-        Ok(())
     }
 }
 
@@ -107,13 +134,21 @@ fn check_tree<C: SignatureCheck>(
     checker: &C,
     number: usize,
 ) -> Result<(), RowFault> {
-    if !is_valid(alloc, follower, checker)? {
+    let Ok(suite) = Suite::from_u16(follower.context().cipher_suite) else {
+        return Err(RowFault::NotValid(number));
+    };
+    if validate_tree(alloc, suite, follower.context(), follower.tree()).is_err() {
         return Err(RowFault::NotValid(number));
     }
-    if empty_count(alloc, follower)? > 0 {
-        return Err(RowFault::NotCached);
+    match has_valid_members(alloc, follower, checker) {
+        Ok(true) => match is_cached(alloc, suite, follower) {
+            Ok(true) => Ok(()),
+            Ok(false) => Err(RowFault::NotCached),
+            Err(fault) => Err(fault),
+        },
+        Ok(false) => Err(RowFault::NotValid(number)),
+        Err(fault) => Err(fault),
     }
-    Ok(())
 }
 
 /// Checks that a follower has this state.
@@ -123,35 +158,18 @@ fn check_state<C: SignatureCheck>(
     before: &[u8],
     number: usize,
 ) -> Result<(), RowFault> {
-    if state_of(alloc, follower)?.as_slice() == before {
-        Ok(())
-    } else {
-        Err(RowFault::Changed(number))
+    match state_of(alloc, follower) {
+        Ok(state) if state.as_slice() == before => Ok(()),
+        Ok(_) => Err(RowFault::Changed(number)),
+        Err(fault) => Err(fault),
     }
 }
 
-/// Hands a follower a message, of which this was the state before. Returns whether it was accepted, and the result.
-fn taken_from<C: SignatureCheck>(
-    row: &Row,
-    at: usize,
-    follower: &mut Follower<C>,
-    checker: &C,
-    before: &[u8],
-) -> Result<(bool, String), RowFault> {
-    let alloc = row.alloc;
-    let number = at.saturating_sub(2);
-    let message = row.bytes(at)?;
-    let taken = follower.take(message.as_slice());
-    drop(message);
-    match taken {
-        Ok(taken) => {
-            check_tree(alloc, follower, checker, number)?;
-            Ok((true, taken_text(alloc, taken)?))
-        }
-        Err(refusal) => {
-            check_state(alloc, follower, before, number)?;
-            Ok((false, refusal_text(alloc, refusal)?))
-        }
+/// Adds a result that was made, if it was.
+fn add_result(row: &Row, results: &mut Results, made: Result<String, RowFault>, is_accepted: bool) {
+    match made {
+        Ok(one) => results.add(one.as_str(), is_accepted),
+        Err(fault) => row.record(fault),
     }
 }
 
@@ -163,28 +181,36 @@ fn hand_over<C: SignatureCheck>(
     follower: &mut Follower<C>,
     checker: &C,
     results: &mut Results,
-) -> Result<(), RowFault> {
-    let before = state_of(row.alloc, follower)?;
-    let (is_accepted, result) = taken_from(row, at, follower, checker, before.as_slice())?;
-    drop(before);
-    results.add(result, is_accepted)
+) {
+    let number = at.saturating_sub(2);
+    let before = row.made(state_of(row.alloc, follower));
+    match follower.take(row.bytes(at).as_slice()) {
+        Ok(taken) => {
+            row.some(check_tree(row.alloc, follower, checker, number));
+            add_result(row, results, taken_text(row.alloc, taken), true);
+        }
+        Err(refusal) => {
+            row.some(check_state(row.alloc, follower, before.as_slice(), number));
+            add_result(row, results, refusal_text(row.alloc, refusal), false);
+        }
+    }
 }
 
 /// What follows the results of a story: nothing, the state or the tree.
 fn end_text<C: SignatureCheck>(row: &Row, follower: &Follower<C>) -> Result<String, RowFault> {
-    let mut end = String::new(row.alloc);
+    let mut end = TextWriter::new(row.alloc);
     match row.word(0) {
         "story_state" | "full_story_state" => {
-            end.push_str(" / state")?;
-            add_state(row.alloc, follower, &mut end)?;
+            end.add(" / state");
+            add_state(follower, &mut end);
         }
         "story_tree" | "full_story_tree" => {
-            end.push_str(" / tree")?;
-            add_keys(row.alloc, follower, &mut end)?;
+            end.add(" / tree");
+            add_keys(follower, &mut end);
         }
         _ => {}
     }
-    Ok(end)
+    end.finish()
 }
 
 /// What a follower returns for the messages of a row.
@@ -192,25 +218,24 @@ fn follow<C: SignatureCheck>(
     row: &Row,
     follower: &mut Follower<C>,
     checker: &C,
-) -> Result<Results, RowFault> {
-    let mut results = Results {
-        all: String::new(row.alloc),
-        last: None,
-        is_accepted: true,
-    };
+) -> Result<CallResult, RowFault> {
+    let mut results = Results::new(row.alloc);
     for at in 3..row.fields.len() {
-        hand_over(row, at, follower, checker, &mut results)?;
+        hand_over(row, at, follower, checker, &mut results);
     }
-    state_of(row.alloc, follower)?;
-    let end = end_text(row, follower)?;
-    results.add_end(end.as_str())?;
-    Ok(results)
+    row.some(state_of(row.alloc, follower));
+    match end_text(row, follower) {
+        Ok(end) => {
+            results.add_end(end.as_str());
+            results.finish()
+        }
+        Err(fault) => Err(fault),
+    }
 }
 
 /// A field that is the message of a GroupInfo.
 fn info_at(row: &Row, at: usize) -> Result<GroupInfo, RowFault> {
-    let bytes = row.bytes(at)?;
-    match decode_message(row.alloc, bytes.as_slice()) {
+    match decode_message(row.alloc, row.bytes(at).as_slice()) {
         Ok(Message::GroupInfo(info)) => Ok(info),
         Ok(message) => {
             drop(message);
@@ -241,42 +266,48 @@ pub(crate) fn started<C: SignatureCheck>(row: &Row, checker: C) -> Result<Follow
 }
 
 /// What a follower returns that starts with a checker, validated by another one like it.
-fn story_by<C: SignatureCheck>(row: &Row, own: C, checker: &C) -> Result<Results, RowFault> {
+fn story_by<C: SignatureCheck>(row: &Row, own: C, checker: &C) -> Result<CallResult, RowFault> {
     let mut follower = started(row, own)?;
     let results = follow(row, &mut follower, checker);
     drop(follower);
     results
 }
 
-/// What a follower returns that starts with receipts.
-fn story_by_receipts(row: &Row) -> Result<Results, RowFault> {
-    let checker = row.receipts(2)?;
-    match row.receipts(2) {
-        Ok(own) => story_by(row, own, &checker),
-        Err(fault) => Err(fault),
-    }
-}
-
 /// `story | INFO | CHECKER | MESSAGE | ..`: what a follower returns for messages that starts from a GroupInfo. `story_state` and
 /// `story_tree` have the state or the tree after the last message as well. `full_story`, `full_story_state` and `full_story_tree` are
 /// the same in the full profile.
 pub(crate) fn story(row: &Row) -> Result<CallResult, RowFault> {
-    if row.len() < 3 {
-        return Err(RowFault::Fields(3));
-    }
-    let results = if row.is_trusting(2) {
-        story_by(row, Trusting, &Trusting)?
+    row.has_at_least(3);
+    if row.is_trusting(2) {
+        story_by(row, Trusting, &Trusting)
     } else {
-        story_by_receipts(row)?
-    };
-    let Results { all, last, .. } = results;
-    Ok(CallResult {
-        text: all,
-        other: last,
-    })
+        story_by(row, row.receipts(2), &row.receipts(2))
+    }
 }
 
 // ---- starts
+
+/// The first state.
+fn state_text<C: SignatureCheck>(
+    alloc: Global,
+    follower: &Follower<C>,
+) -> Result<String, RowFault> {
+    let mut text = TextWriter::new(alloc);
+    text.add("state");
+    add_state(follower, &mut text);
+    text.finish()
+}
+
+/// The number and the name of the fault of a start.
+fn start_fault_text<C: SignatureCheck>(
+    alloc: Global,
+    refused: &StartRefused<C>,
+) -> Result<String, RowFault> {
+    name_of(
+        alloc,
+        format!(in alloc; "{} {:?}", refused.fault.number(), refused.fault),
+    )
+}
 
 /// The first state, or the number and the name of the fault.
 fn start_text<C: SignatureCheck>(
@@ -285,33 +316,25 @@ fn start_text<C: SignatureCheck>(
 ) -> Result<String, RowFault> {
     match started {
         Ok(follower) => {
-            let mut text = String::from_str(alloc, "state")?;
-            let added = add_state(alloc, &follower, &mut text);
+            let text = state_text(alloc, &follower);
             drop(follower);
-            added?;
-            Ok(text)
+            text
         }
         Err(refused) => {
-            let name = format!(in alloc; "{} {:?}", refused.fault.number(), refused.fault);
+            let text = start_fault_text(alloc, &refused);
             drop(refused);
-            Ok(name_of(alloc, name?.as_str())?)
+            text
         }
     }
 }
 
-/// The result of a start, and of another one with what a refused one returns.
-fn start_twice<C: SignatureCheck>(
+/// The number and the name of the fault of a start. Another start with what this one returned has to give the same.
+fn refused_text<C: SignatureCheck>(
     row: &Row,
-    info: GroupInfo,
-    tree: Option<PublicTree>,
-    checker: C,
+    refused: StartRefused<C>,
 ) -> Result<String, RowFault> {
     let alloc = row.alloc;
-    let refused = match Follower::start(alloc, info, tree, checker) {
-        Ok(follower) => return start_text(alloc, Ok(follower)),
-        Err(refused) => refused,
-    };
-    let name = format!(in alloc; "{} {:?}", refused.fault.number(), refused.fault);
+    let name = start_fault_text(alloc, &refused);
     let StartRefused {
         info,
         tree,
@@ -319,37 +342,48 @@ fn start_twice<C: SignatureCheck>(
         ..
     } = refused;
     let again = start_text(alloc, Follower::start(alloc, info, tree, checker));
-    let again = again?;
-    if name_of(alloc, name?.as_str())?.as_str() == again.as_str() {
-        Ok(again)
-    } else {
-        Err(RowFault::TwoResults)
+    if !are_same(&name, &again) {
+        row.record(RowFault::TwoResults);
+    }
+    again
+}
+
+/// The result of a start, and of another one with what a refused one returns.
+fn start_with<C: SignatureCheck>(
+    row: &Row,
+    info: GroupInfo,
+    tree: Option<PublicTree>,
+    checker: C,
+) -> Result<CallResult, RowFault> {
+    match Follower::start(row.alloc, info, tree, checker) {
+        Ok(follower) => CallResult::of(start_text(row.alloc, Ok(follower))),
+        Err(refused) => CallResult::of(refused_text(row, refused)),
     }
 }
 
+/// A field that is a tree, or `none`.
+fn some_tree(row: &Row, at: usize) -> Option<PublicTree> {
+    if row.word(at) == "none" {
+        return None;
+    }
+    row.some(row.tree(at))
+}
+
 /// The result of a start by a checker.
-fn start_by<C: SignatureCheck>(row: &Row, checker: C) -> Result<String, RowFault> {
-    let tree = match row.word(2) {
-        "none" => None,
-        _ => Some(row.tree(2)?),
-    };
+fn start_by<C: SignatureCheck>(row: &Row, checker: C) -> Result<CallResult, RowFault> {
     match info_at(row, 1) {
-        Ok(info) => start_twice(row, info, tree, checker),
-        Err(fault) => {
-            drop(tree);
-            Err(fault)
-        }
+        Ok(info) => start_with(row, info, some_tree(row, 2), checker),
+        Err(fault) => Err(fault),
     }
 }
 
 /// `start | INFO | TREE or none | CHECKER`: the first state of a follower, or why it doesn't start; what is returned then has to give the
 /// same result.
 pub(crate) fn start(row: &Row) -> Result<CallResult, RowFault> {
-    row.has(3)?;
-    let text = if row.is_trusting(3) {
-        start_by(row, Trusting)?
+    row.has(3);
+    if row.is_trusting(3) {
+        start_by(row, Trusting)
     } else {
-        start_by(row, row.receipts(3)?)?
-    };
-    Ok(CallResult::text(text))
+        start_by(row, row.receipts(3))
+    }
 }

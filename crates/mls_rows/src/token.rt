@@ -5,7 +5,7 @@ use std::alloc::Global;
 use std::mem;
 
 /// What a bracket makes of the bytes in it.
-#[derive(Clone, Copy, Debug, PartialEq, Eq)]
+#[derive(Clone, Copy, PartialEq, Eq)]
 pub(crate) enum Bracket {
     /// `( .. )`: themselves.
     Group,
@@ -24,7 +24,7 @@ pub(crate) enum Bracket {
 }
 
 /// A word or a mark.
-#[derive(Debug, Drop)]
+#[derive(Drop)]
 pub(crate) enum Token {
     /// Anything else: digits, a name, or a word of a result.
     Word(String),
@@ -50,6 +50,8 @@ struct Lexer {
     /// The mark that ends the text that is being read.
     end: Option<char>,
     tokens: Vec<Token>,
+    /// Whether there was memory for all.
+    is_whole: bool,
 }
 
 impl Lexer {
@@ -58,20 +60,32 @@ impl Lexer {
         mem::replace(&mut self.word, String::new(self.alloc))
     }
 
+    /// Adds a word or a mark.
+    fn push(&mut self, token: Token) {
+        if self.tokens.push(token).is_err() {
+            self.is_whole = false;
+        }
+    }
+
+    /// Adds a character to the word.
+    fn push_character(&mut self, c: char) {
+        if self.word.push(c).is_err() {
+            self.is_whole = false;
+        }
+    }
+
     /// Ends the word, if there is one.
-    fn end_word(&mut self) -> Result<(), RowFault> {
+    fn end_word(&mut self) {
         if !self.word.is_empty() {
             let word = self.take_word();
-            self.tokens.push(Token::Word(word))?;
+            self.push(Token::Word(word));
         }
-        Ok(())
     }
 
     /// Ends the word before a mark.
-    fn mark(&mut self, token: Token) -> Result<(), RowFault> {
-        self.end_word()?;
-        self.tokens.push(token)?;
-        Ok(())
+    fn mark(&mut self, token: Token) {
+        self.end_word();
+        self.push(token);
     }
 
     /// The round bracket after the word until here.
@@ -92,38 +106,33 @@ impl Lexer {
     }
 
     /// Opens a round bracket.
-    fn open(&mut self) -> Result<(), RowFault> {
+    fn open(&mut self) {
         let bracket = self.bracket();
         if bracket != Bracket::Group {
             self.word.clear();
         }
-        self.mark(Token::Open(bracket))
+        self.mark(Token::Open(bracket));
     }
 
     /// Reads a character of a text.
-    fn take_in_text(&mut self, end: char, c: char) -> Result<(), RowFault> {
+    fn take_in_text(&mut self, end: char, c: char) {
         if c == end {
             self.end = None;
             let text = self.take_word();
-            self.tokens.push(Token::Text(text))?;
+            self.push(Token::Text(text));
         } else {
-            self.word.push(c)?;
+            self.push_character(c);
         }
-        Ok(())
     }
 
     /// Begins a text, which ends with the mark that it begins with.
-    fn open_text(&mut self, mark: char) -> Result<(), RowFault> {
-        self.end_word()?;
+    fn open_text(&mut self, mark: char) {
+        self.end_word();
         self.end = Some(mark);
-        Ok(())
     }
 
-    /// Reads a character.
-    fn take(&mut self, c: char) -> Result<(), RowFault> {
-        if let Some(end) = self.end {
-            return self.take_in_text(end, c);
-        }
+    /// Reads a character outside of texts.
+    fn take_outside(&mut self, c: char) {
         match c {
             ' ' => self.end_word(),
             '"' => self.open_text(c),
@@ -134,18 +143,34 @@ impl Lexer {
             ')' => self.mark(Token::Close),
             '|' => self.mark(Token::Bar),
             '=' => self.mark(Token::Equals),
-            _ => Ok(self.word.push(c)?),
+            _ => self.push_character(c),
+        }
+    }
+
+    /// Reads a character.
+    fn take(&mut self, c: char) {
+        match self.end {
+            Some(end) => self.take_in_text(end, c),
+            None => self.take_outside(c),
         }
     }
 
     /// The words and marks.
     fn finish(mut self) -> Result<Vec<Token>, RowFault> {
-        if self.end.is_some() {
-            return Err(RowFault::Text);
+        self.end_word();
+        let Lexer {
+            end,
+            tokens,
+            is_whole,
+            ..
+        } = self;
+        if !is_whole {
+            Err(RowFault::OutOfMemory)
+        } else if end.is_some() {
+            Err(RowFault::Text)
+        } else {
+            Ok(tokens)
         }
-        self.end_word()?;
-        let Lexer { tokens, .. } = self;
-        Ok(tokens)
     }
 }
 
@@ -156,9 +181,10 @@ pub(crate) fn tokens_of(alloc: Global, text: &str) -> Result<Vec<Token>, RowFaul
         word: String::new(alloc),
         end: None,
         tokens: Vec::new(alloc),
+        is_whole: true,
     };
     for c in text.chars() {
-        lexer.take(c)?;
+        lexer.take(c);
     }
     lexer.finish()
 }

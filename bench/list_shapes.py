@@ -278,8 +278,8 @@ def validate_nodes_without_content(put):
 def vectors_of(put, kind, item, least):
     """A file of one test vector again and again, with as many spaces as it must have (docs/VECTORS.md)."""
     vectors = b"[" + b",".join([item] * put.size(least)) + b"]"
-    weight = 48 * vectors.count(b"{") + 8 * vectors.count(b"[") + 5 * vectors.count(b",")
-    return put.files(["check", kind, "VECTORS"], {"VECTORS": vectors.ljust(weight - 65536)})
+    weight = 40 * vectors.count(b"{") + 7 * vectors.count(b"[") + 4 * vectors.count(b",")
+    return put.files(["check", kind, "VECTORS"], {"VECTORS": vectors.ljust(weight - 262144)})
 
 
 @shape

@@ -2,15 +2,15 @@
 -- short values takes many times its length. Used by contracts.
 use Rattle.std.specs.Prelude.{ℕ, ◌+◌, ◌==◌, ◌<◌, List, [], ◌∷◌, if◌then◌else◌, length}
 
--- `byte_weight b` is the weight of a byte: 48 of `{`, 8 of `[`, 5 of `,`.
+-- `byte_weight b` is the weight of a byte: 40 of `{`, 7 of `[`, 4 of `,`.
 abbrev pub byte_weight : ℕ → ℕ
-byte_weight b = if b == 123 then 48 else if b == 91 then 8 else if b == 44 then 5 else 0
+byte_weight b = if b == 123 then 40 else if b == 91 then 7 else if b == 44 then 4 else 0
 
 -- `text_weight bytes` is the weight of all bytes.
 abbrev pub text_weight : List ℕ → ℕ
 text_weight [] = 0
 text_weight (b ∷ bytes) = byte_weight b + text_weight bytes
 
--- `IsTooHeavy bytes`: the text weighs more than it has bytes, and than 65,536 beyond them.
+-- `IsTooHeavy bytes`: the text weighs more than it has bytes, and than 262,144 beyond them.
 abbrev pub IsTooHeavy : List ℕ → Type 0
-IsTooHeavy bytes = length bytes + 65536 < text_weight bytes
+IsTooHeavy bytes = length bytes + 262144 < text_weight bytes

@@ -171,8 +171,8 @@ fn check_report(alloc: Global, kind: CheckKind, bytes: &[u8]) -> Result<Report, 
 /// JSON type fails when its check comes. If the input is no such array, or longer than [`mls_wire::MAX_INPUT`], or too
 /// heavy, the report is the line `vectors unreadable`, and the verdict is `No`.
 ///
-/// A value of JSON takes memory however short its text is. So a text must not weigh more than 65,536 and its length in
-/// bytes: 48 for each `{`, 8 for each `[`, and 5 for each `,`, also those inside strings.
+/// A value of JSON takes memory however short its text is. So a text must not weigh more than 262,144 and its length in
+/// bytes: 40 for each `{`, 7 for each `[`, and 4 for each `,`, also those inside strings.
 ///
 /// # Errors
 ///

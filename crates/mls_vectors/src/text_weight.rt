@@ -5,16 +5,16 @@ ghost use Rattle.mls_wire.specs.Limits.{input_limit};
 ghost use Rattle.mls_vectors.specs.TextWeight.{byte_weight, text_weight, IsTooHeavy};
 
 /// The weight that a text may have beyond its length.
-const FREE_WEIGHT: u64 = 65536;
+const FREE_WEIGHT: u64 = 262144;
 
 /// Returns the weight of a byte: that of the values that it can begin.
 fn byte_weight(byte: u8) -> u64
     ensures { result ≡ byte_weight byte }
 {
     match byte {
-        b'{' => 48,
-        b'[' => 8,
-        b',' => 5,
+        b'{' => 40,
+        b'[' => 7,
+        b',' => 4,
         _ => 0,
     }
 }

@@ -6,5 +6,5 @@ use Rattle.mls_vectors.proofs.text_weight.text_weight.Given as goal
 abbrev pub invariant-loop-byte : goal.invariant-loop-byte
 invariant-loop-byte l = record {
   all : l.weight + spec.text_weight (drop l.byte-index l.text) ≡ spec.text_weight l.text;
-  few : l.weight ≤ 48 * l.byte-index;
+  few : l.weight ≤ 40 * l.byte-index;
 }

@@ -15,8 +15,8 @@ use crate::profile::{Profile, check_proposal, fault_found};
 use crate::reinit::ReInit;
 use mls_nodes::{EncodedLeaf, Extensions};
 use mls_wire::{
-    BoxedOpaque, CodecFault, Decode, Draft, Encode, Opaque, Reader, Shared, TryClone, add_sizes,
-    bytes_of, read_all_of,
+    BoxedOpaque, CodecFault, Decode, Draft, Encode, Reader, Shared, TryClone, add_sizes, bytes_of,
+    read_all_of,
 };
 use std::alloc::Global;
 
@@ -37,7 +37,7 @@ pub enum Proposal {
     /// Type 5: reinitializes the group with these parameters (RFC 9420, 12.1.5).
     ReInit(Boxed<ReInit>),
     /// Type 6: the `kem_output` by which a new member joins with an external commit (RFC 9420, 12.1.6).
-    ExternalInit(Boxed<Opaque>),
+    ExternalInit(Boxed<BoxedOpaque>),
 }
 
 /// An entry of a proposal list (RFC 9420, 12.4: ProposalOrRef).

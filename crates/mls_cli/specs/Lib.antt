@@ -1,6 +1,6 @@
 pub mod Execution
 pub mod ClapCommands
-pub mod ClapParts
+pub mod ClapPartsInternal
 pub mod Files
 pub mod ProgramCheckers
 pub mod ProgramCheckersInternal

@@ -4,7 +4,7 @@ ghost use Rattle.std.specs.Prelude.{◌≡◌, IfOk, codes};
 ghost use Rattle.clap.specs.Words.{App, Rule, app_of, new_app, with_rule, with_subcommand};
 ghost use Rattle.mls_cli.specs.ClapCommands as specs;
 ghost use Rattle.mls_cli.specs.ClapCommands.{word_rule, file_rule, needed_rule, flag_rule, show_app, validate_tree_app, validate_app, replay_app, signatures_app, gate_app, check_app, bare_app, mlscheck_app};
-ghost use Rattle.mls_cli.specs.ClapParts.{HasRule, HasApp, MakesApp};
+ghost use Rattle.mls_cli.specs.ClapPartsInternal.{HasRule, HasApp, MakesApp};
 
 use clap::{Arg, ArgAction, Command};
 use std::alloc::{AllocError, Global};

@@ -53,7 +53,7 @@ base-counts t c h none = record {
   none_replaced = none;
 }
 
--- counts of a tree are settled with it
+-- counts of a tree have it as their base
 pub counts-base : (t : Tree) (c : CredentialCounts) → AreCountsOf t c → HaveBase t c
 counts-base t c h =
     same_classes t c.classes.list.items (classes_before c.replaced.items c.classes.list.items) (ap (λ es. classes_before es c.classes.list.items) (nil_from_length c.replaced.items h.none_replaced)) h.counted

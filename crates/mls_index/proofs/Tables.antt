@@ -585,7 +585,7 @@ module _ (kind : KeyKind) (t : Tree) where
   pub table-base : (k : KeyTable) → IsTableOfTree kind t k → HasBaseOf kind t k
   table-base k h = record { table = h.table.between; numbers = h.numbers }
 
-  -- what a table is settled with
+  -- a table contains the keys of its base
   pub between-covers : (k : KeyTable) → HasBaseOf kind t k → TableContainsKeys kind t k
   between-covers k h = record {
     entries = λ key p there. number-entry k.entries key (base_at k p) p (numbered key p there) (λ b is. h.table.all b p is);

@@ -114,42 +114,26 @@ pub(crate) fn fill_copath(
 }
 
 /// Returns the tree hash of the subtree at a node index.
-fn subtree_hash(
-    alloc: Global,
-    suite: Suite,
-    tree: &PublicTree,
-    node_index: u32,
-) -> Result<HashValue, AllocError>
+fn subtree_hash(suite: Suite, tree: &PublicTree, node_index: u32) -> HashValue
     requires there { IsSome (subtree_at 0 tree.now.tree node_index) }
-    ensures { IfOk result (λ h. tree_hash_at (hash_of suite) tree.now.tree node_index ≡ Some h) }
+    ensures { tree_hash_at (hash_of suite) tree.now.tree node_index ≡ Some result }
 {
-    match tree_hash(alloc, suite, tree, node_index) {
-        Ok(hash) => Ok(hash),
-        Err(HashFault::OutOfMemory) => Err(AllocError),
+    match tree_hash(suite, tree, node_index) {
+        Ok(hash) => hash,
         Err(_) => unreachable!(),
     }
 }
 
 /// Returns the parent hash of a parent that a path makes above a leaf (RFC 9420, 7.9). It has no unmerged leaves, so
 /// the whole child on the copath is hashed.
-fn path_hash(
-    alloc: Global,
-    suite: Suite,
-    tree: &PublicTree,
-    leaf: u32,
-    parent: &NewParent,
-) -> Result<HashValue, AllocError>
+fn path_hash(suite: Suite, tree: &PublicTree, leaf: u32, parent: &NewParent) -> HashValue
     requires parent { IsParentNodeIndex tree.now.tree parent.now.node_index }
-    ensures { IfOk result (λ h. path_hash_at (hash_of suite) tree.now.tree leaf
-        parent.now.node_index parent.now.node.value ≡ Some h) }
+    ensures { path_hash_at (hash_of suite) tree.now.tree leaf parent.now.node_index
+        parent.now.node.value ≡ Some result }
 {
     let away = copath_child(tree, leaf, parent.node_index);
-    let original = subtree_hash(alloc, suite, tree, away)?;
-    match parent_hash_of(alloc, suite, &parent.node, &original) {
-        Ok(hash) => Ok(hash),
-        Err(HashFault::OutOfMemory) => Err(AllocError),
-        Err(_) => unreachable!(),
-    }
+    let original = subtree_hash(suite, tree, away);
+    parent_hash_of(suite, &parent.node, &original)
 }
 
 /// Returns a parent that a path makes (RFC 9420, 7.5): with this key, the parent hash from the parent above, and no
@@ -192,7 +176,7 @@ pub(crate) fn new_parents(
         let node_index = above.node_indices[keys.len()];
         let node = path_parent(alloc, key, &hash)?;
         let parent = NewParent { node_index, node };
-        hash = path_hash(alloc, suite, tree, above.leaf, &parent)?;
+        hash = path_hash(suite, tree, above.leaf, &parent);
         parents.push(parent)?;
     }
     Ok(NewParents { parents, hash })

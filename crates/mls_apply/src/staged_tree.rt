@@ -29,7 +29,7 @@ use crate::new_parents::{fill, put_path_in_place};
 use crate::path_merge::{check_keys_and_counts, filled_nodes, fitting_node_indices};
 use crate::requirements::same_requirements;
 use mls_check::{MemberFault, OutOfMemory, SignatureCheck, first_unmet_requirement};
-use mls_hash::{HashFault, Suite, tree_hash};
+use mls_hash::{Suite, tree_hash};
 use mls_index::{KeyKind, LeafRule, LeafRules, TreeIndex, first_changed_failing};
 use mls_nodes::RequiredCapabilities;
 use mls_tree::{HashValue, Journal, PublicTree};
@@ -358,7 +358,7 @@ impl StagedTree {
         ensures hash { IfOk result (λ hash. tree_hash (hash_of suite) 0 self.old.tree ≡ Some hash) }
     {
         fill(alloc, suite, &mut self.tree)?;
-        root_hash(alloc, suite, &self.tree)
+        Ok(root_hash(suite, &self.tree))
     }
 
     /// Makes the changes final: the tree as it is becomes the base. Does not allocate.
@@ -390,12 +390,11 @@ impl StagedTree {
 }
 
 /// Returns the tree hash of a tree (RFC 9420, 7.8).
-fn root_hash(alloc: Global, suite: Suite, tree: &PublicTree) -> Result<HashValue, AllocError>
-    ensures { IfOk result (λ hash. tree_hash (hash_of suite) 0 tree.now.tree ≡ Some hash) }
+fn root_hash(suite: Suite, tree: &PublicTree) -> HashValue
+    ensures { tree_hash (hash_of suite) 0 tree.now.tree ≡ Some result }
 {
-    match tree_hash(alloc, suite, tree, tree.leaf_count() - 1) {
-        Ok(hash) => Ok(hash),
-        Err(HashFault::OutOfMemory) => Err(AllocError),
+    match tree_hash(suite, tree, tree.leaf_count() - 1) {
+        Ok(hash) => hash,
         Err(_) => unreachable!(),
     }
 }

@@ -1,6 +1,6 @@
 -- Marks of reached parents, through a walk halves first.
-use Rattle.std.proofs.Common.{◌≡◌, ◌≢◌, ℕ, ◌+◌, ◌*◌, ◌<◌, Bool, true, List, Option, Some, None, Result, Ok, Err, refl, sym, ap, ◌∙◌, subst, arith, inl, inr, length, IsTrue, is_some, IfOk}
-use Rattle.std.specs.Prelude.{◌↔◌, slice_set}
+use Rattle.std.proofs.Common.{◌≡◌, ◌≢◌, ℕ, ◌+◌, ◌*◌, ◌<◌, Bool, true, List, Option, Some, None, refl, sym, ap, ◌∙◌, subst, arith, inl, inr, length, is_some}
+use Rattle.std.specs.Prelude.{slice_set}
 use Rattle.std.proofs.Common.{get_or-set_same, get_or-set_other}
 use Rattle.std.proofs.lemmas.Option.{same_Some, none-some}
 use Rattle.std.proofs.lemmas.Bool.{cases_order, cases_lt}
@@ -14,10 +14,6 @@ use Rattle.mls_check.specs.ParentHashMarks.{IsMarked, IsMarkedAt, MarksAreValid,
 use Rattle.mls_check.proofs.Outside.{outside_above}
 
 -- an answer that was true exactly where P holds
-pub IfOk-same : {E P Q : Type 0} (r : Result Bool E) → (P → Q) → (Q → P) → IfOk r (λ b. IsTrue b ↔ P) → IfOk r (λ b. IsTrue b ↔ Q)
-IfOk-same (Ok b) f g h = (λ t. f (h.0 t), λ q. h.1 (g q))
-IfOk-same (Err e) f g h = tt
-
 module _ (H : List ℕ → List ℕ) (t : Tree) (marks : List Bool) where
   -- what is marked in both halves is marked under the parent
   pub under_from_children : (p q u m : ℕ) (n : Option ParentNode) → HasChildren t p q u m n → AreAllMarkedAt H t marks q → AreAllMarkedAt H t marks u → AreAllMarkedUnder H t marks p

@@ -20,7 +20,7 @@ ghost use Rattle.mls_check.specs.ParentHashMarks.{RisesInLeaves, IsOnlyUnlisted,
 
 use crate::node_count::node_index_count;
 use crate::sorted_leaf_lists::starts_with;
-use mls_hash::{ChildHashes, HashFault, OriginalHashes, Side, SubtreeHashes, Suite};
+use mls_hash::{ChildHashes, OriginalHashes, Side, SubtreeHashes, Suite};
 use mls_nodes::{LeafSource, Node};
 use mls_tree::{Part, PublicTree, TreeError, split_leaves};
 use std::alloc::{AllocError, Global};
@@ -115,45 +115,41 @@ fn linked_hash(tree: &PublicTree, node_index: u32) -> Option<&[u8]>
 fn is_linked(
     suite: Suite,
     tree: &PublicTree,
-    known: &mut OriginalHashes<'_>,
+    known: &OriginalHashes<'_>,
     children: &ChildHashes,
     node_index: u32,
     side: Side,
     below: Option<u32>,
-) -> Result<bool, AllocError>
+) -> bool
     requires { AreChildHashes (hash_of suite) tree.now.tree node_index children.now }
-    ensures linked { IfOk result
-        (λ b. IsTrue b ↔ HasParentHash (hash_of suite) tree.now.tree node_index side below) }
-    ensures same { known.new ≡ known.old }
+    ensures { IsTrue result ↔ HasParentHash (hash_of suite) tree.now.tree node_index side below }
 {
     let Some(below) = below else {
-        return Ok(false);
+        return false;
     };
     let Some(linked) = linked_hash(tree, below) else {
-        return Ok(false);
+        return false;
     };
-    let expected = known.parent_hash(suite, tree, node_index, side, children)?;
-    Ok(expected.as_slice() == linked)
+    let expected = known.parent_hash(suite, tree, node_index, side, children);
+    expected.as_slice() == linked
 }
 
 /// Returns the original tree hashes of the children of the non-blank parent at a node index.
 fn child_tree_hashes(
-    alloc: Global,
     suite: Suite,
     tree: &PublicTree,
     known: &mut OriginalHashes<'_>,
     node_index: u32,
-) -> Result<ChildHashes, AllocError>
+) -> ChildHashes
     requires set { IsSome (parent_at tree.now.tree node_index) }
     requires known { AreKnownHashes (hash_of suite) tree.now.tree known.old }
     requires sorted { HasStrictlyIncreasingLists tree.now.tree }
     requires consistent { HasConsistentUnmerged tree.now.tree }
-    ensures hashes { IfOk result (AreChildHashes (hash_of suite) tree.now.tree node_index) }
+    ensures hashes { AreChildHashes (hash_of suite) tree.now.tree node_index result }
     ensures known { AreKnownHashes (hash_of suite) tree.now.tree known.new }
 {
-    match known.child_hashes(alloc, suite, tree, node_index) {
-        Ok(children) => Ok(children),
-        Err(HashFault::OutOfMemory) => Err(AllocError),
+    match known.child_hashes(suite, tree, node_index) {
+        Ok(children) => children,
         Err(_) => unreachable!(),
     }
 }
@@ -194,7 +190,7 @@ fn is_parent_hash_valid(
     if from_left.is_none() && from_right.is_none() {
         return Ok(false);
     }
-    let children = child_tree_hashes(alloc, suite, tree, known, node_index)?;
+    let children = child_tree_hashes(suite, tree, known, node_index);
     if is_linked(
         suite,
         tree,
@@ -203,10 +199,10 @@ fn is_parent_hash_valid(
         node_index,
         Side::Right,
         from_left,
-    )? {
+    ) {
         return Ok(true);
     }
-    is_linked(
+    Ok(is_linked(
         suite,
         tree,
         known,
@@ -214,7 +210,7 @@ fn is_parent_hash_valid(
         node_index,
         Side::Left,
         from_right,
-    )
+    ))
 }
 
 /// Marks the parents of a subtree that are parent-hash valid, children first.

@@ -103,7 +103,7 @@ fn emptied_node_indices(rt: HostRuntime) {
 pub(crate) fn whole_text(rt: &impl Abort, alloc: Global, tree: &PublicTree) -> String {
     let mut all = tree_text(rt, alloc, tree);
     for node_index in 0..tree.leaf_count().saturating_mul(2).saturating_sub(1) {
-        let hash = have(rt, tree_hash(alloc, suite(rt), tree, node_index));
+        let hash = have(rt, tree_hash(suite(rt), tree, node_index));
         have(rt, all.push_str(text(rt, alloc, hash.as_slice()).as_str()));
     }
     all
@@ -135,7 +135,7 @@ fn fill_by(rt: &impl Abort, alloc: Global, number: u16, tree: &mut PublicTree) -
 /// Returns the tree hash of a tree of two leaves by a suite.
 fn root_hash(rt: &impl Abort, alloc: Global, number: u16, tree: &PublicTree) -> String {
     let suite = have(rt, Suite::from_u16(number));
-    let hash = have(rt, tree_hash(alloc, suite, tree, 1));
+    let hash = have(rt, tree_hash(suite, tree, 1));
     text(rt, alloc, hash.as_slice())
 }
 
@@ -175,7 +175,7 @@ fn hashes_of_a_subtree_are_filled(rt: HostRuntime) {
     let alloc = rt.alloc();
     let mut tree = tree_with(&rt, alloc, TWO_OF_FOUR);
     let anew = whole_text_anew(&rt, alloc, &tree);
-    let computed = have(&rt, tree_hash(alloc, suite(&rt), &tree, 1));
+    let computed = have(&rt, tree_hash(suite(&rt), &tree, 1));
     let filled = have(&rt, filled_hash(alloc, suite(&rt), &mut tree, 1));
     let expected = text(&rt, alloc, computed.as_slice());
     expect_text(&rt, text(&rt, alloc, filled.as_slice()), expected.as_str());
@@ -227,7 +227,7 @@ fn the_last_leaf_of_a_large_tree_is_hashed(rt: HostRuntime) {
         &rt,
         PublicTree::decode(alloc, sparse_tree(&rt, alloc).as_slice()),
     );
-    let computed = have(&rt, tree_hash(alloc, suite(&rt), &tree, 400000));
+    let computed = have(&rt, tree_hash(suite(&rt), &tree, 400000));
     drop(tree);
     let hashed = have(
         &rt,

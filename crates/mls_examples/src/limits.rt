@@ -172,7 +172,7 @@ fn adding_message(rt: &impl Abort, alloc: Global) -> Vec<u8> {
 /// The GroupInfo of the group of a tree.
 fn info_of(rt: &impl Abort, alloc: Global, tree: &PublicTree) -> GroupInfo {
     let root = tree.leaf_count().saturating_sub(1);
-    let hash = have(rt, tree_hash(alloc, suite(rt), tree, root));
+    let hash = have(rt, tree_hash(suite(rt), tree, root));
     info_with(rt, alloc, text(rt, alloc, hash.as_slice()).as_str())
 }
 

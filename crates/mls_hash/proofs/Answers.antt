@@ -1,5 +1,5 @@
 -- What the calls that hash a subtree answer.
-use Rattle.std.proofs.Common.{◌≡◌, ℕ, ◌+◌, List, [], Option, Some, None, IsSome, Result, Ok, Err, refl, sym, ap, subst, ◌∙◌}
+use Rattle.std.proofs.Common.{◌≡◌, ℕ, ◌+◌, List, [], Option, Some, None, Result, Ok, Err, refl, sym, ap, ◌∙◌}
 use Rattle.std.specs.Prelude.{option_map, option_and_then, IfOk}
 use Rattle.std.specs.List.Sorted.{IsPermutation}
 use Rattle.mls_nodes.specs.declared.leaf.LeafNode.{LeafNode}
@@ -8,7 +8,7 @@ use Rattle.mls_tree.specs.Tree.{Tree, leaf, leaf_count, Subtree, subtree_at}
 use Rattle.mls_tree.specs.TreeHash.{leaf_tree_hash_input, parent_tree_hash_input, hash_of_parent, tree_hash}
 use Rattle.mls_hash.specs.declared.fault.HashFault.{HashFault}
 use Rattle.mls_hash.specs.declared.fault.HashFault.TheVariants as faults
-use Rattle.mls_hash.specs.HashInputs.{HashesText, HashesSubtree}
+use Rattle.mls_hash.specs.WalkResults.{HashesSubtree}
 use Rattle.mls_tree.specs.NodeView.{HasChildren}
 use Rattle.mls_hash.specs.ChildOnSide.{HasChildOn, child_on}
 use Rattle.mls_hash.specs.WithoutLeaves.{strip, stripped_leaf, stripped_parent, original_tree_hash, original_tree_hash_at, tree_hash_at}
@@ -17,19 +17,12 @@ use Rattle.mls_hash.specs.declared.side.Side.TheVariants as sides
 use Rattle.mls_hash.specs.ParentHash as parents
 use Rattle.mls_hash.proofs.Strips.{leaf_count-strip, strip-none, strip-sorted}
 
-there : (o : Option Subtree) (s : Subtree) → o ≡ Some s → IsSome o
-there o s e = subst (λ (x : Option Subtree). IsSome x) (sym e) refl
-
 -- a leaf is hashed
-pub leaf_answer : (H : List ℕ → List ℕ) (L : List ℕ) (t : Tree) (p number : ℕ) (x y : Option LeafNode) (r : Result (List ℕ) HashFault)
-    → subtree_at 0 t p ≡ Some (record { first = number; tree = leaf x }) → y ≡ stripped_leaf L number x → HashesText (option_map H (leaf_tree_hash_input number y)) r
-    → HashesSubtree (subtree_at 0 t p) (original_tree_hash_at H L t p) r
-leaf_answer H L t p number x y (Ok h) e f a =
+pub leaf_answer : (H : List ℕ → List ℕ) (L : List ℕ) (t : Tree) (p number : ℕ) (x y : Option LeafNode) (h : List ℕ)
+    → subtree_at 0 t p ≡ Some (record { first = number; tree = leaf x }) → y ≡ stripped_leaf L number x → option_map H (leaf_tree_hash_input number y) ≡ Some h
+    → original_tree_hash_at H L t p ≡ Some h
+leaf_answer H L t p number x y h e f a =
     ap (option_and_then (λ (s : Subtree). original_tree_hash H L s.first s.tree)) e ∙ ap (λ (z : Option LeafNode). option_map H (leaf_tree_hash_input number z)) (sym f) ∙ a
-leaf_answer H L t p number x y (Err faults.UnsupportedSuite) e f a = a
-leaf_answer H L t p number x y (Err faults.NoSuchNode) e f a = absurd a
-leaf_answer H L t p number x y (Err faults.TooLong) e f a = a
-leaf_answer H L t p number x y (Err faults.OutOfMemory) e f a = there (subtree_at 0 t p) _ e
 
 module _ (t : Tree) (p q u m : ℕ) (n : Option ParentNode) (c : HasChildren t p q u m n) where
   -- the original hash of a parent, from those of its children
@@ -44,28 +37,24 @@ module _ (t : Tree) (p q u m : ℕ) (n : Option ParentNode) (c : HasChildren t p
       (sym (ap (option_and_then (λ (s : Subtree). original_tree_hash H L s.first s.tree)) c.right_child) i))
 
   -- a parent is hashed, after its children
-  pub parent_answer : (H : List ℕ → List ℕ) (L left right : List ℕ) (r : Result (List ℕ) HashFault)
+  pub parent_answer : (H : List ℕ → List ℕ) (L left right h : List ℕ)
       → original_tree_hash_at H L t q ≡ Some left → original_tree_hash_at H L t u ≡ Some right
-      → HashesText (option_map H (parent_tree_hash_input (option_map (stripped_parent L) n) left right)) r
-      → HashesSubtree (subtree_at 0 t p) (original_tree_hash_at H L t p) r
-  parent_answer H L left right (Ok h) a b s = whole_hash H L ∙ (λ i. hash_of_parent H (option_map (stripped_parent L) n) (a i) (b i)) ∙ s
-  parent_answer H L left right (Err faults.UnsupportedSuite) a b s = s
-  parent_answer H L left right (Err faults.NoSuchNode) a b s = absurd s
-  parent_answer H L left right (Err faults.TooLong) a b s = s
-  parent_answer H L left right (Err faults.OutOfMemory) a b s = there (subtree_at 0 t p) _ c.whole
+      → option_map H (parent_tree_hash_input (option_map (stripped_parent L) n) left right) ≡ Some h
+      → original_tree_hash_at H L t p ≡ Some h
+  parent_answer H L left right h a b s = whole_hash H L ∙ (λ i. hash_of_parent H (option_map (stripped_parent L) n) (a i) (b i)) ∙ s
 
   -- a child is refused
   pub left_fault : (hash whole : Option (List ℕ)) (e : HashFault) → HashesSubtree (subtree_at 0 t q) hash (Err e) → HashesSubtree (subtree_at 0 t p) whole (Err e)
   left_fault hash whole faults.UnsupportedSuite a = a
   left_fault hash whole faults.NoSuchNode a = let bad : ◌≡◌ {A = Option Subtree} None (Some (record { first = c.first; tree = c.left })) = sym a ∙ c.left_child in absurd cc
   left_fault hash whole faults.TooLong a = a
-  left_fault hash whole faults.OutOfMemory a = there (subtree_at 0 t p) _ c.whole
+  left_fault hash whole faults.OutOfMemory a = a
 
   pub right_fault : (hash whole : Option (List ℕ)) (e : HashFault) → HashesSubtree (subtree_at 0 t u) hash (Err e) → HashesSubtree (subtree_at 0 t p) whole (Err e)
   right_fault hash whole faults.UnsupportedSuite a = a
   right_fault hash whole faults.NoSuchNode a = let bad : ◌≡◌ {A = Option Subtree} None (Some (record { first = c.first + leaf_count c.left; tree = c.right })) = sym a ∙ c.right_child in absurd cc
   right_fault hash whole faults.TooLong a = a
-  right_fault hash whole faults.OutOfMemory a = there (subtree_at 0 t p) _ c.whole
+  right_fault hash whole faults.OutOfMemory a = a
 
 -- ---- the answers of the public calls
 
@@ -100,9 +89,8 @@ module _ (H : List ℕ → List ℕ) (t : Tree) (p : ℕ) (side : Side) (child :
       ∙ ap (option_and_then (λ (o : List ℕ). option_map H (parents.parent_hash_input parent o)))
       (sym (ap (option_and_then (λ (s : Subtree). original_tree_hash H parent.unmerged s.first s.tree)) c.children.right_child) ∙ e)
 
-  pub gives_parent_hash : (L original : List ℕ) (r : Result (List ℕ) HashFault) → IsPermutation parent.unmerged L → original_tree_hash_at H L t child ≡ Some original
-      → HashesText (option_map H (parents.parent_hash_input parent original)) r
-      → IfOk r (λ h. parents.parent_hash_at H t p side ≡ Some h)
-  gives_parent_hash L original (Ok h) s a b =
+  pub gives_parent_hash : (L original h : List ℕ) → IsPermutation parent.unmerged L → original_tree_hash_at H L t child ≡ Some original
+      → option_map H (parents.parent_hash_input parent original) ≡ Some h
+      → parents.parent_hash_at H t p side ≡ Some h
+  gives_parent_hash L original h s a b =
       side_hash side original (sym (sorted_tree H parent.unmerged L s t (child_on side c.left c.right)) ∙ ap (original_tree_hash_at H L t) (sym c.here) ∙ a) ∙ b
-  gives_parent_hash L original (Err f) s a b = tt

@@ -1,5 +1,5 @@
 -- The hashes of all subtrees, put into a list halves first.
-use Rattle.std.proofs.Common.{◌≡◌, ◌≢◌, ℕ, ◌+◌, ◌*◌, ◌-◌, ◌<◌, List, [], length, map, get_or, Option, Some, None, IsSome, Result, refl, sym, ap, subst, ◌∙◌, arith, inl, inr}
+use Rattle.std.proofs.Common.{◌≡◌, ◌≢◌, ℕ, ◌+◌, ◌*◌, ◌-◌, ◌<◌, List, [], length, map, get_or, Option, Some, None, IsSome, refl, sym, ap, subst, ◌∙◌, arith, inl, inr}
 use Rattle.std.specs.Prelude.{option_map, option_and_then, slice_get, slice_set}
 use Rattle.std.proofs.lemmas.Bool.{cases_order, cases_lt}
 use Rattle.std.proofs.lemmas.List.{length-map, length-set}
@@ -15,8 +15,6 @@ use Rattle.mls_tree.proofs.Arrays.{slice_get-set_same, slice_get-set_other}
 use Rattle.mls_tree.proofs.Coordinates.{root-seen}
 use Rattle.mls_tree.proofs.Descent.{inside_bound}
 use Rattle.mls_tree.proofs.Trees.{length-listing, subtree_at-stands, subtree_at-root, subtree_at-some, subtree_at-none, subtree_at-in_left, subtree_at-in_right, root_node_index-above, root_node_index-below}
-use Rattle.mls_hash.specs.declared.fault.HashFault.{HashFault}
-use Rattle.mls_hash.specs.HashInputs.{HashesText, HashesSubtree}
 use Rattle.mls_tree.specs.NodeView.{HasChildren}
 use Rattle.mls_tree.specs.HashLists.{EqualHashes}
 use Rattle.mls_hash.specs.WithoutLeaves.{stripped_parent, tree_hash_at}
@@ -25,20 +23,20 @@ use Rattle.mls_hash.specs.SubtreeHashesInternal.{AreHashesKept, AreHashesUnder, 
 use Rattle.mls_hash.proofs.Answers.{leaf_answer, parent_answer, whole_tree}
 
 module _ (H : List ℕ → List ℕ) (t : Tree) where
-  -- what a leaf's hash answers
-  pub leaf_hashed : (p number : ℕ) (x : Option LeafNode) (r : Result (List ℕ) HashFault) → subtree_at 0 t p ≡ Some (record { first = number; tree = leaf x })
-      → HashesText (option_map H (leaf_tree_hash_input number x)) r → HashesSubtree (subtree_at 0 t p) (tree_hash_at H t p) r
-  leaf_hashed p number x r e a = subst (λ (o : Option (List ℕ)). HashesSubtree (subtree_at 0 t p) o r) (whole_tree H t p) (leaf_answer H [] t p number x x r e refl a)
+  -- the hash of a leaf
+  pub leaf_hashed : (p number : ℕ) (x : Option LeafNode) (h : List ℕ) → subtree_at 0 t p ≡ Some (record { first = number; tree = leaf x })
+      → option_map H (leaf_tree_hash_input number x) ≡ Some h → tree_hash_at H t p ≡ Some h
+  leaf_hashed p number x h e a = sym (whole_tree H t p) ∙ leaf_answer H [] t p number x x h e refl a
 
-  -- what a parent's hash answers, after its children
-  pub parent_hashed : (p q u m : ℕ) (n : Option ParentNode) (c : HasChildren t p q u m n) (L left right : List ℕ) (r : Result (List ℕ) HashFault) → L ≡ []
+  -- the hash of a parent, after its children
+  pub parent_hashed : (p q u m : ℕ) (n : Option ParentNode) (c : HasChildren t p q u m n) (L left right h : List ℕ) → L ≡ []
       → tree_hash_at H t q ≡ Some left → tree_hash_at H t u ≡ Some right
-      → HashesText (option_map H (parent_tree_hash_input (option_map (stripped_parent L) n) left right)) r
-      → HashesSubtree (subtree_at 0 t p) (tree_hash_at H t p) r
-  parent_hashed p q u m n c L left right r none a b h =
-      subst (λ (o : Option (List ℕ)). HashesSubtree (subtree_at 0 t p) o r) (whole_tree H t p)
-      (parent_answer t p q u m n c H [] left right r (whole_tree H t q ∙ a) (whole_tree H t u ∙ b)
-      (subst (λ (M : List ℕ). HashesText (option_map H (parent_tree_hash_input (option_map (stripped_parent M) n) left right)) r) none h))
+      → option_map H (parent_tree_hash_input (option_map (stripped_parent L) n) left right) ≡ Some h
+      → tree_hash_at H t p ≡ Some h
+  parent_hashed p q u m n c L left right h none a b e =
+      sym (whole_tree H t p)
+      ∙ parent_answer t p q u m n c H [] left right h (whole_tree H t q ∙ a) (whole_tree H t u ∙ b)
+      (ap (λ (M : List ℕ). option_map H (parent_tree_hash_input (option_map (stripped_parent M) n) left right)) (sym none) ∙ e)
 
   -- ---- one hash is put
 

@@ -1,5 +1,5 @@
 -- Cells that are read, and that are filled one after the other, halves first.
-use Rattle.std.proofs.Common.{◌≡◌, ◌≢◌, ℕ, ◌+◌, ◌*◌, ◌<◌, Bool, true, false, List, [], Option, Some, None, IsSome, Ok, refl, sym, ap, subst, ◌∙◌, arith, inl, inr}
+use Rattle.std.proofs.Common.{◌≡◌, ◌≢◌, ℕ, ◌+◌, ◌*◌, ◌<◌, Bool, true, false, List, [], Option, Some, None, IsSome, refl, sym, ap, subst, ◌∙◌, arith, inl, inr}
 use Rattle.std.specs.Prelude.{nat_le, if◌then◌else◌, option_map, slice_get, slice_set}
 use Rattle.std.proofs.lemmas.Bool.{cases_order}
 use Rattle.sha2.specs.Sha256.{sha256}
@@ -14,7 +14,6 @@ use Rattle.mls_tree.specs.HashCache.{hash_by, hash_in, hash_at, IsRightHash}
 use Rattle.mls_tree.proofs.Arrays.{slice_get-set_other}
 use Rattle.mls_tree.proofs.Trees.{subtree_at-some}
 use Rattle.mls_hash.specs.SuiteHash.{hash_of, kind_of}
-use Rattle.mls_hash.specs.HashInputs.{HashesText}
 use Rattle.mls_hash.specs.FilledCache.{HasCachedHash, FilledStay}
 use Rattle.mls_hash.specs.WithoutLeaves.{stripped_parent, original_tree_hash_at, tree_hash_at}
 use Rattle.mls_hash.proofs.Answers.{whole_tree}
@@ -62,11 +61,11 @@ parent_of-entry (Some p) = refl
 -- a parent's hash, where its halves were hashed one after the other and the tree stayed
 module _ (H : List ℕ → List ℕ) (t u v : Tree) (p q w m : ℕ) (n node : Option ParentNode) (c : HasChildren t p q w m n) (first : u ≡ t) (second : v ≡ t) where
   pub kept_parent : (L left right hash : List ℕ) → tree_hash_at H t q ≡ Some left → tree_hash_at H u w ≡ Some right → node ≡ parent_of (node_at v p) → L ≡ []
-      → HashesText (option_map H (parent_tree_hash_input (option_map (stripped_parent L) node) left right)) (Ok hash) → tree_hash_at H t p ≡ Some hash
+      → option_map H (parent_tree_hash_input (option_map (stripped_parent L) node) left right) ≡ Some hash → tree_hash_at H t p ≡ Some hash
   kept_parent L left right hash a b at none text =
       let there : node ≡ n = at ∙ ap (λ (x : Tree). parent_of (node_at x p)) second ∙ ap (λ o. parent_of (entry_of o)) c.whole ∙ parent_of-entry n in
-      parent_hashed H t p q w m n c L left right (Ok hash) none a (ap (λ (x : Tree). tree_hash_at H x w) (sym first) ∙ b)
-      (subst (λ (k : Option ParentNode). HashesText (option_map H (parent_tree_hash_input (option_map (stripped_parent L) k) left right)) (Ok hash)) there text)
+      parent_hashed H t p q w m n c L left right hash none a (ap (λ (x : Tree). tree_hash_at H x w) (sym first) ∙ b)
+      (ap (λ (k : Option ParentNode). option_map H (parent_tree_hash_input (option_map (stripped_parent L) k) left right)) (sym there) ∙ text)
 
 -- there is a subtree at each place
 pub node_index_there : (t : Tree) (p : ℕ) → p + 1 < 2 * leaf_count t → IsSome (subtree_at 0 t p)

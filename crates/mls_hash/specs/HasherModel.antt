@@ -1,10 +1,8 @@
 -- What a hasher holds after bytes were fed to it. Internal: no public contract uses this.
-use Rattle.std.specs.Prelude.{◌≡◌, ℕ, List, ◌++◌, Option, Some, None, Result, Ok, Err}
+use Rattle.std.specs.Prelude.{◌≡◌, ℕ, List, ◌++◌, Option, Some}
 use Rattle.sha2.specs.Hashers.{Holds256, Holds384, Holds512}
 use Rattle.sha2.specs.Sha256.{sha256}
 use Rattle.sha2.specs.Sha512.{sha384, sha512}
-use Rattle.mls_hash.specs.declared.fault.HashFault.{HashFault}
-use Rattle.mls_hash.specs.declared.fault.HashFault.TheVariants.{TooLong}
 use Rattle.mls_hash.specs.declared.hasher.Hasher.{Hasher}
 use Rattle.mls_hash.specs.declared.hasher.Hasher.TheVariants as hashers
 
@@ -22,8 +20,3 @@ IsFed bytes old new = (H : List ℕ → List ℕ) (m : List ℕ) → HoldsMessag
 abbrev pub HoldsMore : Option (List ℕ) → Hasher → Hasher → Type 0
 HoldsMore text old new =
     (H : List ℕ → List ℕ) (m : List ℕ) → HoldsMessage H old m → (t : List ℕ) × (text ≡ Some t) × HoldsMessage H new (m ++ t)
-
--- `FeedsText text old new result`: an encoding was fed, or the result is TooLong because there is none.
-abbrev pub FeedsText : Option (List ℕ) → Hasher → Hasher → Result Unit HashFault → Type 0
-FeedsText text old new (Ok _) = HoldsMore text old new
-FeedsText text old new (Err e) = (e ≡ TooLong) × (text ≡ None)

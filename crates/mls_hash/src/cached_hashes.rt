@@ -4,7 +4,7 @@ ghost use Rattle.std.specs.Prelude.{◌≡◌, ◌≢◌, ◌↔◌, ◌⊎◌, 
 ghost use Rattle.mls_tree.specs.HashCache.{empty_count, hash_in, AreAllFilled};
 ghost use Rattle.mls_tree.specs.Tree.{leaf_count, subtree_at};
 ghost use Rattle.mls_hash.specs.SuiteHash.{hash_of, kind_of};
-ghost use Rattle.mls_hash.specs.HashInputs.{HashesSubtree};
+ghost use Rattle.mls_hash.specs.WalkResults.{HashesSubtree};
 ghost use Rattle.mls_hash.specs.FilledCache.{HasCachedHash, FilledStay};
 ghost use Rattle.mls_hash.specs.WithoutLeaves.{tree_hash_at};
 
@@ -13,7 +13,6 @@ use crate::hash_input::{hash_leaf, hash_parent};
 use crate::leaf_set::LeafSet;
 use crate::suite::Suite;
 use mls_tree::{HashValue, Part, PublicTree};
-use mls_wire::Writer;
 use std::alloc::Global;
 
 /// Returns the cached tree hash of the subtree at a node index, if the cache is of the suite's hash function.
@@ -30,13 +29,7 @@ pub(crate) fn kept_hash(suite: Suite, tree: &PublicTree, node_index: u32) -> Opt
 /// Returns the tree hash of the subtree at a node index: the cached one, if its slot is filled. Otherwise its children
 /// are hashed first, in the same way, and its slot is filled. That is one hash for each empty slot visited, and none
 /// below a filled one.
-fn fill(
-    alloc: Global,
-    suite: Suite,
-    tree: &mut PublicTree,
-    node_index: u32,
-    writer: &mut Writer,
-) -> Result<HashValue, HashFault>
+fn fill(suite: Suite, tree: &mut PublicTree, node_index: u32) -> Result<HashValue, HashFault>
     requires { tree.old.kind ≡ Some (kind_of suite) }
     ensures hash { HashesSubtree (subtree_at 0 tree.old.tree node_index)
         (tree_hash_at (hash_of suite) tree.old.tree node_index) result }
@@ -51,15 +44,15 @@ fn fill(
     match tree.part(node_index) {
         None => Err(HashFault::NoSuchNode),
         Some(Part::Leaf { index, node }) => {
-            let hash = hash_leaf(alloc, suite, index, node, writer)?;
+            let hash = hash_leaf(suite, index, node);
             tree.keep_hash(node_index, hash);
             Ok(hash)
         }
         Some(Part::Parent { left, right, .. }) => {
-            let left = fill(alloc, suite, tree, left, writer)?;
-            let right = fill(alloc, suite, tree, right, writer)?;
+            let left = fill(suite, tree, left)?;
+            let right = fill(suite, tree, right)?;
             let node = tree.parent(node_index);
-            let hash = hash_parent(suite, node, &LeafSet::empty(), &left, &right, writer)?;
+            let hash = hash_parent(suite, node, &LeafSet::empty(), &left, &right);
             tree.keep_hash(node_index, hash);
             Ok(hash)
         }
@@ -67,46 +60,42 @@ fn fill(
 }
 
 /// Fills the empty slots, from the root down to filled ones.
-fn fill_from_root(
-    alloc: Global,
-    suite: Suite,
-    tree: &mut PublicTree,
-    writer: &mut Writer,
-) -> Result<(), HashFault>
+fn fill_from_root(suite: Suite, tree: &mut PublicTree)
     requires { tree.old.kind ≡ Some (kind_of suite) }
     ensures tree { tree.new.tree ≡ tree.old.tree }
     ensures kind { tree.new.kind ≡ tree.old.kind }
-    ensures memory { IfErr result (λ e. e ≡ HashFault.OutOfMemory) }
 {
     let root = tree.leaf_count() - 1;
-    match fill(alloc, suite, tree, root, writer) {
-        Ok(_) => Ok(()),
-        Err(HashFault::OutOfMemory) => Err(HashFault::OutOfMemory),
-        Err(_) => unreachable!(),
-    }
+    let Ok(_) = fill(suite, tree, root) else {
+        unreachable!()
+    };
 }
 
 /// Visits each node index, and fills its slot if it is empty.
-fn fill_each(
-    alloc: Global,
-    suite: Suite,
-    tree: &mut PublicTree,
-    writer: &mut Writer,
-) -> Result<(), HashFault>
+fn fill_each(suite: Suite, tree: &mut PublicTree)
     requires { tree.old.kind ≡ Some (kind_of suite) }
     ensures tree { tree.new.tree ≡ tree.old.tree }
     ensures kind { tree.new.kind ≡ tree.old.kind }
-    ensures filled { OnOk result (AreAllFilled tree.new.tree tree.new.slots) }
-    ensures memory { IfErr result (λ e. e ≡ HashFault.OutOfMemory) }
+    ensures filled { AreAllFilled tree.new.tree tree.new.slots }
 {
     for node_index in 0..2 * tree.leaf_count() - 1 {
-        match fill(alloc, suite, tree, node_index, writer) {
-            Ok(_) => {}
-            Err(HashFault::OutOfMemory) => return Err(HashFault::OutOfMemory),
-            Err(_) => unreachable!(),
-        }
+        let Ok(_) = fill(suite, tree, node_index) else {
+            unreachable!()
+        };
     }
-    Ok(())
+}
+
+/// Fills all empty slots. Each node index is visited only if slots below filled ones are empty.
+fn fill_all(suite: Suite, tree: &mut PublicTree)
+    requires { tree.old.kind ≡ Some (kind_of suite) }
+    ensures tree { tree.new.tree ≡ tree.old.tree }
+    ensures kind { tree.new.kind ≡ tree.old.kind }
+    ensures filled { AreAllFilled tree.new.tree tree.new.slots }
+{
+    fill_from_root(suite, tree);
+    if tree.empty_slots() > 0 {
+        fill_each(suite, tree);
+    }
 }
 
 /// Fills the hash cache of a tree with the suite's hash function, and returns how many slots were empty. These are all
@@ -117,7 +106,7 @@ fn fill_each(
 ///
 /// # Errors
 ///
-/// `OutOfMemory`. Some slots may have been filled.
+/// `OutOfMemory`, before any slot is filled.
 pub fn fill_hashes(alloc: Global, suite: Suite, tree: &mut PublicTree) -> Result<u32, HashFault>
     ensures tree { tree.new.tree ≡ tree.old.tree }
     ensures kind { OnOk result (tree.new.kind ≡ Some (kind_of suite)) }
@@ -130,11 +119,7 @@ pub fn fill_hashes(alloc: Global, suite: Suite, tree: &mut PublicTree) -> Result
 {
     tree.reserve_hashes(alloc, suite.kind())?;
     let empty = tree.empty_slots();
-    let mut writer = Writer::new(alloc);
-    fill_from_root(alloc, suite, tree, &mut writer)?;
-    if tree.empty_slots() > 0 {
-        fill_each(alloc, suite, tree, &mut writer)?;
-    }
+    fill_all(suite, tree);
     Ok(empty)
 }
 
@@ -144,8 +129,7 @@ pub fn fill_hashes(alloc: Global, suite: Suite, tree: &mut PublicTree) -> Result
 ///
 /// # Errors
 ///
-/// `NoSuchNode` if and only if the tree has no such node, which is checked first, or `OutOfMemory`. Some slots may have been
-/// filled.
+/// `NoSuchNode` if and only if the tree has no such node, which is checked first, or `OutOfMemory`. No slot is filled then.
 pub fn filled_hash(
     alloc: Global,
     suite: Suite,
@@ -166,6 +150,5 @@ pub fn filled_hash(
         return Err(HashFault::NoSuchNode);
     }
     tree.reserve_hashes(alloc, suite.kind())?;
-    let mut writer = Writer::new(alloc);
-    fill(alloc, suite, tree, node_index, &mut writer)
+    fill(suite, tree, node_index)
 }

@@ -1,14 +1,16 @@
 //! Hashes of bytes.
 
-ghost use Rattle.std.specs.Prelude.{◌≡◌, ◌++◌, Some, None, option_map, MatchResult};
+ghost use Rattle.std.specs.Prelude.{◌≡◌, ◌++◌, ◌≤◌, Some, None, length, option_map, MatchResult};
 ghost use Rattle.mls_wire.specs.Encoding.{length_form, vector};
+ghost use Rattle.mls_wire.specs.Limits.{vector_limit};
 ghost use Rattle.mls_hash.specs.SuiteHash.{hash_of, ref_hash_input};
-ghost use Rattle.mls_hash.specs.HasherModel.{FeedsText};
+ghost use Rattle.mls_hash.specs.HasherModel.{HoldsMore};
 
 use crate::fault::HashFault;
 use crate::hasher::Hasher;
 use crate::suite::Suite;
 use mls_tree::HashValue;
+use mls_wire::MAX_BODY;
 
 /// Returns the hash of `first` followed by `second`, by the suite's hash function. Does not allocate.
 pub fn hash(suite: Suite, first: &[u8], second: &[u8]) -> HashValue
@@ -21,28 +23,26 @@ pub fn hash(suite: Suite, first: &[u8], second: &[u8]) -> HashValue
 }
 
 /// Feeds the length of a vector, in its shortest form (RFC 9420, 2.1.2).
-fn feed_length(hasher: &mut Hasher, length: usize) -> Result<(), HashFault>
-    ensures { FeedsText (length_form length) hasher.old hasher.new result }
+pub(crate) fn feed_length(hasher: &mut Hasher, length: usize)
+    requires { length ≤ vector_limit }
+    ensures { HoldsMore (length_form length) hasher.old hasher.new }
 {
     if length < 64 {
         hasher.update(&[length as u8]);
     } else if length < 16384 {
         hasher.update(&(length as u16 + 0x4000).to_be_bytes());
-    } else if length < 0x4000_0000 {
-        hasher.update(&(length as u32 + 0x8000_0000).to_be_bytes());
     } else {
-        return Err(HashFault::TooLong);
+        hasher.update(&(length as u32 + 0x8000_0000).to_be_bytes());
     }
-    Ok(())
 }
 
 /// Feeds a vector: its length, and its body.
-fn feed_vector(hasher: &mut Hasher, body: &[u8]) -> Result<(), HashFault>
-    ensures { FeedsText (vector body.now) hasher.old hasher.new result }
+pub(crate) fn feed_vector(hasher: &mut Hasher, body: &[u8])
+    requires { length body.now ≤ vector_limit }
+    ensures { HoldsMore (vector body.now) hasher.old hasher.new }
 {
-    feed_length(hasher, body.len())?;
+    feed_length(hasher, body.len());
     hasher.update(body);
-    Ok(())
 }
 
 /// Returns the reference `RefHash(label, value)` (RFC 9420, 5.2): the hash of the label and the value, each as a
@@ -56,8 +56,11 @@ pub fn ref_hash(suite: Suite, label: &str, value: &[u8]) -> Result<HashValue, Ha
         (λ h. option_map (hash_of suite) (ref_hash_input label.now value.now) ≡ Some h)
         (λ e. (e ≡ HashFault.TooLong) × (ref_hash_input label.now value.now ≡ None)) }
 {
+    if label.len() > MAX_BODY || value.len() > MAX_BODY {
+        return Err(HashFault::TooLong);
+    }
     let mut hasher = Hasher::new(suite);
-    feed_vector(&mut hasher, label.as_bytes())?;
-    feed_vector(&mut hasher, value)?;
+    feed_vector(&mut hasher, label.as_bytes());
+    feed_vector(&mut hasher, value);
     Ok(hasher.finish())
 }

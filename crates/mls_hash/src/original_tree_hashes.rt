@@ -1,10 +1,10 @@
 //! The original tree hashes from which parent hashes are computed (RFC 9420, 7.9), for a walk that visits the children
 //! of a parent before it.
 
-ghost use Rattle.std.specs.Prelude.{◌≡◌, ◌↔◌, ◌⊎◌, ◌/◌, ℕ, List, [], None, Some, Err, IfOk, IfErr, IfSome, option_copied, slice_get};
+ghost use Rattle.std.specs.Prelude.{◌≡◌, ◌↔◌, ◌/◌, ℕ, List, [], None, Some, Err, IfOk, IfErr, IfSome, option_copied, slice_get};
 ghost use Rattle.mls_tree.specs.Tree.{subtree_at};
 ghost use Rattle.mls_hash.specs.SuiteHash.{hash_of};
-ghost use Rattle.mls_hash.specs.HashInputs.{HashesSubtree};
+ghost use Rattle.mls_hash.specs.WalkResults.{HashesSubtree};
 ghost use Rattle.mls_hash.specs.OriginalTreeHashes.{AreChildHashes, AreKnownHashes, HasNonDecreasingLists};
 ghost use Rattle.mls_hash.specs.OriginalTreeHashesInternal.{KeepsOwn, ListsJust};
 ghost use Rattle.mls_hash.specs.ParentHash.{parent_at, parent_hash_at};
@@ -15,7 +15,7 @@ ghost use Rattle.mls_hash.specs.SubtreeHashesInternal.{AreLeavesUnder};
 use crate::fault::HashFault;
 use crate::hash_input::{hash_leaf, hash_parent};
 use crate::leaf_set::LeafSet;
-use crate::parent_hashes::hash_parent_fields;
+use crate::parent_hashes::parent_hash_of;
 use crate::parent_original_hashes::OwnHashes;
 use crate::side::Side;
 use crate::subtree_hashes::SubtreeHashes;
@@ -23,7 +23,6 @@ use crate::suite::Suite;
 use crate::tree_hashes::kept_leaf;
 use mls_nodes::ParentNode;
 use mls_tree::{HashValue, Part, PublicTree};
-use mls_wire::Writer;
 use std::alloc::{AllocError, Global};
 use std::marker::Model;
 
@@ -46,7 +45,6 @@ pub struct ChildHashes {
 pub struct OriginalHashes<'a> {
     subtrees: &'a SubtreeHashes<'a>,
     own: OwnHashes,
-    writer: Writer,
 }
 
 impl<'a> Model for OriginalHashes<'a> {
@@ -70,7 +68,6 @@ impl<'a> OriginalHashes<'a> {
         Ok(OriginalHashes {
             subtrees,
             own: OwnHashes::blank(alloc, tree.nodes().len() / 2, subtrees.width())?,
-            writer: Writer::new(alloc),
         })
     }
 
@@ -106,19 +103,17 @@ impl<'a> OriginalHashes<'a> {
     /// Returns the original tree hash of the subtree at a node index, without the leaves of the set, all of which are
     /// below it. A part whose hash is known is not hashed again.
     fn original_hash(
-        &mut self,
-        alloc: Global,
+        &self,
         suite: Suite,
         tree: &PublicTree,
         left_out: &LeafSet<'_>,
         node_index: u32,
     ) -> Result<HashValue, HashFault>
-        requires known { AreKnownHashes (hash_of suite) tree.now.tree self.old }
+        requires known { AreKnownHashes (hash_of suite) tree.now.tree self.now }
         requires own_leaves { HoldsOwnLeaves tree.now.tree }
         requires under { AreLeavesUnder tree.now.tree node_index left_out.now }
-        ensures hash { HashesSubtree (subtree_at 0 tree.now.tree node_index)
+        ensures { HashesSubtree (subtree_at 0 tree.now.tree node_index)
             (original_tree_hash_at (hash_of suite) left_out.now tree.now.tree node_index) result }
-        ensures same { self.new ≡ self.old }
     {
         if let Some(hash) = self.unchanged(left_out, node_index) {
             return Ok(hash);
@@ -127,7 +122,7 @@ impl<'a> OriginalHashes<'a> {
             None => Err(HashFault::NoSuchNode),
             Some(Part::Leaf { index, node }) => {
                 let node = kept_leaf(index, node, left_out);
-                hash_leaf(alloc, suite, index, node, &mut self.writer)
+                Ok(hash_leaf(suite, index, node))
             }
             Some(
                 Part::Parent {
@@ -141,9 +136,9 @@ impl<'a> OriginalHashes<'a> {
                     return Ok(hash);
                 }
                 let (before, after) = left_out.split(middle);
-                let left = self.original_hash(alloc, suite, tree, &before, left)?;
-                let right = self.original_hash(alloc, suite, tree, &after, right)?;
-                hash_parent(suite, node, left_out, &left, &right, &mut self.writer)
+                let left = self.original_hash(suite, tree, &before, left)?;
+                let right = self.original_hash(suite, tree, &after, right)?;
+                Ok(hash_parent(suite, node, left_out, &left, &right))
             }
         }
     }
@@ -162,10 +157,9 @@ impl<'a> OriginalHashes<'a> {
     ///
     /// # Errors
     ///
-    /// `NoSuchNode` if and only if there is no non-blank parent, or `OutOfMemory`.
+    /// `NoSuchNode`, if and only if there is no non-blank parent.
     pub fn child_hashes(
         &mut self,
-        alloc: Global,
         suite: Suite,
         tree: &PublicTree,
         node_index: u32,
@@ -176,8 +170,7 @@ impl<'a> OriginalHashes<'a> {
         ensures hashes { IfOk result (AreChildHashes (hash_of suite) tree.now.tree node_index) }
         ensures no_such_node { (result ≡ Err HashFault.NoSuchNode)
             ↔ (parent_at tree.now.tree node_index ≡ None) }
-        ensures possible_errors { IfErr result
-            (λ e. (e ≡ HashFault.NoSuchNode) ⊎ (e ≡ HashFault.OutOfMemory)) }
+        ensures possible_errors { IfErr result (λ e. e ≡ HashFault.NoSuchNode) }
         ensures known { AreKnownHashes (hash_of suite) tree.now.tree self.new }
     {
         let Some(
@@ -193,11 +186,10 @@ impl<'a> OriginalHashes<'a> {
         };
         let left_out = LeafSet::new(parent.unmerged.as_slice());
         let (before, after) = left_out.split(middle);
-        let left = self.original_hash(alloc, suite, tree, &before, left)?;
-        let right = self.original_hash(alloc, suite, tree, &after, right)?;
+        let left = self.original_hash(suite, tree, &before, left)?;
+        let right = self.original_hash(suite, tree, &after, right)?;
         if !left_out.is_empty() {
-            let writer = &mut self.writer;
-            let own = hash_parent(suite, Some(parent), &left_out, &left, &right, writer)?;
+            let own = hash_parent(suite, Some(parent), &left_out, &left, &right);
             self.store(node_index, &own);
         }
         Ok(ChildHashes { left, right })
@@ -206,29 +198,22 @@ impl<'a> OriginalHashes<'a> {
     /// Returns the parent hash of the non-blank parent at a node index, whose child on the copath is the one on `side`
     /// (RFC 9420, 7.9), from the original tree hashes of its children.
     pub fn parent_hash(
-        &mut self,
+        &self,
         suite: Suite,
         tree: &PublicTree,
         node_index: u32,
         side: Side,
         children: &ChildHashes,
-    ) -> Result<HashValue, AllocError>
+    ) -> HashValue
         requires { AreChildHashes (hash_of suite) tree.now.tree node_index children.now }
-        ensures hash { IfOk result
-            (λ h. parent_hash_at (hash_of suite) tree.now.tree node_index side ≡ Some h) }
-        ensures same { self.new ≡ self.old }
+        ensures { parent_hash_at (hash_of suite) tree.now.tree node_index side ≡ Some result }
     {
         let Some(parent) = tree.parent(node_index) else {
             unreachable!()
         };
-        let original = match side {
-            Side::Left => &children.left,
-            Side::Right => &children.right,
-        };
-        match hash_parent_fields(suite, parent, original, &mut self.writer) {
-            Ok(hash) => Ok(hash),
-            Err(HashFault::OutOfMemory) => Err(AllocError),
-            Err(_) => unreachable!(),
+        match side {
+            Side::Left => parent_hash_of(suite, parent, &children.left),
+            Side::Right => parent_hash_of(suite, parent, &children.right),
         }
     }
 }

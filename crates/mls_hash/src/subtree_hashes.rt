@@ -4,7 +4,7 @@ ghost use Rattle.std.specs.Prelude.{◌≡◌, ◌+◌, ◌*◌, ◌≤◌, IfOk
 ghost use Rattle.std.specs.Bool.{OnTrue};
 ghost use Rattle.mls_tree.specs.Tree.{leaf_count, subtree_at};
 ghost use Rattle.mls_hash.specs.SuiteHash.{hash_of};
-ghost use Rattle.mls_hash.specs.HashInputs.{HashesSubtree};
+ghost use Rattle.mls_hash.specs.WalkResults.{HashesSubtree};
 ghost use Rattle.mls_hash.specs.WithoutLeaves.{tree_hash_at};
 ghost use Rattle.mls_hash.specs.SubtreeHashes.{AreAllHashes};
 ghost use Rattle.mls_hash.specs.SubtreeHashesInternal.{AreHashesKept, AreHashesUnder, HasEntryForEachSubtree, AreCachedHashes, AreFilledIn, hashes_in};
@@ -15,7 +15,6 @@ use crate::hash_input::{hash_leaf, hash_parent};
 use crate::leaf_set::LeafSet;
 use crate::suite::Suite;
 use mls_tree::{HashList, HashValue, Part, PublicTree};
-use mls_wire::Writer;
 use std::alloc::{AllocError, Global};
 use std::marker::Model;
 
@@ -68,14 +67,12 @@ impl<'a> Model for SubtreeHashes<'a> {
     ghost invariant = { λ s. AreFilledIn s.stored × (s.width ≤ 64) };
 }
 
-/// Hashes the subtree at a node index, children first, and stores the hash of each of its subtrees. Uses one buffer.
+/// Hashes the subtree at a node index, children first, and stores the hash of each of its subtrees.
 fn put_hashes(
-    alloc: Global,
     suite: Suite,
     tree: &PublicTree,
     node_index: u32,
     hashes: &mut HashList,
-    writer: &mut Writer,
 ) -> Result<HashValue, HashFault>
     requires { HasEntryForEachSubtree suite tree.now.tree hashes.old }
     ensures capacity { HasEntryForEachSubtree suite tree.now.tree hashes.new }
@@ -89,7 +86,7 @@ fn put_hashes(
     match tree.part(node_index) {
         None => Err(HashFault::NoSuchNode),
         Some(Part::Leaf { index, node }) => {
-            let hash = hash_leaf(alloc, suite, index, node, writer)?;
+            let hash = hash_leaf(suite, index, node);
             hashes.put(node_index, &hash);
             Ok(hash)
         }
@@ -101,9 +98,9 @@ fn put_hashes(
                 ..
             },
         ) => {
-            let left = put_hashes(alloc, suite, tree, left, hashes, writer)?;
-            let right = put_hashes(alloc, suite, tree, right, hashes, writer)?;
-            let hash = hash_parent(suite, node, &LeafSet::empty(), &left, &right, writer)?;
+            let left = put_hashes(suite, tree, left, hashes)?;
+            let right = put_hashes(suite, tree, right, hashes)?;
+            let hash = hash_parent(suite, node, &LeafSet::empty(), &left, &right);
             hashes.put(node_index, &hash);
             Ok(hash)
         }
@@ -130,10 +127,8 @@ fn hash_all(alloc: Global, suite: Suite, tree: &PublicTree) -> Result<HashList, 
 {
     let mut hashes = HashList::blank(alloc, tree.nodes().len(), suite.hash_len())?;
     let root = tree.leaf_count() - 1;
-    let mut writer = Writer::new(alloc);
-    match put_hashes(alloc, suite, tree, root, &mut hashes, &mut writer) {
+    match put_hashes(suite, tree, root, &mut hashes) {
         Ok(_) => Ok(hashes),
-        Err(HashFault::OutOfMemory) => Err(AllocError),
         Err(_) => unreachable!(),
     }
 }

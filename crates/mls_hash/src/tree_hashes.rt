@@ -3,7 +3,7 @@
 ghost use Rattle.std.specs.Prelude.{◌≡◌, ◌↔◌, ◌⊎◌, None, Some, Err, IfOk, IfErr, IfSome, option_copied};
 ghost use Rattle.mls_tree.specs.Tree.{subtree_at};
 ghost use Rattle.mls_hash.specs.SuiteHash.{hash_of};
-ghost use Rattle.mls_hash.specs.HashInputs.{HashesSubtree};
+ghost use Rattle.mls_hash.specs.WalkResults.{HashesSubtree};
 ghost use Rattle.mls_hash.specs.WithoutLeaves.{original_tree_hash_at, stripped_leaf, tree_hash_at};
 
 use crate::cached_hashes::kept_hash;
@@ -13,7 +13,6 @@ use crate::leaf_set::{LeafSet, sorted};
 use crate::suite::Suite;
 use mls_nodes::EncodedLeaf;
 use mls_tree::{HashValue, Part, PublicTree};
-use mls_wire::Writer;
 use std::alloc::Global;
 
 /// Returns the node of a leaf. `None` if it is blank or in the set.
@@ -47,14 +46,12 @@ fn kept_whole(
 }
 
 /// Returns the tree hash of the subtree at a node index without the leaves of the set. That is one hash for each of its
-/// nodes, except those in subtrees whose hash is cached. Uses one buffer.
+/// nodes, except those in subtrees whose hash is cached.
 pub(crate) fn hash_subtree(
-    alloc: Global,
     suite: Suite,
     tree: &PublicTree,
     left_out: &LeafSet<'_>,
     node_index: u32,
-    writer: &mut Writer,
 ) -> Result<HashValue, HashFault>
     ensures { HashesSubtree (subtree_at 0 tree.now.tree node_index)
         (original_tree_hash_at (hash_of suite) left_out.now tree.now.tree node_index) result }
@@ -66,7 +63,7 @@ pub(crate) fn hash_subtree(
         None => Err(HashFault::NoSuchNode),
         Some(Part::Leaf { index, node }) => {
             let node = kept_leaf(index, node, left_out);
-            hash_leaf(alloc, suite, index, node, writer)
+            Ok(hash_leaf(suite, index, node))
         }
         Some(
             Part::Parent {
@@ -76,9 +73,9 @@ pub(crate) fn hash_subtree(
                 ..
             },
         ) => {
-            let left = hash_subtree(alloc, suite, tree, left_out, left, writer)?;
-            let right = hash_subtree(alloc, suite, tree, left_out, right, writer)?;
-            hash_parent(suite, node, left_out, &left, &right, writer)
+            let left = hash_subtree(suite, tree, left_out, left)?;
+            let right = hash_subtree(suite, tree, left_out, right)?;
+            Ok(hash_parent(suite, node, left_out, &left, &right))
         }
     }
 }
@@ -88,22 +85,14 @@ pub(crate) fn hash_subtree(
 ///
 /// # Errors
 ///
-/// `NoSuchNode` if and only if the tree has no such node, or `OutOfMemory`.
-pub fn tree_hash(
-    alloc: Global,
-    suite: Suite,
-    tree: &PublicTree,
-    node_index: u32,
-) -> Result<HashValue, HashFault>
+/// `NoSuchNode`, if and only if the tree has no such node.
+pub fn tree_hash(suite: Suite, tree: &PublicTree, node_index: u32) -> Result<HashValue, HashFault>
     ensures hash { IfOk result (λ h. tree_hash_at (hash_of suite) tree.now.tree node_index ≡ Some h) }
     ensures no_such_node { (result ≡ Err HashFault.NoSuchNode)
         ↔ (subtree_at 0 tree.now.tree node_index ≡ None) }
-    ensures possible_errors { IfErr result
-        (λ e. (e ≡ HashFault.NoSuchNode) ⊎ (e ≡ HashFault.OutOfMemory)) }
+    ensures possible_errors { IfErr result (λ e. e ≡ HashFault.NoSuchNode) }
 {
-    let left_out = LeafSet::empty();
-    let mut writer = Writer::new(alloc);
-    hash_subtree(alloc, suite, tree, &left_out, node_index, &mut writer)
+    hash_subtree(suite, tree, &LeafSet::empty(), node_index)
 }
 
 /// Returns the original tree hash of the subtree at a node index (RFC 9420, 7.9): its tree hash with each of these
@@ -131,6 +120,5 @@ pub fn original_tree_hash(
     }
     let leaves = sorted(alloc, leaves)?;
     let left_out = LeafSet::new(&leaves);
-    let mut writer = Writer::new(alloc);
-    hash_subtree(alloc, suite, tree, &left_out, node_index, &mut writer)
+    hash_subtree(suite, tree, &left_out, node_index)
 }

@@ -129,7 +129,7 @@ fn is_valid(alloc: Global, mut context: GroupContext, tree: &PublicTree) -> Resu
         return Err(Stop::OtherSuite);
     };
     let top = root(tree.leaf_count()).unwrap_or(0);
-    let hash = have(tree_hash(alloc, suite, tree, top))?;
+    let hash = have(tree_hash(suite, tree, top))?;
     context.tree_hash = have(Opaque::copy(alloc, hash.as_slice()))?;
     context.cipher_suite = suite.number();
     let answer = validate_tree(alloc, suite, &context, tree);

@@ -19,17 +19,12 @@ type TrustingFollower = Follower<Trusting>;
 // ---- states
 
 /// Appends the tree hash at each node index to a state.
-fn add_hashes(
-    alloc: Global,
-    suite: u16,
-    tree: &PublicTree,
-    state: &mut Vec<u8>,
-) -> Result<(), Stop> {
+fn add_hashes(suite: u16, tree: &PublicTree, state: &mut Vec<u8>) -> Result<(), Stop> {
     let Ok(suite) = Suite::from_u16(suite) else {
         return Err(Stop::OtherSuite);
     };
     for node_index in 0..tree.leaf_count().saturating_mul(2).saturating_sub(1) {
-        let hash = have(tree_hash(alloc, suite, tree, node_index))?;
+        let hash = have(tree_hash(suite, tree, node_index))?;
         have(state.extend_from_slice(hash.as_slice()))?;
     }
     Ok(())
@@ -69,7 +64,7 @@ fn state_with(
     let mut state = have(encode_context(alloc, context))?;
     let nodes = have(encode_ratchet_tree(alloc, tree.nodes()))?;
     have(state.extend_from_slice(nodes.as_slice()))?;
-    add_hashes(alloc, context.cipher_suite, tree, &mut state)?;
+    add_hashes(context.cipher_suite, tree, &mut state)?;
     have(state.extend_from_slice(follower.interim().as_slice()))?;
     add_known(alloc, follower.known(), &mut state)?;
     Ok(state)

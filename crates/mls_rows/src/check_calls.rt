@@ -134,12 +134,9 @@ pub(crate) fn hash_of_node(row: &Row) -> Result<CallResult, RowFault> {
         return Err(RowFault::Field(3, "a hash"));
     };
     let parent = row.value::<ParentNode>(2, "a parent")?;
-    let hash = parent_hash_of(row.alloc, suite, &parent, &half);
+    let hash = parent_hash_of(suite, &parent, &half);
     drop(parent);
-    match hash {
-        Ok(hash) => CallResult::bytes(row.alloc, hash.as_slice()),
-        Err(fault) => CallResult::fault(row.alloc, &fault),
-    }
+    CallResult::bytes(row.alloc, hash.as_slice())
 }
 
 // ---- leaves

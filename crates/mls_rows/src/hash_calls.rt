@@ -84,7 +84,7 @@ pub(crate) fn subtree_hash(row: &Row) -> Result<CallResult, RowFault> {
     row.has(3);
     let suite = suite_at(row, 1)?;
     let tree = row.tree(2)?;
-    let found = tree_hash(row.alloc, suite, &tree, row.number(3));
+    let found = tree_hash(suite, &tree, row.number(3));
     drop(tree);
     hash_result(row, found)
 }

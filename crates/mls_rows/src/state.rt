@@ -47,17 +47,17 @@ impl StateBytes {
     }
 
     /// Adds the tree hash of a node.
-    fn add_hash(&mut self, alloc: Global, suite: Suite, tree: &PublicTree, index: u32) {
-        match tree_hash(alloc, suite, tree, index) {
+    fn add_hash(&mut self, suite: Suite, tree: &PublicTree, index: u32) {
+        match tree_hash(suite, tree, index) {
             Ok(hash) => self.add(hash.as_slice()),
             Err(_) => self.is_whole = false,
         }
     }
 
     /// Adds the tree hash of each node.
-    fn add_hashes(&mut self, alloc: Global, suite: Suite, tree: &PublicTree) {
+    fn add_hashes(&mut self, suite: Suite, tree: &PublicTree) {
         for index in 0..tree.leaf_count().saturating_mul(2).saturating_sub(1) {
-            self.add_hash(alloc, suite, tree, index);
+            self.add_hash(suite, tree, index);
         }
     }
 
@@ -107,7 +107,7 @@ fn state_with<C: SignatureCheck>(
     state.add(follower.interim().as_slice());
     state.add_known(alloc, follower.known());
     if let Some(suite) = suite {
-        state.add_hashes(alloc, suite, tree);
+        state.add_hashes(suite, tree);
     }
     state.finish()
 }

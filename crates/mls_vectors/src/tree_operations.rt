@@ -70,7 +70,7 @@ fn has_tree_hash(
     ensures { IfOk result (λ b. IsTrue b
         ↔ HasTreeHash (hash_of suite) name.now tree.now.tree (view vector.now)) }
 {
-    let hash = whole_hash(alloc, suite, tree)?;
+    let hash = whole_hash(suite, tree);
     has_bytes(alloc, vector, name, hash.as_slice())
 }
 

@@ -221,7 +221,7 @@ fn is_valid(alloc: Global, suite: Suite, tree: &PublicTree) -> Result<bool, Allo
     ensures { IfOk result (λ b. IsTrue b
         ↔ ((hash : List ℕ) × Valid (hash_of suite) hash tree.now.tree)) }
 {
-    let hash = whole_hash(alloc, suite, tree)?;
+    let hash = whole_hash(suite, tree);
     let context = context_of(alloc, suite, &hash)?;
     is_valid_in(alloc, suite, &context, tree)
 }

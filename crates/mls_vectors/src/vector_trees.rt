@@ -8,7 +8,7 @@ ghost use Rattle.mls_hash.specs.SuiteHash.{hash_of};
 ghost use Rattle.mls_vectors.specs.CheckModel.{FindsTree, ReadsTreeOf};
 
 use crate::json_members::bytes_under;
-use mls_hash::{HashFault, Suite, tree_hash};
+use mls_hash::{Suite, tree_hash};
 use mls_nodes::NodeFault;
 use mls_tree::{HashValue, PublicTree};
 use serde_json::Value;
@@ -42,16 +42,11 @@ pub(crate) fn tree_under(
 }
 
 /// Returns the tree hash of a whole tree.
-pub(crate) fn whole_hash(
-    alloc: Global,
-    suite: Suite,
-    tree: &PublicTree,
-) -> Result<HashValue, AllocError>
-    ensures { IfOk result (λ h. tree_hash (hash_of suite) 0 tree.now.tree ≡ Some h) }
+pub(crate) fn whole_hash(suite: Suite, tree: &PublicTree) -> HashValue
+    ensures { tree_hash (hash_of suite) 0 tree.now.tree ≡ Some result }
 {
-    match tree_hash(alloc, suite, tree, tree.leaf_count() - 1) {
-        Ok(hash) => Ok(hash),
-        Err(HashFault::OutOfMemory) => Err(AllocError),
+    match tree_hash(suite, tree, tree.leaf_count() - 1) {
+        Ok(hash) => hash,
         Err(_) => unreachable!(),
     }
 }

@@ -5,7 +5,6 @@ use Rattle.std.proofs.lemmas.Bool.{false≢true}
 use Rattle.mls_hash.specs.SuiteHash.{hash_of}
 use Rattle.mls_tree.specs.NodeView.{HasChildren}
 use Rattle.mls_check.specs.ParentHashMarks.{IsChainPredecessorIn}
-use Rattle.mls_check.proofs.Marking.{IfOk-same}
 use Rattle.mls_check.proofs.Reaching.{marks-left, marks-right, marks-through, other_way, no_way}
 use Rattle.mls_check.proofs.parent_hash_validity.is_parent_hash_valid.Goals as goal
 
@@ -22,13 +21,13 @@ returns-then-is_none-2-clause-marks c =
           (marks-through (hash_of c.args.suite) t c.args.node_index w.left w.right w.field-0-3 w.parent.now h c.requires.consistent c.args.marks.now c.requires.marked c.in_ok-from_left.from_left k c.in_ok-from_right.from_right j r)),
     )
 
-pub returns-then-branch-clause-marks : goal.returns-then-branch-clause-marks
-returns-then-branch-clause-marks c =
+pub returns-then-is_linked-clause-marks : goal.returns-then-is_linked-clause-marks
+returns-then-is_linked-clause-marks c =
     let w = c.in-Some-Parent-Some-default-default-default in
     let t = c.args.tree.now.tree in
     let h = subst (λ o. HasChildren t c.args.node_index w.left w.right w.field-0-3 (option_copied o)) w.field-0-0-is (rw w.field-0-is at w.ensures) in
     let k = subst (λ xs. IsChainPredecessorIn t xs w.left c.args.marks.now c.in_ok-from_left.from_left) c.as_slice-list.ensures.items c.in_ok-from_left.ensures in (
-      λ _. marks-left (hash_of c.args.suite) t c.args.node_index w.left w.right w.field-0-3 w.parent.now h c.requires.consistent c.args.marks.now c.requires.marks_valid c.in_ok-from_left.from_left k (c.in_ok-is_linked.ensures.linked.0 c.if-branch.true),
+      λ _. marks-left (hash_of c.args.suite) t c.args.node_index w.left w.right w.field-0-3 w.parent.now h c.requires.consistent c.args.marks.now c.requires.marks_valid c.in_ok-from_left.from_left k (c.is_linked.ensures.0 c.if-is_linked.true),
       λ _. refl,
     )
 
@@ -39,8 +38,8 @@ returns-clause-marks c =
     let h = subst (λ o. HasChildren t c.args.node_index w.left w.right w.field-0-3 (option_copied o)) w.field-0-0-is (rw w.field-0-is at w.ensures) in
     let k = subst (λ xs. IsChainPredecessorIn t xs w.left c.args.marks.now c.in_ok-from_left.from_left) c.as_slice-list.ensures.items c.in_ok-from_left.ensures in
     let j = subst (λ xs. IsChainPredecessorIn t xs w.right c.args.marks.now c.in_ok-from_right.from_right) c.as_slice-list.ensures.items c.in_ok-from_right.ensures in
-    IfOk-same c.is_linked-2.result
-    (marks-right (hash_of c.args.suite) t c.args.node_index w.left w.right w.field-0-3 w.parent.now h c.requires.consistent c.args.marks.now c.requires.marks_valid c.in_ok-from_right.from_right j)
-    (λ r. other_way (λ n. false≢true (sym c.if-branch.false ∙ c.in_ok-is_linked.ensures.linked.1 n))
-    (marks-through (hash_of c.args.suite) t c.args.node_index w.left w.right w.field-0-3 w.parent.now h c.requires.consistent c.args.marks.now c.requires.marked c.in_ok-from_left.from_left k c.in_ok-from_right.from_right j r))
-    c.is_linked-2.ensures.linked
+    let linked = c.is_linked-2.ensures in (
+      λ yes. marks-right (hash_of c.args.suite) t c.args.node_index w.left w.right w.field-0-3 w.parent.now h c.requires.consistent c.args.marks.now c.requires.marks_valid c.in_ok-from_right.from_right j (linked.0 yes),
+      λ r. linked.1 (other_way (λ n. false≢true (sym c.if-is_linked.false ∙ c.is_linked.ensures.1 n))
+          (marks-through (hash_of c.args.suite) t c.args.node_index w.left w.right w.field-0-3 w.parent.now h c.requires.consistent c.args.marks.now c.requires.marked c.in_ok-from_left.from_left k c.in_ok-from_right.from_right j r)),
+    )

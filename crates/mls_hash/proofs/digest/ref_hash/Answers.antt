@@ -1,24 +1,24 @@
-use Rattle.std.proofs.Common.{ℕ, List, subst}
-use Rattle.std.proofs.lemmas.Result.{err_from_is_err_and}
-use Rattle.mls_wire.specs.Encoding.{vector}
+use Rattle.std.proofs.Common.{ℕ, List, refl, subst}
+use Rattle.mls_wire.specs.Encoding.{◌⊕◌, vector}
 use Rattle.mls_wire.specs.EncodingConcat.{no_left, no_right}
 use Rattle.mls_hash.specs.SuiteHash.{hash_of}
 use Rattle.mls_hash.specs.HasherModel.{HoldsMore}
-use Rattle.mls_hash.proofs.Feeding.{both_held}
+use Rattle.mls_hash.proofs.Feeding.{both_held, hash_held, no_vector}
+use Rattle.mls_hash.proofs.digest.ref_hash.Goals.{then-label-gt-MAX_BODY-via-then-label-gt-MAX_BODY, then-label-gt-MAX_BODY-via-else-label-gt-MAX_BODY+then-value-gt-MAX_BODY}
 use Rattle.mls_hash.proofs.digest.ref_hash.Goals as goal
 
-pub returns-in_err-feed_vector : goal.returns-in_err-feed_vector
-returns-in_err-feed_vector c =
-    let p = err_from_is_err_and c.from_residual.result c.from_residual.ensures.1 in
-    rw (p.1, p.2) (let e = rw c.as_bytes.ensures.value at c.in_err-feed_vector.ensures in (e.0, no_left (vector c.args.label.now) (vector c.args.value.now) e.1))
-
-pub returns-in_err-feed_vector-2 : goal.returns-in_err-feed_vector-2
-returns-in_err-feed_vector-2 c =
-    let p = err_from_is_err_and c.from_residual-in_err-feed_vector-2.result c.from_residual-in_err-feed_vector-2.ensures.1 in
-    rw (p.1, p.2) (let e = c.in_err-feed_vector-2.ensures in (e.0, no_right (vector c.args.label.now) (vector c.args.value.now) e.1))
+pub returns-then-label-gt-MAX_BODY : goal.returns-then-label-gt-MAX_BODY
+returns-then-label-gt-MAX_BODY c = (
+  refl,
+  elim c.then-label-gt-MAX_BODY.branch [
+    | then-label-gt-MAX_BODY-via-then-label-gt-MAX_BODY w ↦ no_left (vector c.args.label.now) (vector c.args.value.now) (no_vector c.args.label.now w.if-label-gt-MAX_BODY.true)
+    | then-label-gt-MAX_BODY-via-else-label-gt-MAX_BODY+then-value-gt-MAX_BODY w ↦ no_right (vector c.args.label.now) (vector c.args.value.now) (no_vector c.args.value.now w.if-value-gt-MAX_BODY.true)
+  ],
+)
 
 pub returns : goal.returns
 returns c =
-    both_held (hash_of c.args.suite) c.args.label.now c.args.value.now c.new-hasher.result c.feed_vector.new.hasher c.feed_vector-2.new.hasher c.finish.result c.new-hasher.ensures
-    (subst (λ (x : List ℕ). HoldsMore (vector x) c.new-hasher.result c.feed_vector.new.hasher) c.as_bytes.ensures.value (c.in_ok-feed_vector.ensures))
-    (c.in_ok-feed_vector-2.ensures) (c.finish.ensures (hash_of c.args.suite))
+    hash_held (hash_of c.args.suite) (vector c.args.label.now ⊕ vector c.args.value.now) c.new-hasher.result c.feed_vector-2.new.hasher c.finish.result c.new-hasher.ensures
+    (both_held (vector c.args.label.now) (vector c.args.value.now) c.new-hasher.result c.feed_vector.new.hasher c.feed_vector-2.new.hasher
+    (subst (λ (x : List ℕ). HoldsMore (vector x) c.new-hasher.result c.feed_vector.new.hasher) c.as_bytes.ensures.value c.feed_vector.ensures) c.feed_vector-2.ensures)
+    (c.finish.ensures (hash_of c.args.suite))

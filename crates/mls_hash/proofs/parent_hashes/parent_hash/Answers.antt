@@ -9,4 +9,4 @@ returns-clause-hash c =
     let same = rw c.as_slice.ensures.items at c.in_ok-leaves.ensures.same in
     let sorted = subst (λ (L : List ℕ). IsPermutation c.in-Some.parent.now.unmerged L) (sym (c.new-left_out.ensures ∙ c.deref.ensures.value)) same in
     gives_parent_hash (hash_of c.args.suite) c.args.tree.now.tree c.args.node_index c.args.side _ c.in-Some.parent.now c.in-Some.ensures _ c.in_ok-original.original
-    c.hash_parent_fields.result sorted c.in_ok-original.ensures c.hash_parent_fields.ensures
+    c.parent_hash_of.result sorted c.in_ok-original.ensures c.parent_hash_of.ensures

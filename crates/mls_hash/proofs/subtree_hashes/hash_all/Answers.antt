@@ -30,8 +30,8 @@ unreachable-requires c =
     let inside = root_there tree c.leaf_count-root.result c.leaf_count-root.ensures in
     search rules
 
-pub returns-in-Ok : goal.returns-in-Ok
-returns-in-Ok c =
+pub returns : goal.returns
+returns c =
     let tree : RatchetTree = plain c.args.tree.now in
     let capacity = c.put_hashes.ensures.capacity in
     record {

@@ -10,7 +10,7 @@ use Rattle.mls_vectors.proofs.tree_validation.is_valid.Goals as goal
 pub returns : goal.returns
 returns c =
     let tree : RatchetTree = plain c.args.tree.now in
-    let own = c.in_ok-hash.ensures in
+    let own = c.whole_hash-hash.ensures in
     let held = c.in_ok-context.ensures.hash in
     IfOk-weaker c.is_valid_in.result _ _ (λ b h. (
       λ t. (c.in_ok-context.context.tree_hash, h.0 t),

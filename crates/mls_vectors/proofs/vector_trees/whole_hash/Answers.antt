@@ -15,5 +15,5 @@ unreachable-requires c =
     let inside = root_there (plain c.args.tree.now) c.leaf_count.result c.leaf_count.ensures in
     search rules
 
-pub returns-in-Ok : goal.returns-in-Ok
-returns-in-Ok c = sym (whole-hash (hash_of c.args.suite) (plain c.args.tree.now) c.leaf_count.result c.leaf_count.ensures) ∙ c.in-Ok.ensures.hash
+pub returns : goal.returns
+returns c = sym (whole-hash (hash_of c.args.suite) (plain c.args.tree.now) c.leaf_count.result c.leaf_count.ensures) ∙ c.in-Ok.ensures.hash

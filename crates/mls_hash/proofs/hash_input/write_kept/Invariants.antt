@@ -1,9 +1,0 @@
-use Rattle.std.proofs.Common.{◌≡◌, take, Some}
-use Rattle.std.specs.Int.{w32}
-use Rattle.mls_wire.specs.Encoding.{items, number}
-use Rattle.mls_wire.specs.WriteContracts.{after}
-use Rattle.mls_hash.specs.WithoutLeaves.{without}
-use Rattle.mls_hash.proofs.hash_input.write_kept.Given as goal
-
-abbrev pub invariant-loop-number : goal.invariant-loop-number
-invariant-loop-number l = after l.initial.writer (items (number w32) (without l.left_out (take l.number-index l.indices))) ≡ Some l.writer

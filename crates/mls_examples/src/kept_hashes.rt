@@ -219,7 +219,7 @@ fn sparse_tree(rt: &impl Abort, alloc: Global) -> Vec<u8> {
     encoding
 }
 
-/// The bytes of a large tree are freed before its last leaf is read, which is hashed all the same.
+/// The last leaf of a large tree of blank nodes is hashed from its bytes.
 #[test]
 fn the_last_leaf_of_a_large_tree_is_hashed(rt: HostRuntime) {
     let alloc = rt.alloc();

@@ -1,13 +1,19 @@
-//! Reading the entries of a ratchet_tree one after the other, from bytes that the reader owns (RFC 9420, 12.4.3.3).
+//! Reading the entries of a ratchet_tree one after the other, from bytes that the leaf nodes share (RFC 9420, 12.4.3.3).
 
 use crate::support::{TWO_LEAVES, TWO_OF_FOUR, bytes, expect_text, have, text};
 use mls_nodes::{NodeFault, OwnedTreeReader};
+use mls_wire::Shared;
 use std::alloc::Global;
 use std::process::Abort;
 
+/// Bytes that leaf nodes can share.
+fn shared(rt: &impl Abort, alloc: Global, encoding: &str) -> Shared<Vec<u8>> {
+    have(rt, Shared::new(alloc, bytes(rt, alloc, encoding)))
+}
+
 /// How many entries a tree has, and their encodings one after the other.
 fn entries_of(rt: &impl Abort, alloc: Global, encoding: &str) -> String {
-    let mut reader = have(rt, OwnedTreeReader::new(bytes(rt, alloc, encoding)));
+    let mut reader = have(rt, OwnedTreeReader::new(shared(rt, alloc, encoding)));
     let mut encodings = String::new(alloc);
     for _ in 0..16 {
         match have(rt, reader.next_entry(alloc)) {
@@ -40,9 +46,9 @@ fn entries_with_their_encodings(rt: HostRuntime) {
 #[test]
 fn faults_of_entries(rt: HostRuntime) {
     let alloc = rt.alloc();
-    let short = OwnedTreeReader::new(bytes(&rt, alloc, "02"));
+    let short = OwnedTreeReader::new(shared(&rt, alloc, "02"));
     assert!(rt; short.is_err());
-    let mut blank = have(&rt, OwnedTreeReader::new(bytes(&rt, alloc, "0100")));
+    let mut blank = have(&rt, OwnedTreeReader::new(shared(&rt, alloc, "0100")));
     let first = have(&rt, blank.next_entry(alloc));
     assert!(rt; first.expect(&rt, "an entry").is_none());
     let end = blank.next_entry(alloc);

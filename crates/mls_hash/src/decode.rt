@@ -19,6 +19,7 @@ use crate::digest::hash;
 use crate::suite::Suite;
 use mls_nodes::{Node, NodeFault, OwnedTreeReader, append_blanks};
 use mls_tree::{HashList, HashValue, PublicTree};
+use mls_wire::Shared;
 use std::alloc::{AllocError, Global};
 
 /// Returns the bytes after the first one.
@@ -92,7 +93,7 @@ fn read_hashed(
     ensures hashes { IfOk result
         (λ p. AreEntryHashes (hash_of suite) (map entry_value p.0.items) p.1.hashes) }
 {
-    let mut reader = OwnedTreeReader::new(bytes)?;
+    let mut reader = OwnedTreeReader::new(Shared::new(alloc, bytes)?)?;
     let mut entries = Vec::new(alloc);
     let mut hashes = HashList::blank(alloc, 0, suite.hash_len())?;
     while let Some(entry) = reader.next_entry(alloc)? {
@@ -127,8 +128,7 @@ fn put_leaf_hashes(
 /// which the leaves that were read have their tree hashes: each leaf is hashed from its bytes, which are not encoded
 /// again.
 ///
-/// Bytes are freed once they are read, as by [`OwnedTreeReader`], so that memory need not hold the tree and all bytes at
-/// once.
+/// The leaf nodes share the bytes, as by [`OwnedTreeReader`].
 ///
 /// # Errors
 ///

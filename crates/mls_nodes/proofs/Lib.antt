@@ -2,6 +2,7 @@ pub mod Entries
 pub mod RestOfTree
 pub mod OwnedBytes
 pub mod StoredLeaves
+mod LeafParts
 mod KeyPrefixes
 pub mod Limits
 mod SortedLists

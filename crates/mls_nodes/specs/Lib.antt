@@ -20,6 +20,7 @@ pub mod KeyPrefix
 pub mod Fingerprints
 pub mod FingerprintsInternal
 pub mod StoredLeaf
+pub mod LeafBytesInternal
 pub mod ParsingInternal
 pub mod RatchetTreeWriting
 pub mod NodesExact

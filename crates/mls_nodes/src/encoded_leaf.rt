@@ -1,18 +1,23 @@
 //! Leaf nodes that are stored as the bytes that encode them (RFC 9420, 7.2).
 
-ghost use Rattle.std.specs.Prelude.{◌≡◌, ◌≤◌, ◌^◌, IfOk, Some, length, option_map};
+ghost use Rattle.std.specs.Prelude.{◌≡◌, ◌≤◌, ◌^◌, ◌-◌, IfOk, IfErr, Some, length, option_map, take};
 ghost use Rattle.mls_wire.specs.Limits.{vector_limit};
+ghost use Rattle.mls_wire.specs.Parsing.{GivesOrFull};
 ghost use Rattle.mls_wire.specs.ReadContracts.{Decodes, DecodesAll, seen};
 ghost use Rattle.mls_wire.specs.WriteContracts.{MakesPiece, WritesPiece};
 ghost use Rattle.mls_nodes.specs.Fingerprints.{fingerprint};
 ghost use Rattle.mls_nodes.specs.Layout.{leaf, unsigned_leaf};
+ghost use Rattle.mls_nodes.specs.LeafBytesInternal.{IsFrom};
+ghost use Rattle.mls_nodes.specs.LeafParsing.{leaf_node_at};
 ghost use Rattle.mls_nodes.specs.StoredLeaf.{IsAfterKeys};
+ghost use Rattle.mls_wire.specs.declared.fault.CodecFault.TheVariants as codec;
 
 use crate::capabilities::Capabilities;
 use crate::credential::CredentialRef;
 use crate::encoded_len::length_of_body;
 use crate::fingerprints::{KeyFingerprints, copy_fingerprints, fingerprint, fingerprints_of_long};
 use crate::leaf::LeafNode;
+use crate::leaf_bytes::{InputPart, LeafBytes};
 use crate::leaf_source::LeafSource;
 use mls_wire::{
     CodecFault, Decode, Draft, Encode, MAX_BODY, OpaqueRef, Reader, TryClone, Writer, bytes_of,
@@ -22,12 +27,13 @@ use std::alloc::{AllocError, Global};
 use std::marker::Model;
 
 /// A leaf node (RFC 9420, 7.2), stored as the bytes that encode it: it takes little more memory than these, and is written
-/// without being encoded. [`EncodedLeaf::fields`] reads them. The model is the [`LeafNode`].
+/// without being encoded. Leaf nodes of one tree file share its bytes ([`OwnedTreeReader`](crate::OwnedTreeReader)).
+/// [`EncodedLeaf::fields`] reads the bytes. The model is the [`LeafNode`].
 ///
 /// A leaf node with a long key also stores the fingerprints of its keys, so that a long key is hashed once.
 #[derive(Debug)]
 pub struct EncodedLeaf {
-    bytes: Vec<u8>,
+    bytes: LeafBytes,
     fingerprints: Option<Box<KeyFingerprints>>,
 }
 
@@ -48,9 +54,9 @@ impl Model for EncodedLeaf {
 
     ghost Value = { LeafNode };
 
-    ghost view = { λ s. stored_leaf s.bytes.items };
+    ghost view = { λ s. stored_leaf s.bytes };
 
-    ghost invariant = { λ s. IsStoredLeaf s.bytes.items (option_map (λ b. b.value) s.fingerprints) };
+    ghost invariant = { λ s. IsStoredLeaf s.bytes (option_map (λ b. b.value) s.fingerprints) };
 }
 
 /// Returns a copy of bytes. More than a vector may have are taken for more than there is memory for.
@@ -64,7 +70,56 @@ fn stored(alloc: Global, bytes: &[u8]) -> Result<Vec<u8>, AllocError>
     Vec::from_slice(alloc, bytes)
 }
 
+/// Returns the bytes that a reader has, up to those that it has after a leaf node. They are shared with the input that
+/// they are from, if it is given, and else copied.
+fn read_bytes(
+    alloc: Global,
+    source: Option<InputPart<'_>>,
+    before: &Reader<'_>,
+    after: &Reader<'_>,
+) -> Result<LeafBytes, CodecFault>
+    requires from { IsFrom source before.now }
+    requires after { length after.now.left ≤ length before.now.left }
+    ensures bytes { IfOk result (λ b.
+        b ≡ take (length before.now.left - length after.now.left) before.now.left) }
+    ensures limit { IfOk result (λ b. length b ≤ vector_limit) }
+    ensures memory { IfErr result (λ e. e ≡ codec.OutOfMemory) }
+{
+    let left = before.left();
+    let len = left.len() - after.left().len();
+    match source {
+        Some(part) if len <= MAX_BODY => {
+            let start = part.end - left.len();
+            Ok(LeafBytes::part(part.input.try_clone(alloc)?, start, start + len))
+        }
+        _ => Ok(LeafBytes::own(stored(alloc, &left[..len])?)),
+    }
+}
+
 impl EncodedLeaf {
+    /// Reads the leaf node at the front, as [`Decode::read`]. Its bytes are shared with the input that the reader's are
+    /// from, if it is given, and else copied.
+    pub(crate) fn read_from(
+        alloc: Global,
+        source: Option<InputPart<'_>>,
+        reader: &mut Reader<'_>,
+    ) -> Result<EncodedLeaf, CodecFault>
+        requires { IsFrom source reader.old }
+        ensures { GivesOrFull leaf_node_at reader.old reader.new result }
+    {
+        let mut ahead = reader.fork();
+        let fields = LeafNode::parse(&mut ahead)?;
+        let encryption_key = fields.encryption_key.as_slice();
+        let signature_key = fields.signature_key.as_slice();
+        let bytes = read_bytes(alloc, source, reader, &ahead)?;
+        let fingerprints = fingerprints_of_long(alloc, encryption_key, signature_key)?;
+        *reader = ahead;
+        Ok(EncodedLeaf {
+            bytes,
+            fingerprints,
+        })
+    }
+
     /// Returns the bytes that encode the leaf node.
     pub fn encoding(&self) -> &[u8]
         ensures encoding { leaf self.now ≡ Some result.now }
@@ -218,18 +273,7 @@ impl Decode for EncodedLeaf {
     ghost reading = { leaf_node_at };
 
     fn read(alloc: Global, reader: &mut Reader<'_>) -> Result<EncodedLeaf, CodecFault> {
-        let mut ahead = reader.fork();
-        let fields = LeafNode::parse(&mut ahead)?;
-        let encryption_key = fields.encryption_key.as_slice();
-        let signature_key = fields.signature_key.as_slice();
-        let left = reader.left();
-        let bytes = stored(alloc, &left[..left.len() - ahead.left().len()])?;
-        let fingerprints = fingerprints_of_long(alloc, encryption_key, signature_key)?;
-        *reader = ahead;
-        Ok(EncodedLeaf {
-            bytes,
-            fingerprints,
-        })
+        EncodedLeaf::read_from(alloc, None, reader)
     }
 
     ghost exact = { leaf_exact };
@@ -250,7 +294,7 @@ impl Encode for EncodedLeaf {
 
 impl TryClone for EncodedLeaf {
     fn try_clone(&self, alloc: Global) -> Result<EncodedLeaf, CodecFault> {
-        let bytes = Vec::from_slice(alloc, self.bytes.as_slice())?;
+        let bytes = self.bytes.try_clone(alloc)?;
         Ok(EncodedLeaf {
             bytes,
             fingerprints: copy_fingerprints(alloc, &self.fingerprints)?,

@@ -16,6 +16,7 @@ mod fingerprints;
 mod key_prefixes;
 pub mod laws;
 mod leaf;
+mod leaf_bytes;
 mod leaf_source;
 mod lists;
 mod node;

@@ -177,9 +177,9 @@ pub fn decode_inputs(
     }
 }
 
-/// Decodes the GroupInfo in `profile`, and the tree if there is a file of it, as [`decode_inputs`] does. The bytes of the
-/// tree are freed once they are read. If the cipher suite of the GroupInfo is supported, the tree has a hash cache with the
-/// tree hashes of its leaves.
+/// Decodes the GroupInfo in `profile`, and the tree if there is a file of it, as [`decode_inputs`] does. The leaf nodes
+/// share the bytes of the file. If the cipher suite of the GroupInfo is supported, the tree has a hash cache with the tree
+/// hashes of its leaves.
 ///
 /// # Errors
 ///

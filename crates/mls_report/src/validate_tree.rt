@@ -44,7 +44,7 @@ fn check_parsed_tree<C: SignatureCheck>(
     }
 }
 
-/// Decodes a tree, and stores the tree hashes of all its subtrees in its cache. The bytes are freed once they are read.
+/// Decodes a tree, and stores the tree hashes of all its subtrees in its cache. The leaf nodes share the bytes.
 fn decode_hashed(alloc: Global, suite: Suite, bytes: Vec<u8>) -> Result<PublicTree, NodeFault>
     ensures { ReadsTree bytes.items result }
 {

@@ -7,6 +7,7 @@ ghost use Rattle.mls_wire.specs.Parsing.{body_at};
 ghost use Rattle.mls_wire.specs.ParsingInternal.{Gives, flag_at, optional_at};
 ghost use Rattle.mls_wire.specs.ReadContracts.{seen};
 ghost use Rattle.mls_nodes.specs.Limits.{entry_limit};
+ghost use Rattle.mls_nodes.specs.LeafBytesInternal.{IsFrom};
 ghost use Rattle.mls_nodes.specs.NodeValues.{node_value, entry_value};
 ghost use Rattle.mls_nodes.specs.ParsingInternal.{node_in, reader_model, rest_at, GivesNode, ReadsVector};
 ghost use Rattle.mls_nodes.specs.RatchetTreeReading.{StartsReading, ReadsEntry};
@@ -14,6 +15,7 @@ ghost use Rattle.mls_nodes.specs.declared.fault.NodeFault.TheVariants as faults;
 
 use crate::encoded_leaf::EncodedLeaf;
 use crate::fault::NodeFault;
+use crate::leaf_bytes::InputPart;
 use crate::node::Node;
 use crate::parent::ParentNode;
 use crate::ratchet_tree::MAX_ENTRIES;
@@ -38,14 +40,20 @@ fn read_body<'a>(reader: &mut Reader<'a>) -> Result<Reader<'a>, WireFault>
 
 /// Reads the node of the entry at a node index. Its type is checked before its body is read.
 #[tactic(auto, unfolding(crate::specs::ParsingInternal::node_in))]
-fn read_node(alloc: Global, node_index: usize, reader: &mut Reader<'_>) -> Result<Node, NodeFault>
+fn read_node(
+    alloc: Global,
+    source: Option<InputPart<'_>>,
+    node_index: usize,
+    reader: &mut Reader<'_>,
+) -> Result<Node, NodeFault>
+    requires { IsFrom source reader.old }
     ensures { GivesNode (node_in node_index) reader.old reader.new (seen node_value result) }
 {
     let at = reader.position();
     match u8::read(alloc, reader)? {
         1 if node_index % 2 == 0 => Ok(Node::Leaf(Shared::new(
             alloc,
-            EncodedLeaf::read(alloc, reader)?,
+            EncodedLeaf::read_from(alloc, source, reader)?,
         )?)),
         2 if node_index % 2 == 1 => Ok(Node::Parent(Box::new(
             alloc,
@@ -63,16 +71,18 @@ fn read_node(alloc: Global, node_index: usize, reader: &mut Reader<'_>) -> Resul
 #[tactic(auto, unfolding(mls_wire::specs::ParsingInternal::optional_at))]
 fn read_entry(
     alloc: Global,
+    source: Option<InputPart<'_>>,
     node_index: usize,
     reader: &mut Reader<'_>,
 ) -> Result<Option<Node>, NodeFault>
+    requires { IsFrom source reader.old }
     ensures { GivesNode (optional_at (node_in node_index)) reader.old reader.new
         (seen entry_value result) }
 {
     if !read_presence(reader)? {
         return Ok(None);
     }
-    Ok(Some(read_node(alloc, node_index, reader)?))
+    Ok(Some(read_node(alloc, source, node_index, reader)?))
 }
 
 /// Checks that the entries may end after the body of the vector, and that no byte is after the vector.
@@ -110,13 +120,16 @@ pub(super) fn read_vector(bytes: &[u8]) -> Result<(Reader<'_>, Reader<'_>), Node
     Ok((body, after))
 }
 
-/// Reads the next entry from the unread bytes of entries. `after` is the input after the vector.
+/// Reads the next entry from the unread bytes of entries. `after` is the input after the vector. A leaf node shares its
+/// bytes with the input that the unread bytes are from, if it is given.
 pub(super) fn read_next(
     alloc: Global,
+    source: Option<InputPart<'_>>,
     progress: &mut Progress,
     body: &mut Reader<'_>,
     after: &Reader<'_>,
 ) -> Result<Option<Option<Node>>, NodeFault>
+    requires { IsFrom source body.old }
     ensures entry { ReadsEntry
         (reader_model progress.old after.now body.old)
         (reader_model progress.new after.now body.new) result }
@@ -130,7 +143,7 @@ pub(super) fn read_next(
     if progress.node_index >= MAX_ENTRIES {
         return Err(NodeFault::TooManyLeaves);
     }
-    let entry = read_entry(alloc, progress.node_index, body)?;
+    let entry = read_entry(alloc, source, progress.node_index, body)?;
     *progress = Progress {
         node_index: progress.node_index + 1,
         is_last_non_blank: entry.is_some(),
@@ -199,6 +212,6 @@ impl<'a> RatchetTreeReader<'a> {
     pub fn next_entry(&mut self, alloc: Global) -> Result<Option<Option<Node>>, NodeFault>
         ensures { ReadsEntry self.old self.new result }
     {
-        read_next(alloc, &mut self.progress, &mut self.body, &self.after)
+        read_next(alloc, None, &mut self.progress, &mut self.body, &self.after)
     }
 }

@@ -4,17 +4,17 @@ use Rattle.mls_nodes.proofs.encoded_leaf.EncodedLeaf.after_keys.Goals as goal
 
 pub unreachable-requires : goal.unreachable-requires
 unreachable-requires c =
-    let none = rw (c.in_default.is, c.new-reader.ensures, c.as_slice.ensures.value) at c.parse.ensures in
-    no_first_key (stored_leaf c.self.inside.bytes.items) c.self.inside.bytes.items c.self.invariant.0 none
+    let none = rw (c.in_default.is, c.new-reader.ensures, c.as_slice.ensures) at c.parse.ensures in
+    no_first_key (stored_leaf c.self.inside.bytes) c.self.inside.bytes c.self.invariant.0 none
 
 pub unreachable-requires-in_default-parse : goal.unreachable-requires-in_default-parse
 unreachable-requires-in_default-parse c =
-    let some = rw (c.in-Ok.is, c.new-reader.ensures, c.as_slice.ensures.value) at c.parse.ensures in
+    let some = rw (c.in-Ok.is, c.new-reader.ensures, c.as_slice.ensures) at c.parse.ensures in
     let none = rw c.in_default-parse.is at c.parse-2.ensures in
-    no_second_key (stored_leaf c.self.inside.bytes.items) c.self.inside.bytes.items c.self.invariant.0 c.in-Ok.field-0 c.parse.new.reader some none
+    no_second_key (stored_leaf c.self.inside.bytes) c.self.inside.bytes c.self.invariant.0 c.in-Ok.field-0 c.parse.new.reader some none
 
 pub returns : goal.returns
 returns c =
-    let some = rw (c.in-Ok.is, c.new-reader.ensures, c.as_slice.ensures.value) at c.parse.ensures in
+    let some = rw (c.in-Ok.is, c.new-reader.ensures, c.as_slice.ensures) at c.parse.ensures in
     let second = rw c.in-Ok-parse.is at c.parse-2.ensures in
-    rw (← c.self.view_is) (after_keys (stored_leaf c.self.inside.bytes.items) c.self.inside.bytes.items c.self.invariant.0 c.in-Ok.field-0 c.in-Ok-parse.field-0 c.parse.new.reader c.parse-2.new.reader some second)
+    rw (← c.self.view_is) (after_keys (stored_leaf c.self.inside.bytes) c.self.inside.bytes c.self.invariant.0 c.in-Ok.field-0 c.in-Ok-parse.field-0 c.parse.new.reader c.parse-2.new.reader some second)

@@ -5,5 +5,5 @@ use Rattle.mls_nodes.proofs.encoded_leaf.EncodedLeaf.fields.Goals as goal
 
 pub unreachable-requires : goal.unreachable-requires
 unreachable-requires c =
-    let none = rw (c.in-Err.is, c.new.ensures, c.as_slice.ensures.value) at c.parse.ensures in
-    let bad = sym none ∙ read_again (stored_leaf c.self.inside.bytes.items) c.self.inside.bytes.items c.self.invariant.0 in absurd cc
+    let none = rw (c.in-Err.is, c.new.ensures, c.as_slice.ensures) at c.parse.ensures in
+    let bad = sym none ∙ read_again (stored_leaf c.self.inside.bytes) c.self.inside.bytes c.self.invariant.0 in absurd cc

@@ -79,7 +79,7 @@ pub(crate) fn fill(alloc: Global, suite: Suite, tree: &mut PublicTree) -> Result
 }
 
 /// Fills the hash cache of a tree at a node index, and below it.
-fn fill_subtree(
+pub(crate) fn fill_subtree(
     alloc: Global,
     suite: Suite,
     tree: &mut PublicTree,

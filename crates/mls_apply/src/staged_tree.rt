@@ -20,6 +20,7 @@ ghost use Rattle.mls_check.specs.LeafValidation.{FindsFailing, IsMemberFault, Le
 ghost use Rattle.mls_index.specs.FirstChanged.{leaf_rule};
 
 use crate::adds::leaf_for_member;
+use crate::blank_hashes::BlankHashes;
 use crate::committer_path::CommitterPath;
 use crate::fault::ApplyFault;
 use crate::list_application::{Leaves, apply_list_in_place};
@@ -52,6 +53,7 @@ pub struct StagedTree {
     index: TreeIndex,
     staged_nodes: Option<Vec<u32>>,
     clean: bool,
+    blank_hashes: BlankHashes,
 }
 
 impl Model for StagedTree {
@@ -103,6 +105,7 @@ impl StagedTree {
                 index,
                 staged_nodes: None,
                 clean: true,
+                blank_hashes: BlankHashes::new(alloc),
             }),
             Err(_) => Err(tree),
         }
@@ -217,6 +220,7 @@ impl StagedTree {
         let journal = &mut self.journal;
         drop(stage_changed_nodes(alloc, tree, journal, &mut self.index)?);
         check_keys_and_counts(alloc, tree, &self.index, node_indices.as_slice(), path)?;
+        self.blank_hashes.fill(alloc, suite, tree)?;
         let new = filled_nodes(alloc, suite, tree, node_indices.as_slice(), path)?;
         put_path_in_place(alloc, tree, journal, path.leaf, new)?;
         Ok(())

@@ -4,7 +4,7 @@ use Rattle.mls_index.specs.TreeIndex.{HasBase, IsIndexOf}
 use Rattle.mls_index.proofs.Indexes.{index_between}
 use Rattle.mls_apply.proofs.staged_tree.StagedTree.of.Goals as goal
 
--- the index has the tree as its base, and the journal tells of no change
+-- the index has the tree as its base, and the journal has no change
 pub invariant_of-result : goal.invariant_of-result
 invariant_of-result c =
     let tree = c.args.tree.tree in

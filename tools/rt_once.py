@@ -1,12 +1,15 @@
 #!/usr/bin/env python3
-"""Runs the kit's command rt, which sums up the sources of each crate once:
+"""Runs the kit's command rt, with less work for the same proofs:
 
     rt_once.py WORDS
 
 To see what has changed, rt compares a sum of the sources of a crate and of all crates below it with that of the last
 build. It computes the sum of a crate below once for each way that leads down to it: for mls_cli it reads 300,000 files.
-Here each sum below is computed once for each sum that rt asks for. So the sums are equal, and as new. With a kit whose rt
-has no such sums, this is rt as it is.
+Here each sum below is computed once for each sum that rt asks for. So the sums are equal, and as new.
+
+`rt lib` stores what a later check of a changed crate begins with, and the proofs in a library, which the crates above load.
+Here a library is built as `rt ci` builds it: proved whole, without stored work, and with the statements of what was proved
+in place of the proofs. With a kit whose rt has none of this, this is rt as it is.
 """
 import functools
 import importlib.machinery
@@ -37,6 +40,26 @@ def once(stamp):
     return stamp_once
 
 
+def build_statements(rtlib, made):
+    """Returns the method `build_rlib`, which builds a library with its statements alone, as a run of `rt ci` does."""
+
+    @functools.wraps(made)
+    def build_rlib(crate, flags, anew):
+        if anew or crate.is_built():
+            return made(crate, flags, anew)
+        stamp, folder = crate.stamp(), os.path.dirname(crate.rlib)
+        shutil.rmtree(folder, ignore_errors=True)
+        os.makedirs(folder)
+        words = crate.words(flags, keeps=False)
+        status = crate.call(rtlib.RATTLE, "build", *words, "--statements", "-o", crate.rlib)
+        if status == 0 and stamp == crate.stamp():
+            with open(os.path.join(folder, "stamp"), "w", encoding="utf-8") as file:
+                file.write(stamp)
+        return status
+
+    return build_rlib
+
+
 class Loader(importlib.machinery.SourceFileLoader):
     """Loads the library of rt, whose crates then compute each sum once."""
 
@@ -46,6 +69,8 @@ class Loader(importlib.machinery.SourceFileLoader):
             stamp = vars(made).get("stamp") if isinstance(made, type) else None
             if callable(stamp) and made.__module__ == module.__name__:
                 made.stamp = once(stamp)
+                if hasattr(made, "cuts_libraries") and "--statements" in module.help_of("build"):
+                    made.build_rlib = build_statements(module, made.build_rlib)
 
 
 def main():

@@ -32,7 +32,7 @@ RT = os.path.join(TOP, "tools", "rt_once.py")
 LOGIC = "dac8208d650f15bf"
 
 # What a build from nothing keeps, and the memory that it needs, in bytes.
-DISK = 13 * 10**9
+DISK = 3 * 10**9
 MEMORY = 4 * 10**9
 
 # What a check holds without its jobs, and each of its jobs, in bytes.

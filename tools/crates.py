@@ -13,22 +13,22 @@ MEASURED = os.path.join(OUT, "measured")
 # About how long each crate takes to prove and build on four cores, in seconds, and what is taken for another one. A
 # build from nothing writes what it measured into MEASURED.
 SECONDS = {
-    "mls_wire": 105,
-    "mls_nodes": 90,
-    "mls_tree": 185,
-    "mls_msgs": 180,
-    "mls_state": 45,
-    "mls_hash": 75,
-    "mls_check": 105,
-    "mls_index": 55,
-    "mls_apply": 180,
-    "mls_signatures": 95,
-    "mls_follow": 190,
-    "mls_report": 260,
-    "mls_vectors": 120,
-    "mls_gate": 200,
-    "mls_cli": 170,
-    "mlscheck": 120,
+    "mls_wire": 77,
+    "mls_nodes": 75,
+    "mls_tree": 182,
+    "mls_msgs": 215,
+    "mls_state": 50,
+    "mls_hash": 63,
+    "mls_check": 83,
+    "mls_index": 64,
+    "mls_apply": 152,
+    "mls_signatures": 159,
+    "mls_follow": 143,
+    "mls_report": 165,
+    "mls_vectors": 101,
+    "mls_gate": 98,
+    "mls_cli": 102,
+    "mlscheck": 113,
 }
 OTHER_SECONDS = 120
 

@@ -60,10 +60,10 @@ def refused_by(put, group, rule, **touched):
 
 def full_group(put, rule):
     """The tree is full, and is extended for the commit. From rule 21 on its new nodes are among those that are checked, from
-    rule 23 on the hashes of its new right subtree are needed."""
+    rule 23 on the hashes of its new right subtree are needed, most of which the first commit leaves behind."""
     if rule < 21:
         return refused_by(put, Group(put.full(8_192), put.full(1_024)), rule, touches_all=True)
-    return refused_by(put, Group(16_384, 2_048), rule, touches_all=True, share=0.05 if rule < 23 else 0.5)
+    return refused_by(put, Group(16_384, 2_048), rule, touches_all=True, share=0.05)
 
 
 def other_group(put, rule):
@@ -91,7 +91,7 @@ def full_group_join_refused_22(put):
 
 @shape
 def full_group_join_refused_25(put):
-    return join_refused_by(put, Group(16_384, 2_048), 25, touches_all=True, share=0.5)
+    return join_refused_by(put, Group(16_384, 2_048), 25, touches_all=True, share=0.05)
 
 
 @shape

@@ -111,8 +111,8 @@ impl BlankHashes {
     }
 
     /// Fills the cache slots of the blank subtrees on the copath of the first leaf of the tree's right half. A hash is
-    /// computed only if it is not stored. If the tree was extended for k leaves, fewer than 4k of its new nodes are
-    /// in none of these subtrees.
+    /// computed only if it is not stored. If the tree was extended for k leaves, its new nodes that are in none of these
+    /// subtrees are fewer than 4k and one for each level of the tree.
     pub(crate) fn fill(
         &mut self,
         alloc: Global,

@@ -82,6 +82,26 @@ fn push_hash(
     hashes.push(&hash)
 }
 
+/// Reserves room, once the first entry was read, for as many leaves as there would be if each took as many bytes as that
+/// entry, and at least 64, and for as many parents.
+fn reserve_at_first(
+    node_index: usize,
+    input_len: usize,
+    entry_len: usize,
+    entries: &mut Vec<Option<Node>>,
+    hashes: &mut HashList,
+) -> Result<(), AllocError>
+    ensures entries { entries.new.items ≡ entries.old.items }
+    ensures hashes { hashes.new ≡ hashes.old }
+{
+    if node_index > 0 {
+        return Ok(());
+    }
+    let leaves = input_len / entry_len.max(64);
+    entries.try_reserve_exact(leaves.saturating_mul(2))?;
+    hashes.reserve(leaves)
+}
+
 /// Returns the entries whose encoding is all of the bytes, up to the last non-blank one, and the tree hashes of the
 /// leaves among them.
 fn read_hashed(
@@ -93,12 +113,21 @@ fn read_hashed(
     ensures hashes { IfOk result
         (λ p. AreEntryHashes (hash_of suite) (map entry_value p.0.items) p.1.hashes) }
 {
+    let input_len = bytes.len();
     let mut reader = OwnedTreeReader::new(Shared::new(alloc, bytes)?)?;
     let mut entries = Vec::new(alloc);
     let mut hashes = HashList::blank(alloc, 0, suite.hash_len())?;
     while let Some(entry) = reader.next_entry(alloc)? {
         let node_index = reader.node_index() - 1;
-        push_hash(suite, node_index, &entry, reader.encoding(), &mut hashes)?;
+        let encoding = reader.encoding();
+        reserve_at_first(
+            node_index,
+            input_len,
+            encoding.len(),
+            &mut entries,
+            &mut hashes,
+        )?;
+        push_hash(suite, node_index, &entry, encoding, &mut hashes)?;
         entries.push(entry)?;
     }
     Ok((entries, hashes))

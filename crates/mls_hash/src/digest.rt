@@ -1,7 +1,7 @@
 //! Hashes of bytes.
 
 ghost use Rattle.std.specs.Prelude.{◌≡◌, ◌++◌, ◌≤◌, Some, None, length, option_map, MatchResult};
-ghost use Rattle.mls_wire.specs.Encoding.{length_form, vector};
+ghost use Rattle.mls_wire.specs.Encoding.{◌⊕◌, length_form, vector};
 ghost use Rattle.mls_wire.specs.Limits.{vector_limit};
 ghost use Rattle.mls_hash.specs.SuiteHash.{hash_of, ref_hash_input};
 ghost use Rattle.mls_hash.specs.HasherModel.{HoldsMore};
@@ -45,6 +45,33 @@ pub(crate) fn feed_vector(hasher: &mut Hasher, body: &[u8])
     hasher.update(body);
 }
 
+/// Returns two bodies of 32 bytes, each as a vector.
+fn two_vectors(first: &[u8], second: &[u8]) -> [u8; 66]
+    requires first { length first.now ≡ 32 }
+    requires second { length second.now ≡ 32 }
+    ensures { vector first.now ⊕ vector second.now ≡ Some result }
+{
+    // The bytes at 0 and 33 are the lengths.
+    let mut both = [32; 66];
+    both[1..33].copy_from_slice(first);
+    both[34..].copy_from_slice(second);
+    both
+}
+
+/// Feeds two vectors. Bodies of 32 bytes, as the hashes and keys of most suites, are fed at once.
+pub(crate) fn feed_two_vectors(hasher: &mut Hasher, first: &[u8], second: &[u8])
+    requires first { length first.now ≤ vector_limit }
+    requires second { length second.now ≤ vector_limit }
+    ensures { HoldsMore (vector first.now ⊕ vector second.now) hasher.old hasher.new }
+{
+    if first.len() == 32 && second.len() == 32 {
+        hasher.update(&two_vectors(first, second));
+    } else {
+        feed_vector(hasher, first);
+        feed_vector(hasher, second);
+    }
+}
+
 /// Returns the reference `RefHash(label, value)` (RFC 9420, 5.2): the hash of the label and the value, each as a
 /// vector. Does not allocate.
 ///
@@ -60,7 +87,6 @@ pub fn ref_hash(suite: Suite, label: &str, value: &[u8]) -> Result<HashValue, Ha
         return Err(HashFault::TooLong);
     }
     let mut hasher = Hasher::new(suite);
-    feed_vector(&mut hasher, label.as_bytes());
-    feed_vector(&mut hasher, value);
+    feed_two_vectors(&mut hasher, label.as_bytes(), value);
     Ok(hasher.finish())
 }

@@ -1,8 +1,9 @@
 //! Tree hashes of nodes (RFC 9420, 7.8). The fields of a node are fed to the hasher from where they are stored.
 
 ghost use Rattle.std.specs.Prelude.{◌≡◌, ◌≤◌, Some, length, option_copied, option_map};
-ghost use Rattle.std.specs.Int.{w32};
+ghost use Rattle.std.specs.Int.{w8, w32};
 ghost use Rattle.mls_wire.specs.Encoding as encoding;
+ghost use Rattle.mls_wire.specs.Encoding.{◌⊕◌};
 ghost use Rattle.mls_nodes.specs.Limits.{leaf_limit};
 ghost use Rattle.mls_nodes.specs.Layout as layout;
 ghost use Rattle.mls_tree.specs.TreeHash.{leaf_tree_hash_input, parent_tree_hash_input};
@@ -10,7 +11,7 @@ ghost use Rattle.mls_hash.specs.SuiteHash.{hash_of};
 ghost use Rattle.mls_hash.specs.HasherModel.{HoldsMore};
 ghost use Rattle.mls_hash.specs.WithoutLeaves.{stripped_parent, without};
 
-use crate::digest::{feed_length, feed_vector, hash};
+use crate::digest::{feed_length, feed_two_vectors, hash};
 use crate::hasher::Hasher;
 use crate::leaf_set::LeafSet;
 use crate::suite::Suite;
@@ -79,21 +80,21 @@ fn feed_unmerged(hasher: &mut Hasher, indices: &[u32], left_out: &LeafSet<'_>)
 fn feed_parent(hasher: &mut Hasher, node: &ParentNode, left_out: &LeafSet<'_>)
     ensures { HoldsMore (layout.parent (stripped_parent left_out.now node.now)) hasher.old hasher.new }
 {
-    feed_vector(hasher, node.encryption_key.as_slice());
-    feed_vector(hasher, node.parent_hash.as_slice());
+    let key = node.encryption_key.as_slice();
+    feed_two_vectors(hasher, key, node.parent_hash.as_slice());
     feed_unmerged(hasher, node.unmerged.as_slice(), left_out);
 }
 
-/// Feeds an optional parent node, without the unmerged leaves of the set.
+/// Feeds the node type 2 and an optional parent node, without the unmerged leaves of the set.
 fn feed_optional_parent(hasher: &mut Hasher, node: Option<&ParentNode>, left_out: &LeafSet<'_>)
-    ensures { HoldsMore (encoding.optional layout.parent
+    ensures { HoldsMore (encoding.number w8 2 ⊕ encoding.optional layout.parent
         (option_map (stripped_parent left_out.now) (option_copied node.entry))) hasher.old
         hasher.new }
 {
     match node {
-        None => hasher.update(&[0]),
+        None => hasher.update(&[2, 0]),
         Some(node) => {
-            hasher.update(&[1]);
+            hasher.update(&[2, 1]);
             feed_parent(hasher, node, left_out);
         }
     }
@@ -113,9 +114,7 @@ pub(crate) fn hash_parent(
         left.now right.now) ≡ Some result }
 {
     let mut hasher = Hasher::new(suite);
-    hasher.update(&[2]);
     feed_optional_parent(&mut hasher, node, left_out);
-    feed_vector(&mut hasher, left.as_slice());
-    feed_vector(&mut hasher, right.as_slice());
+    feed_two_vectors(&mut hasher, left.as_slice(), right.as_slice());
     hasher.finish()
 }

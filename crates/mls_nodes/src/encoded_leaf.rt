@@ -108,7 +108,12 @@ impl EncodedLeaf {
         ensures { GivesOrFull leaf_node_at reader.old reader.new result }
     {
         let mut ahead = reader.fork();
-        let fields = LeafNode::parse(&mut ahead)?;
+        // Looked at where it is: it is large, and a `?` would move it.
+        let parsed = LeafNode::parse(&mut ahead);
+        let fields = match &parsed {
+            Ok(fields) => fields,
+            Err(fault) => return Err(CodecFault::Wire(*fault)),
+        };
         let encryption_key = fields.encryption_key.as_slice();
         let signature_key = fields.signature_key.as_slice();
         let bytes = read_bytes(alloc, source, reader, &ahead)?;

@@ -108,6 +108,14 @@ impl HashList {
         }
     }
 
+    /// Reserves capacity for `more` hashes. The hashes are unchanged.
+    pub fn reserve(&mut self, more: usize) -> Result<(), AllocError>
+        ensures { self.new ≡ self.old }
+    {
+        self.bytes
+            .try_reserve_exact(more.saturating_mul(self.width))
+    }
+
     /// Appends a hash. If the call fails, the list is unchanged.
     pub fn push(&mut self, hash: &HashValue) -> Result<(), AllocError>
         requires width { length hash.now ≡ self.old.width }

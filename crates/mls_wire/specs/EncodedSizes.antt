@@ -8,7 +8,7 @@ use Rattle.std.proofs.lemmas.List.{append-nil, take_more, take-append-drop, take
 use Rattle.mls_wire.specs.Limits.{vector_limit}
 use Rattle.mls_wire.specs.Encoding.{◌⊕◌, number, length_form, vector, sized, items, list}
 use Rattle.mls_wire.specs.OptionBind.{some_is}
-use Rattle.mls_wire.specs.EncodingConcat.{no_left, joined, join}
+use Rattle.mls_wire.specs.EncodingConcat.{no_left, joined, join, regrouped}
 use Rattle.mls_wire.specs.LengthsExact.{form_1, form_2, form_4, no_length}
 use Rattle.mls_wire.specs.SaturatingSizes.{saturated, size, joint_size}
 use Rattle.mls_wire.specs.IntegersExact.{IsWide, number_made}
@@ -171,14 +171,6 @@ alone : (o : Option (List ℕ)) → o ⊕ Some [] ≡ Some [] ⊕ o
 unfolding ◌⊕◌
 alone None = refl
 alone (Some u) = ap (λ (t : List ℕ). Some t) (append-nil u)
-
--- Three texts, one after the other.
-regrouped : (a b c : Option (List ℕ)) → (a ⊕ b) ⊕ c ≡ a ⊕ b ⊕ c
-unfolding ◌⊕◌
-regrouped None b c = refl
-regrouped (Some x) None c = refl
-regrouped (Some x) (Some y) None = refl
-regrouped (Some x) (Some y) (Some z) = ap (λ (t : List ℕ). Some t) (append_assoc x y z)
 
 module _ {A : Type 0} (s : A → Option (List ℕ)) where
   items_added : (xs : List A) (x : A) → items s (xs ++ x ∷ []) ≡ items s xs ⊕ s x

@@ -1,5 +1,5 @@
 -- Encodings one after the other: lemmas. Internal: no public contract uses this.
-use Rattle.std.proofs.Common.{◌≡◌, ℕ, ◌<◌, List, ◌++◌, length, Option, Some, None, refl, sym, ap, arith}
+use Rattle.std.proofs.Common.{◌≡◌, ℕ, ◌<◌, List, ◌++◌, length, Option, Some, None, refl, sym, ap, append_assoc, arith}
 use Rattle.std.proofs.lemmas.List.{length-append}
 use Rattle.mls_wire.specs.Encoding.{◌⊕◌}
 use Rattle.mls_wire.specs.OptionBind.{some_is}
@@ -32,3 +32,11 @@ pub long_left : (a b : Option (List ℕ)) (front : List ℕ) → ((x : List ℕ)
 long_left a b front long e =
     let t = joined a b front e in
     omega (arith, long t.0 t.2, ap length t.4, length-append t.0 t.1)
+
+-- Three parts, one after the other.
+pub regrouped : (a b c : Option (List ℕ)) → (a ⊕ b) ⊕ c ≡ a ⊕ b ⊕ c
+unfolding ◌⊕◌
+regrouped None b c = refl
+regrouped (Some x) None c = refl
+regrouped (Some x) (Some y) None = refl
+regrouped (Some x) (Some y) (Some z) = ap (λ (t : List ℕ). Some t) (append_assoc x y z)

@@ -23,7 +23,7 @@ use Rattle.mls_check.specs.Signatures.{VerifyFn, is_signed_text}
 use Rattle.mls_check.specs.LeafValidation.{is_leaf_signed}
 use Rattle.mls_apply.specs.PskProposals.{is_valid_psk}
 use Rattle.mls_apply.specs.RuleLists.{Rule, rule, first_failing}
-use Rattle.mls_apply.specs.Senders.{sender_leaf, is_present}
+use Rattle.mls_apply.specs.Senders.{is_present}
 use Rattle.mls_apply.specs.declared.fault.ApplyFault.{ApplyFault}
 use Rattle.mls_apply.specs.declared.fault.ApplyFault.TheVariants.{NoSuchLeaf, AddInvalid, UpdateInvalid, RemoveInvalid, ContextExtensionsInvalid, PskInvalid, ReInitInvalid, ExternalInitMisplaced}
 
@@ -109,16 +109,6 @@ fits_if_add context (ContextExtensions es) = true
 fits_if_add context (PreSharedKey id) = true
 fits_if_add context (ReInit r) = true
 fits_if_add context (ExternalInit output) = true
-
--- `fits_if_update t sender p`: if the proposal is an Update, its leaf node fits. The signature is not checked.
-abbrev pub fits_if_update : Tree → Sender → Proposal → Bool
-fits_if_update t sender (Add k) = true
-fits_if_update t sender (Update x) = fits_leaf (sender_leaf t sender) x
-fits_if_update t sender (Remove i) = true
-fits_if_update t sender (ContextExtensions es) = true
-fits_if_update t sender (PreSharedKey id) = true
-fits_if_update t sender (ReInit r) = true
-fits_if_update t sender (ExternalInit output) = true
 
 -- `valid_if_add G context p`: if the proposal is an Add, it is valid.
 abbrev pub valid_if_add : VerifyFn → GroupContext → Proposal → Bool

@@ -3,9 +3,9 @@
 ghost use Rattle.std.specs.Prelude.{◌≡◌, ◌≢◌, ◌↔◌, Some, None, Ok, Err, IfOk, IfErr, IsTrue, OnOk, false};
 ghost use Rattle.mls_check.specs.Signatures.{is_signed_text};
 ghost use Rattle.mls_apply.specs.ProposalRules.{is_from_key_package, is_from_update, is_package_signed};
-ghost use Rattle.mls_apply.specs.ProposalRules.{fits_group, fits_leaf, fits_if_add, fits_if_update};
+ghost use Rattle.mls_apply.specs.ProposalRules.{fits_group, fits_leaf, fits_if_add};
 ghost use Rattle.mls_apply.specs.ProposalRules.{is_valid_add, is_valid_update, is_valid_update_by, are_valid_extensions, is_valid_reinit, checked_refusal};
-ghost use Rattle.mls_apply.specs.Senders.{is_present, sender_leaf};
+ghost use Rattle.mls_apply.specs.Senders.{is_present};
 
 use crate::fault::ApplyFault;
 use crate::psk_list::is_valid_psk;
@@ -31,8 +31,8 @@ pub struct EpochState<'a> {
 ///
 /// # Errors
 ///
-/// The first of these rules that fails, or `OutOfMemory`. Only signatures, which are checked last, and required
-/// capabilities need allocations.
+/// The first of these rules that fails, or `OutOfMemory`. Only the signature of a KeyPackage, which is checked last, and
+/// required capabilities need allocations.
 ///
 /// 1. `NoSuchLeaf`: the leaf of a sender that is a member is non-blank.
 /// 2. `AddInvalid`: a KeyPackage is of the group's version and cipher suite, the source of its leaf node is
@@ -68,9 +68,9 @@ pub fn check_proposal<C: SignatureCheck>(
     ensures unfit_add { IsTrue (is_present epoch.now.tree.now.tree sender)
         → fits_if_add epoch.now.context.now proposal.now ≡ false
         → result ≡ Err ApplyFault.AddInvalid }
-    ensures unfit_update { IsTrue (is_present epoch.now.tree.now.tree sender)
-        → fits_if_update epoch.now.tree.now.tree sender proposal.now ≡ false
-        → result ≡ Err ApplyFault.UpdateInvalid }
+    ensures update_invalid { (result ≡ Err ApplyFault.UpdateInvalid)
+        ↔ (checked_refusal (C.meaning checker.now) epoch.now.context.now epoch.now.tree.now.tree sender
+        proposal.now ≡ Some ApplyFault.UpdateInvalid) }
     ensures remove_invalid { (result ≡ Err ApplyFault.RemoveInvalid)
         ↔ (checked_refusal (C.meaning checker.now) epoch.now.context.now epoch.now.tree.now.tree sender
         proposal.now ≡ Some ApplyFault.RemoveInvalid) }
@@ -94,7 +94,7 @@ pub fn check_proposal<C: SignatureCheck>(
             }
         }
         Proposal::Update(leaf) => {
-            if !is_valid_update_by(alloc, epoch, sender, leaf, checker)? {
+            if !is_valid_update_by(epoch, sender, leaf, checker) {
                 return Err(ApplyFault::UpdateInvalid);
             }
         }
@@ -173,15 +173,10 @@ fn is_package_signed<C: SignatureCheck>(
         Err(CodecFault::Wire(_)) => return Ok(false),
         Err(CodecFault::OutOfMemory) => return Err(OutOfMemory),
     };
-    signed(
-        alloc,
-        checker,
-        suite,
-        key_package.leaf_node.signature_key(),
-        KEY_PACKAGE_LABEL,
-        tbs.as_slice(),
-        key_package.signature.as_slice(),
-    )
+    let key = key_package.leaf_node.signature_key();
+    let label = KEY_PACKAGE_LABEL;
+    let signature = key_package.signature.as_slice();
+    Ok(signed(checker, suite, key, label, tbs.as_slice(), signature))
 }
 
 /// Returns whether a KeyPackage fits a group. Signatures are not checked.
@@ -214,7 +209,7 @@ fn is_valid_add<C: SignatureCheck>(
     }
     let leaf = &key_package.leaf_node;
     let suite = context.cipher_suite;
-    if !is_leaf_signed(alloc, suite, &context.group_id, 0, leaf, checker)? {
+    if !is_leaf_signed(suite, &context.group_id, 0, leaf, checker) {
         return Ok(false);
     }
     is_package_signed(alloc, suite, key_package, checker)
@@ -238,50 +233,37 @@ struct Replaced<'a> {
 /// Returns whether a leaf node may replace a member's current one. Its signature is checked last.
 #[tactic(auto, unfolding(crate::specs::ProposalRules::is_valid_update))]
 fn is_valid_update<C: SignatureCheck>(
-    alloc: Global,
     context: &GroupContext,
     replaced: &Replaced<'_>,
     leaf: &EncodedLeaf,
     checker: &C,
-) -> Result<bool, OutOfMemory>
-    ensures valid { IfOk result (λ valid.
-        valid ≡ is_valid_update (C.meaning checker.now) context.now replaced.now.sender
-        (Some replaced.now.present.now) leaf.now) }
-    ensures unfit { fits_leaf (Some replaced.now.present.now) leaf.now ≡ false → result ≡ Ok false }
+) -> bool
+    ensures { result ≡ is_valid_update (C.meaning checker.now) context.now replaced.now.sender
+        (Some replaced.now.present.now) leaf.now }
 {
-    if !fits_leaf(replaced.present, leaf) {
-        return Ok(false);
-    }
-    is_leaf_signed(
-        alloc,
-        context.cipher_suite,
-        &context.group_id,
-        replaced.sender,
-        leaf,
-        checker,
-    )
+    let suite = context.cipher_suite;
+    fits_leaf(replaced.present, leaf)
+        && is_leaf_signed(suite, &context.group_id, replaced.sender, leaf, checker)
 }
 
 /// Returns whether the leaf node of an Update of this sender is valid. Only a member can send an Update. The signature is
 /// checked last.
 fn is_valid_update_by<C: SignatureCheck>(
-    alloc: Global,
     epoch: &EpochState<'_>,
     sender: Sender,
     leaf: &EncodedLeaf,
     checker: &C,
-) -> Result<bool, OutOfMemory>
+) -> bool
     requires { IsTrue (is_present epoch.now.tree.now.tree sender) }
-    ensures valid { IfOk result (λ valid. valid ≡ is_valid_update_by (C.meaning checker.now)
-        epoch.now.context.now epoch.now.tree.now.tree sender leaf.now) }
-    ensures unfit { fits_leaf (sender_leaf epoch.now.tree.now.tree sender) leaf.now ≡ false → result ≡ Ok false }
+    ensures { result ≡ is_valid_update_by (C.meaning checker.now)
+        epoch.now.context.now epoch.now.tree.now.tree sender leaf.now }
 {
     let Sender::Member(sender) = sender else {
-        return Ok(false);
+        return false;
     };
     let Some(present) = epoch.tree.leaf(sender) else {
-        return Ok(false);
+        return false;
     };
     let replaced = Replaced { sender, present };
-    is_valid_update(alloc, epoch.context, &replaced, leaf, checker)
+    is_valid_update(epoch.context, &replaced, leaf, checker)
 }

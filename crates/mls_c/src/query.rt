@@ -73,7 +73,7 @@ fn push_record(
     let key = needed.key.as_slice();
     let content = needed.content.as_slice();
     let signature = needed.signature.as_slice();
-    match receipt(needed.suite, key, content, signature) {
+    match receipt(needed.suite, key, &[content], signature) {
         Some(digest) => push_receipt(alloc, &digest, input.as_slice(), records),
         None => Ok(()),
     }
@@ -91,7 +91,7 @@ fn push_record_unless<C: SignatureCheck>(
 {
     let key = needed.key.as_slice();
     let content = needed.content.as_slice();
-    if checker.good(needed.suite, key, content, needed.signature.as_slice()) {
+    if checker.good(needed.suite, key, &[content], needed.signature.as_slice()) {
         return Ok(());
     }
     push_record(alloc, needed, records)

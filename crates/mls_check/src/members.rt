@@ -1,10 +1,8 @@
 //! Leaf node validation (RFC 9420, 7.3).
 
-ghost use Rattle.std.specs.Prelude.{◌≡◌, ℕ, ◌<◌, ◌≤◌, ◌^◌, true, length, IfOk, IfErr, IfSome, IsErr, IsSomeAnd, OnOk};
+ghost use Rattle.std.specs.Prelude.{◌≡◌, ℕ, ◌<◌, ◌≤◌, ◌^◌, true, length, IfOk, IfErr, IsSomeAnd, OnOk};
 ghost use Rattle.std.specs.Bool.{OnTrue};
 ghost use Rattle.mls_wire.specs.Limits.{vector_limit};
-ghost use Rattle.mls_wire.specs.Encoding.{◌⊕◌, length_form, vector};
-ghost use Rattle.mls_wire.specs.WriteContracts.{Puts};
 ghost use Rattle.mls_nodes.specs.LeafNodeTBS.{leaf_tbs};
 ghost use Rattle.mls_tree.specs.Tree.{leaf_at};
 ghost use Rattle.mls_check.specs.Signatures.{VerifyFn};
@@ -15,11 +13,10 @@ use crate::plain_leaves::{are_plain, first_unlisted_extension, first_unsupported
 use crate::signature_keys::first_repeated_signature_key;
 use crate::signatures::{OutOfMemory, SignatureCheck};
 use crate::sorted_requirements::SortedRequirements;
-use mls_nodes::{EncodedLeaf, RequiredCapabilities, leaf_tbs_len, put_leaf_tbs};
+use mls_nodes::{EncodedLeaf, LeafSource, RequiredCapabilities, leaf_tbs_len};
 use mls_tree::PublicTree;
-use mls_wire::{CodecFault, Draft, MAX_BODY, Opaque};
+use mls_wire::{EncodedLength, MAX_BODY, Opaque};
 use std::alloc::Global;
-use std::mem::replace;
 use thiserror::Error;
 
 /// The label under which members sign their leaf nodes (RFC 9420, 7.2).
@@ -98,7 +95,7 @@ pub fn validate_members<C: SignatureCheck>(
     if let Some(leaf) = first_repeated_signature_key(alloc, tree)? {
         return Err(MemberFault::SignatureKeyRepeated(leaf));
     }
-    if let Some(leaf) = first_unsigned_leaf(alloc, suite, group_id, tree, checker)? {
+    if let Some(leaf) = first_unsigned_leaf(suite, group_id, tree, checker) {
         return Err(MemberFault::LeafSignature(leaf));
     }
     Ok(())
@@ -124,26 +121,6 @@ pub fn first_unmet_requirement(
     Ok(None)
 }
 
-/// Appends the SignContent of a leaf under this label (RFC 9420, 5.1.2), whose LeafNodeTBS has the given length.
-#[tactic(auto, using(mls_wire::specs::WriteSequences::written))]
-fn put_content(
-    alloc: Global,
-    label: &str,
-    group_id: &Opaque,
-    index: u32,
-    leaf: &EncodedLeaf,
-    len: usize,
-    draft: &mut Draft,
-) -> Result<(), CodecFault>
-    ensures { Puts
-        (vector label.now ⊕ length_form len ⊕ leaf_tbs leaf.now group_id.now index)
-        draft.old draft.new result }
-{
-    draft.put_vec(label.as_bytes())?;
-    draft.put_len(len)?;
-    put_leaf_tbs(alloc, leaf, group_id, index, draft)
-}
-
 /// Returns `true` only if the LeafNodeTBS of a leaf (RFC 9420, 7.2) is short enough for a SignContent, whatever the
 /// index of the leaf. It may return `false` although it is. It adds up lengths and does not read the leaf node.
 fn has_short_tbs(leaf: &EncodedLeaf, group_id: &Opaque) -> bool
@@ -154,99 +131,83 @@ fn has_short_tbs(leaf: &EncodedLeaf, group_id: &Opaque) -> bool
     leaf.encoded_len() + group_id.as_slice().len() as u64 + 8 <= MAX_BODY as u64
 }
 
-/// Returns whether a leaf is signed, as [`is_leaf_signed`]. What is signed is written into `content`, which serves for
-/// many leaves.
-#[tactic(auto, unfolding(crate::specs::LeafValidation::is_leaf_signed))]
-fn is_signed_in<C: SignatureCheck>(
-    alloc: Global,
+/// Returns whether the checker accepts the signature of a leaf whose LeafNodeTBS is short enough for a SignContent. The
+/// checker gets the SignContent in pieces, each from where it is stored.
+fn is_content_signed<C: SignatureCheck>(
     suite: u16,
     group_id: &Opaque,
     index: u32,
     leaf: &EncodedLeaf,
     checker: &C,
-    capacity: &mut Vec<u8>,
-) -> Result<bool, OutOfMemory>
-    ensures good { IfOk result
-        (λ good. good ≡ is_leaf_signed (C.meaning checker.now) suite group_id.now index leaf.now) }
-    ensures memory { IsErr result
-        → IfSome (leaf_tbs leaf.now group_id.now index) (λ tbs. length tbs ≤ vector_limit) }
+) -> bool
+    requires { IsSomeAnd (leaf_tbs leaf.now group_id.now index) (λ tbs. length tbs ≤ vector_limit) }
+    ensures { result ≡ is_leaf_signed (C.meaning checker.now) suite group_id.now index leaf.now }
 {
-    if checker.accepts_all() && has_short_tbs(leaf, group_id) {
-        return Ok(true);
-    }
-    let len = leaf_tbs_len(leaf, group_id, index);
-    if len > MAX_BODY as u64 {
-        return Ok(false);
-    }
-    if checker.accepts_all() {
-        return Ok(true);
-    }
-    let mut content = replace(capacity, Vec::new(alloc));
-    content.clear();
-    let mut draft = Draft::after(content);
-    let label = LEAF_NODE_TBS;
-    match put_content(
-        alloc,
+    let label = LEAF_NODE_TBS.as_bytes();
+    let label_len = EncodedLength::of(label.len());
+    let tbs_len = EncodedLength::of(leaf_tbs_len(leaf, group_id, index) as usize);
+    let group_id = group_id.as_slice();
+    let group_id_len = EncodedLength::of(group_id.len());
+    let index = index.to_be_bytes();
+    let content = [
+        label_len.as_slice(),
         label,
+        tbs_len.as_slice(),
+        leaf.unsigned(),
+        group_id_len.as_slice(),
         group_id,
-        index,
-        leaf,
-        len as usize,
-        &mut draft,
-    ) {
-        Ok(()) => *capacity = draft.finish(),
-        Err(CodecFault::Wire(_)) => unreachable!(),
-        Err(CodecFault::OutOfMemory) => return Err(OutOfMemory),
-    }
-    let key = leaf.signature_key();
-    Ok(checker.good(suite, key, capacity.as_slice(), leaf.signature()))
+        &index,
+    ];
+    // The group id and the index are signed for the sources update and commit.
+    let count = match &leaf.source() {
+        LeafSource::KeyPackage(_) => 4,
+        LeafSource::Update | LeafSource::Commit { .. } => 7,
+    };
+    checker.good(
+        suite,
+        leaf.signature_key(),
+        &content[..count],
+        leaf.signature(),
+    )
 }
 
 /// Returns the smallest leaf index of a leaf whose signature is not good.
 fn first_unsigned_leaf<C: SignatureCheck>(
-    alloc: Global,
     suite: u16,
     group_id: &Opaque,
     tree: &PublicTree,
     checker: &C,
-) -> Result<Option<u32>, OutOfMemory>
-    ensures { IfOk result
-        (FindsFailing (is_leaf_signed (C.meaning checker.now) suite group_id.now) tree.now.tree) }
+) -> Option<u32>
+    ensures { FindsFailing
+        (is_leaf_signed (C.meaning checker.now) suite group_id.now) tree.now.tree result }
 {
-    let mut capacity = Vec::new(alloc);
     for index in 0..tree.leaf_count() {
         if let Some(leaf) = tree.leaf(index) {
-            if !is_signed_in(alloc, suite, group_id, index, leaf, checker, &mut capacity)? {
-                return Ok(Some(index));
+            if !is_leaf_signed(suite, group_id, index, leaf, checker) {
+                return Some(index);
             }
         }
     }
-    Ok(None)
+    None
 }
 
 /// Returns whether the leaf with this index has signed its LeafNodeTBS in the group with this id (RFC 9420, 7.2), as
 /// the checker verifies it. The group id and the index matter only if the source of the leaf is update or commit. A
-/// leaf whose LeafNodeTBS is too long for a SignContent is not signed, which is checked before anything is allocated.
+/// leaf whose LeafNodeTBS is too long for a SignContent is not signed. Does not allocate.
 pub fn is_leaf_signed<C: SignatureCheck>(
-    alloc: Global,
     suite: u16,
     group_id: &Opaque,
     index: u32,
     leaf: &EncodedLeaf,
     checker: &C,
-) -> Result<bool, OutOfMemory>
-    ensures good { IfOk result
-        (λ good. good ≡ is_leaf_signed (C.meaning checker.now) suite group_id.now index leaf.now) }
-    ensures memory { IsErr result
-        → IfSome (leaf_tbs leaf.now group_id.now index) (λ tbs. length tbs ≤ vector_limit) }
+) -> bool
+    ensures { result ≡ is_leaf_signed (C.meaning checker.now) suite group_id.now index leaf.now }
 {
-    is_signed_in(
-        alloc,
-        suite,
-        group_id,
-        index,
-        leaf,
-        checker,
-        &mut Vec::new(alloc),
-    )
+    if checker.accepts_all() && has_short_tbs(leaf, group_id) {
+        return true;
+    }
+    if leaf_tbs_len(leaf, group_id, index) > MAX_BODY as u64 {
+        return false;
+    }
+    checker.accepts_all() || is_content_signed(suite, group_id, index, leaf, checker)
 }

@@ -95,7 +95,7 @@ impl SignatureCheck for Receipts {
 
     ghost meaning = { λ r. listed r };
 
-    fn good(&self, suite: u16, key: &[u8], content: &[u8], signature: &[u8]) -> bool {
+    fn good(&self, suite: u16, key: &[u8], content: &[&[u8]], signature: &[u8]) -> bool {
         match receipt(suite, key, content, signature) {
             Some(digest) => self.has(&digest),
             None => false,

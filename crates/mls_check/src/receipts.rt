@@ -4,15 +4,15 @@
 //! are the SHA-256 digest, for every suite, of the suite in two bytes and of the key, the signed content and the
 //! signature, each as a vector.
 
-ghost use Rattle.std.specs.Prelude.{◌≡◌, ◌++◌, ℕ, ◌<◌, ◌≤◌, List, ◌∷◌, Bool, Option, Some, None, option_map, length, map, IfOk, IfErr, IfNone, OnSome};
+ghost use Rattle.std.specs.Prelude.{◌≡◌, ◌++◌, ℕ, ◌<◌, ◌≤◌, List, ◌∷◌, Bool, Option, Some, None, option_map, length, map, IfOk, IfErr, IfNone, MatchOption, OnSome, flat_map};
 ghost use Rattle.sha2.specs.Sha256.{sha256};
-ghost use Rattle.mls_wire.specs.Encoding.{length_form, vector};
+ghost use Rattle.mls_wire.specs.Encoding.{vector};
 ghost use Rattle.mls_wire.specs.Limits.{input_limit, vector_limit};
 ghost use Rattle.mls_check.specs.Receipts.{receipt_input, receipt_lines, digest_of, bad_line, IsReceipts, IsReceiptsFault};
 ghost use Rattle.mls_check.specs.declared.receipts.ReceiptsFault.TheVariants.{BadLine, TooLong, OutOfMemory};
 
 use hex::FromHex;
-use mls_wire::MAX_BODY;
+use mls_wire::{EncodedLength, MAX_BODY};
 use sha2::{Digest, Sha256};
 use std::alloc::{AllocFailed, Global};
 use thiserror::Error;
@@ -75,47 +75,56 @@ pub(crate) fn digests_of(alloc: Global, bytes: &[u8]) -> Result<Vec<[u8; 32]>, R
     Ok(digests)
 }
 
-/// Feeds the length of a vector, in the shortest of its three forms.
-#[tactic(auto, unfolding(mls_wire::specs::Encoding::length_form))]
-fn update_length(hasher: &mut Sha256, count: usize)
-    requires { count ≤ vector_limit }
-    ensures { (m text : List ℕ) → ⟦<Sha256 as Digest>⟧.holds hasher.old m
-        → length_form count ≡ Some text → ⟦<Sha256 as Digest>⟧.holds hasher.new (m ++ text) }
+/// Returns how many bytes the pieces have. `None` if they are too long for a vector.
+fn len_of_pieces(pieces: &[&[u8]]) -> Option<usize>
+    ensures { MatchOption result
+        (vector_limit < length (flat_map (λ p. p.now) pieces.now))
+        (λ n. (n ≡ length (flat_map (λ p. p.now) pieces.now)) × (n ≤ vector_limit)) }
 {
-    if count < 64 {
-        hasher.update([count as u8]);
-    } else if count < 16384 {
-        hasher.update((count as u16 + 16384).to_be_bytes());
-    } else {
-        hasher.update((count as u32 + 2147483648).to_be_bytes());
+    let mut len = 0;
+    for piece in pieces {
+        if piece.len() > MAX_BODY - len {
+            return None;
+        }
+        len += piece.len();
+    }
+    Some(len)
+}
+
+/// Feeds the pieces, one after the other.
+fn update_pieces(hasher: &mut Sha256, pieces: &[&[u8]])
+    ensures { (m : List ℕ) → ⟦<Sha256 as Digest>⟧.holds hasher.old m
+        → ⟦<Sha256 as Digest>⟧.holds hasher.new (m ++ flat_map (λ p. p.now) pieces.now) }
+{
+    for piece in pieces {
+        hasher.update(*piece);
     }
 }
 
-/// Feeds a vector; `None` if it is too long for one.
-fn update_vector(hasher: &mut Sha256, body: &[u8]) -> Option<()>
-    ensures none { IfNone result (vector body.now ≡ None) }
+/// Feeds a vector whose body is the pieces, one after the other; `None` if it is too long for one.
+fn update_vector(hasher: &mut Sha256, body: &[&[u8]]) -> Option<()>
+    ensures none { IfNone result (vector (flat_map (λ p. p.now) body.now) ≡ None) }
     ensures some { OnSome result
-        ((text : List ℕ) × (vector body.now ≡ Some text)
+        ((text : List ℕ) × (vector (flat_map (λ p. p.now) body.now) ≡ Some text)
         × ((m : List ℕ) → ⟦<Sha256 as Digest>⟧.holds hasher.old m
         → ⟦<Sha256 as Digest>⟧.holds hasher.new (m ++ text))) }
 {
-    if body.len() > MAX_BODY {
-        return None;
-    }
-    update_length(hasher, body.len());
-    hasher.update(body);
+    let len = EncodedLength::of(len_of_pieces(body)?);
+    hasher.update(len.as_slice());
+    update_pieces(hasher, body);
     Some(())
 }
 
-/// Returns the receipt of a signature: the digest that is listed if it is good. `None` if an argument is too long for a
-/// vector.
-pub fn receipt(suite: u16, key: &[u8], content: &[u8], signature: &[u8]) -> Option<[u8; 32]>
-    ensures { result ≡ option_map sha256 (receipt_input suite key.now content.now signature.now) }
+/// Returns the receipt of a signature: the digest that is listed if it is good. The signed content is the pieces of
+/// `content`, one after the other. `None` if an argument is too long for a vector.
+pub fn receipt(suite: u16, key: &[u8], content: &[&[u8]], signature: &[u8]) -> Option<[u8; 32]>
+    ensures { result ≡ option_map sha256
+        (receipt_input suite key.now (flat_map (λ p. p.now) content.now) signature.now) }
 {
     let mut hasher = Sha256::new();
     hasher.update(suite.to_be_bytes());
-    update_vector(&mut hasher, key)?;
+    update_vector(&mut hasher, &[key])?;
     update_vector(&mut hasher, content)?;
-    update_vector(&mut hasher, signature)?;
+    update_vector(&mut hasher, &[signature])?;
     Some(hasher.finalize())
 }

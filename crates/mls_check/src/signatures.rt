@@ -1,12 +1,12 @@
 //! Signatures (RFC 9420, 5.1.2), which a checker verifies that the caller supplies.
 
-ghost use Rattle.std.specs.Prelude.{◌≡◌, ℕ, List, Bool, true, IfOk, IsErr, IsSome};
+ghost use Rattle.std.specs.Prelude.{◌≡◌, ℕ, List, Bool, true, flat_map};
 ghost use Rattle.std.specs.Bool.{OnTrue};
 ghost use Rattle.mls_check.specs.Signatures.{AcceptsAll, is_signed, sign_content};
 ghost use Rattle.mls_wire.specs.ReadContracts.{seen};
 ghost use Rattle.mls_wire.specs.WriteContracts.{Makes};
 
-use mls_wire::{CodecFault, Draft, MAX_BODY};
+use mls_wire::{CodecFault, Draft, EncodedLength, MAX_BODY};
 use std::alloc::{AllocError, AllocFailed, Global};
 use thiserror::Error;
 
@@ -17,13 +17,13 @@ pub trait SignatureCheck: Drop {
     /// the signature.
     ghost meaning: { Self → ℕ → List ℕ → List ℕ → List ℕ → Bool };
 
-    /// Returns whether `signature` is good for `content`, a SignContent (RFC 9420, 5.1.2), under the public key `key`
-    /// in the cipher suite `suite`.
-    fn good(&self, suite: u16, key: &[u8], content: &[u8], signature: &[u8]) -> bool
-        ensures { result ≡ meaning self.now suite key.now content.now signature.now };
+    /// Returns whether `signature` is good for a SignContent (RFC 9420, 5.1.2) under the public key `key` in the cipher
+    /// suite `suite`. The SignContent is the pieces of `content`, one after the other: nothing is copied to be verified.
+    fn good(&self, suite: u16, key: &[u8], content: &[&[u8]], signature: &[u8]) -> bool
+        ensures { result ≡ meaning self.now suite key.now (flat_map (λ p. p.now) content.now) signature.now };
 
     /// Returns `true` only if every signature is good, whatever its content. For such a checker no content has to be
-    /// made. A checker that verifies signatures returns `false`.
+    /// put together. A checker that verifies signatures returns `false`.
     fn accepts_all(&self) -> bool
         ensures { OnTrue result (AcceptsAll (meaning self.now)) };
 }
@@ -35,7 +35,7 @@ pub struct Trusting;
 impl SignatureCheck for Trusting {
     ghost meaning = { λ _ _ _ _ _. true };
 
-    fn good(&self, _suite: u16, _key: &[u8], _content: &[u8], _signature: &[u8]) -> bool {
+    fn good(&self, _suite: u16, _key: &[u8], _content: &[&[u8]], _signature: &[u8]) -> bool {
         true
     }
 
@@ -81,28 +81,25 @@ pub fn sign_content(alloc: Global, label: &str, content: &[u8]) -> Result<Vec<u8
 }
 
 /// VerifyWithLabel (RFC 9420, 5.1.2): returns whether the checker accepts `signature` for the bytes `tbs` under the
-/// label `label`, which begins with `MLS 1.0 `. Bytes that are too long for a SignContent are not signed, which is
-/// checked before anything is allocated.
+/// label `label`, which begins with `MLS 1.0 `. Bytes that are too long for a SignContent are not signed. Does not
+/// allocate.
 pub fn signed<C: SignatureCheck>(
-    alloc: Global,
     checker: &C,
     suite: u16,
     key: &[u8],
     label: &str,
     tbs: &[u8],
     signature: &[u8],
-) -> Result<bool, OutOfMemory>
-    ensures good { IfOk result
-        (λ good. good ≡ is_signed
-        (C.meaning checker.now) suite key.now label.now tbs.now signature.now) }
-    ensures memory { IsErr result → IsSome (sign_content label.now tbs.now) }
+) -> bool
+    ensures { result ≡ is_signed
+        (C.meaning checker.now) suite key.now label.now tbs.now signature.now }
 {
+    let label = label.as_bytes();
     if label.len() > MAX_BODY || tbs.len() > MAX_BODY {
-        return Ok(false);
+        return false;
     }
-    match sign_content(alloc, label, tbs) {
-        Ok(content) => Ok(checker.good(suite, key, content.as_slice(), signature)),
-        Err(CodecFault::Wire(_)) => unreachable!(),
-        Err(CodecFault::OutOfMemory) => Err(OutOfMemory),
-    }
+    let label_len = EncodedLength::of(label.len());
+    let tbs_len = EncodedLength::of(tbs.len());
+    let content = [label_len.as_slice(), label, tbs_len.as_slice(), tbs];
+    checker.good(suite, key, &content, signature)
 }

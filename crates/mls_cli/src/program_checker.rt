@@ -17,7 +17,7 @@ impl SignatureCheck for ProgramChecker {
 
     ghost meaning = { checker_verify };
 
-    fn good(&self, suite: u16, key: &[u8], content: &[u8], signature: &[u8]) -> bool {
+    fn good(&self, suite: u16, key: &[u8], content: &[&[u8]], signature: &[u8]) -> bool {
         match self {
             ProgramChecker::All => true,
             ProgramChecker::Known(receipts) => receipts.good(suite, key, content, signature),

@@ -113,8 +113,7 @@ fn arguments_over_a_vector(rt: HostRuntime) {
     let alloc = rt.alloc();
     let zeros = have(&rt, vec![in alloc; 0u8; 1073741824]);
     let zeros = zeros.as_slice();
-    let signed = signed(alloc, &Trusting, 1, b"k", "MLS 1.0 Test", zeros, b"s");
-    assert!(rt; !have(&rt, signed));
+    assert!(rt; !signed(&Trusting, 1, b"k", "MLS 1.0 Test", zeros, b"s"));
     let copied = Opaque::copy(alloc, zeros);
     expect_text(&rt, fault_text(&rt, alloc, copied), "TooLong at 0");
     expect_text(&rt, written(&rt, alloc, zeros), "TooLong at 1");

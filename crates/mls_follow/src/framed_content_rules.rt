@@ -95,15 +95,16 @@ fn is_frame_signed<C: SignatureCheck>(
         Err(CodecFault::Wire(_)) => return Ok(false),
         Err(CodecFault::OutOfMemory) => return Err(OutOfMemory),
     };
-    signed(
-        alloc,
+    let suite = context.cipher_suite;
+    let signature = auth.signature().as_slice();
+    Ok(signed(
         checker,
-        context.cipher_suite,
+        suite,
         key,
         CONTENT_LABEL,
         tbs.as_slice(),
-        auth.signature().as_slice(),
-    )
+        signature,
+    ))
 }
 
 /// Checks that an AuthenticatedContent is for the group and its epoch, and that the group goes on. What is left are the

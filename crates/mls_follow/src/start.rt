@@ -107,15 +107,17 @@ fn is_info_signed<C: SignatureCheck>(
         Err(CodecFault::Wire(_)) => return Ok(false),
         Err(CodecFault::OutOfMemory) => return Err(OutOfMemory),
     };
-    signed(
-        alloc,
+    let suite = info.context.cipher_suite;
+    let key = signer.signature_key();
+    let signature = info.signature.as_slice();
+    Ok(signed(
         checker,
-        info.context.cipher_suite,
-        signer.signature_key(),
+        suite,
+        key,
         GROUP_INFO_LABEL,
         tbs.as_slice(),
-        info.signature.as_slice(),
-    )
+        signature,
+    ))
 }
 
 /// Checks that the leaf of a GroupInfo's signer is non-blank and has signed it.

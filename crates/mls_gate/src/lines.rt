@@ -26,7 +26,7 @@ fn is_known<C: SignatureCheck>(needed: &SignatureToVerify, checker: &C) -> bool
 {
     let key = needed.key.as_slice();
     let content = needed.content.as_slice();
-    checker.good(needed.suite, key, content, needed.signature.as_slice())
+    checker.good(needed.suite, key, &[content], needed.signature.as_slice())
 }
 
 /// Appends the line of a signature, unless the checker accepts it. Returns how many lines it appended.

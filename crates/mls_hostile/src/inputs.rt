@@ -42,7 +42,7 @@ fn is_good(alloc: Global, listed: &Receipts, leaf: &str, member: u8) -> Result<b
     let content = have(hex::decode(alloc, content.as_str()))?;
     let key = [0xb0u8.wrapping_add(member)];
     let signature = [0xc0u8.wrapping_add(member)];
-    Ok(listed.good(1, &key, content.as_slice(), &signature))
+    Ok(listed.good(1, &key, &[content.as_slice()], &signature))
 }
 
 /// Returns which signatures are good by the receipts: those of the two leaf nodes, and that of one under the key of the

@@ -23,7 +23,7 @@ fn receipt_text(alloc: Global, signature: &SignatureToVerify) -> Result<String, 
     let digest = receipt(
         signature.suite,
         signature.key.as_slice(),
-        signature.content.as_slice(),
+        &[signature.content.as_slice()],
         signature.signature.as_slice(),
     );
     match digest {

@@ -57,7 +57,8 @@ fn satisfies<C: SignatureCheck>(
         LeafRule::Signature => {
             let context = rules.context;
             let suite = context.cipher_suite;
-            is_leaf_signed(alloc, suite, &context.group_id, index, leaf, rules.checker)
+            let group_id = &context.group_id;
+            Ok(is_leaf_signed(suite, group_id, index, leaf, rules.checker))
         }
     }
 }

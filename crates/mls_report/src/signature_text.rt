@@ -25,7 +25,7 @@ fn receipt_text(alloc: Global, needed: &SignatureToVerify) -> Result<String, All
     let digest = receipt(
         needed.suite,
         needed.key.as_slice(),
-        needed.content.as_slice(),
+        &[needed.content.as_slice()],
         needed.signature.as_slice(),
     );
     match digest {
@@ -128,7 +128,7 @@ pub fn put_line<R: SignatureCheck>(
 {
     let key = needed.key.as_slice();
     let content = needed.content.as_slice();
-    if receipts.good(needed.suite, key, content, needed.signature.as_slice()) {
+    if receipts.good(needed.suite, key, &[content], needed.signature.as_slice()) {
         return Ok(());
     }
     push_signature_line(alloc, text, needed)

@@ -31,10 +31,14 @@ fn validity<E: Debug + Drop>(
 /// Whether something holds, if that was found.
 fn truth<E: Drop>(alloc: Global, holds: Result<bool, E>) -> Result<CallResult, RowFault> {
     match holds {
-        Ok(true) => CallResult::word(alloc, "true"),
-        Ok(false) => CallResult::word(alloc, "false"),
+        Ok(holds) => truth_value(alloc, holds),
         Err(_) => Err(RowFault::OutOfMemory),
     }
+}
+
+/// A truth value.
+fn truth_value(alloc: Global, holds: bool) -> Result<CallResult, RowFault> {
+    CallResult::word(alloc, if holds { "true" } else { "false" })
 }
 
 // ---- trees
@@ -173,9 +177,9 @@ fn leaf_signed_by<C: SignatureCheck>(row: &Row, checker: &C) -> Result<CallResul
     let group_id = row.opaque(2)?;
     let leaf = row.value::<EncodedLeaf>(4, "a leaf")?;
     let suite = row.short_number(1);
-    let found = is_leaf_signed(row.alloc, suite, &group_id, row.number(3), &leaf, checker);
+    let found = is_leaf_signed(suite, &group_id, row.number(3), &leaf, checker);
     drop(leaf);
-    truth(row.alloc, found)
+    truth_value(row.alloc, found)
 }
 
 /// `leaf_signed | SUITE | GROUP ID | INDEX | LEAF | CHECKER`: whether the signature of a leaf is good.
@@ -284,7 +288,6 @@ pub(crate) fn key_in(row: &Row) -> Result<CallResult, RowFault> {
 fn signed_by<C: SignatureCheck>(row: &Row, checker: &C) -> Result<CallResult, RowFault> {
     let suite = row.short_number(2);
     let found = signed(
-        row.alloc,
         checker,
         suite,
         row.bytes(3).as_slice(),
@@ -292,7 +295,7 @@ fn signed_by<C: SignatureCheck>(row: &Row, checker: &C) -> Result<CallResult, Ro
         row.bytes(5).as_slice(),
         row.bytes(6).as_slice(),
     );
-    truth(row.alloc, found)
+    truth_value(row.alloc, found)
 }
 
 /// `signed | CHECKER | SUITE | KEY | LABEL | CONTENT | SIGNATURE`: whether the signature of a content under a label is good.
@@ -314,7 +317,7 @@ pub(crate) fn listed(row: &Row) -> Result<CallResult, RowFault> {
             let found = listed.good(
                 row.short_number(2),
                 row.bytes(3).as_slice(),
-                row.bytes(4).as_slice(),
+                &[row.bytes(4).as_slice()],
                 row.bytes(5).as_slice(),
             );
             drop(listed);

@@ -8,6 +8,7 @@
 //!   one, [`EncodedItems`] such a list stored as its encoding, [`Codes`] such a list of `uint16`, [`Sequence`] a list of
 //!   any length.
 //! - [`OpaqueRef`] and [`ItemsRef`] are the body of a vector and a list, borrowed from the bytes that encode them.
+//! - [`EncodedLength`] is the encoding of a vector's length, for whoever passes on a vector in pieces.
 //! - [`Shared`] holds a value with several owners, so that a copy of it allocates nothing.
 //! - A [`Source`] gives bytes and a [`Sink`] takes them, in pieces of any size; each over std or over memory.
 //! - A [`RecordReader`] reads the records of a log from its source. [`Records`] takes the source in each call.
@@ -24,6 +25,7 @@ mod decode;
 mod draft;
 mod encode;
 mod encoded_items;
+mod encoded_length;
 mod fault;
 mod integers;
 mod items;
@@ -51,6 +53,7 @@ pub use decode::{Decode, MAX_INPUT, read_all_of, read_input, read_value};
 pub use draft::Draft;
 pub use encode::{Encode, bytes_of, put_list};
 pub use encoded_items::{EncodedItems, Skip};
+pub use encoded_length::EncodedLength;
 pub use fault::{CodecFault, DeviceFault, WireFault, WireFaultKind};
 pub use items::{Items, fits};
 pub use log::{LogStep, RecordFault, Records};

@@ -22,14 +22,14 @@ returns-in-Some-3-clause-fault g c =
     (credentials_hold _ _ _ _ _ (requirements_hold _ _ _ _ _ (extensions_hold _ _ _ _ _ (rw c.in_default.is at c.in_ok-leaf.ensures)) (rw c.in_default-2.is at c.in_ok-leaf-2.ensures)) c.in_default-first_unsupported.ensures)
     (rw c.in-Some-3.is at c.in_ok-leaf-3.ensures)
 
-pub returns-in-Some-4-clause-fault : goal.returns-in-Some-4-clause-fault
-returns-in-Some-4-clause-fault g c =
-    signatures_fail _ _ _ _ _ c.in-Some-4.leaf
+pub returns-in-Some-first_unsigned_leaf-clause-fault : goal.returns-in-Some-first_unsigned_leaf-clause-fault
+returns-in-Some-first_unsigned_leaf-clause-fault g c =
+    signatures_fail _ _ _ _ _ c.in-Some-first_unsigned_leaf.leaf
     (keys_hold _ _ _ _ _ (credentials_hold _ _ _ _ _ (requirements_hold _ _ _ _ _ (extensions_hold _ _ _ _ _ (rw c.in_default.is at c.in_ok-leaf.ensures)) (rw c.in_default-2.is at c.in_ok-leaf-2.ensures)) c.in_default-first_unsupported.ensures) (rw c.in_default-3.is at c.in_ok-leaf-3.ensures))
-    (rw c.in-Some-4.is at c.in_ok-leaf-4.ensures)
+    c.in-Some-first_unsigned_leaf.ensures
 
 pub returns-clause-members : goal.returns-clause-members
 returns-clause-members g c =
     signatures_hold _ _ _ _ _
     (keys_hold _ _ _ _ _ (credentials_hold _ _ _ _ _ (requirements_hold _ _ _ _ _ (extensions_hold _ _ _ _ _ (rw c.in_default.is at c.in_ok-leaf.ensures)) (rw c.in_default-2.is at c.in_ok-leaf-2.ensures)) c.in_default-first_unsupported.ensures) (rw c.in_default-3.is at c.in_ok-leaf-3.ensures))
-    (rw c.in_default-4.is at c.in_ok-leaf-4.ensures)
+    c.in_default-first_unsigned_leaf.ensures

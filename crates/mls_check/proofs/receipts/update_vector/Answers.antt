@@ -1,16 +1,15 @@
-use Rattle.std.proofs.Common.{◌++◌, ◌<◌, length, append_assoc, arith}
-use Rattle.mls_check.proofs.Inputs.{length_form-some, vector-some, vector-none}
+use Rattle.std.proofs.Common.{◌++◌, flat_map, append_assoc}
+use Rattle.mls_check.proofs.Inputs.{vector-some, vector-none}
 use Rattle.mls_check.proofs.receipts.update_vector.Goals as goal
 
-pub returns-then-body-gt-MAX_BODY-clause-none : goal.returns-then-body-gt-MAX_BODY-clause-none
-returns-then-body-gt-MAX_BODY-clause-none c =
-    let long : 1073741823 < length c.args.body.now = omega arith in
-    vector-none c.args.body.now long
+pub returns-in_err-len_of_pieces-clause-none : goal.returns-in_err-len_of_pieces-clause-none
+returns-in_err-len_of_pieces-clause-none c = rw c.from_residual.ensures (vector-none (flat_map (λ p. p.now) c.args.body.now) c.in_err-len_of_pieces.ensures)
 
 pub returns-clause-some : goal.returns-clause-some
 returns-clause-some c =
-    let form = length_form-some (length c.args.body.now) c.if-body-gt-MAX_BODY.false in (
-      form.0 ++ c.args.body.now,
-      vector-some c.args.body.now form.0 form.1,
-      λ m held. rw (← append_assoc) (c.update.ensures (m ++ form.0) (c.update_length.ensures m form.0 held form.1)),
+    let body = flat_map (λ p. p.now) c.args.body.now in
+    let len = rw c.in_ok-len_of_pieces.ensures.0 at c.of-len.ensures in (
+      c.of-len.result ++ body,
+      vector-some body c.of-len.result len,
+      λ m held. rw (← append_assoc) (c.update_pieces.ensures (m ++ c.of-len.result) (rw c.as_slice.ensures at (c.update.ensures m held))),
     )

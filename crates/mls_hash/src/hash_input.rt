@@ -86,7 +86,7 @@ fn feed_parent(hasher: &mut Hasher, node: &ParentNode, left_out: &LeafSet<'_>)
 }
 
 /// Feeds the node type 2 and an optional parent node, without the unmerged leaves of the set.
-fn feed_optional_parent(hasher: &mut Hasher, node: Option<&ParentNode>, left_out: &LeafSet<'_>)
+fn feed_type_and_parent(hasher: &mut Hasher, node: Option<&ParentNode>, left_out: &LeafSet<'_>)
     ensures { HoldsMore (encoding.number w8 2 ⊕ encoding.optional layout.parent
         (option_map (stripped_parent left_out.now) (option_copied node.entry))) hasher.old
         hasher.new }
@@ -114,7 +114,7 @@ pub(crate) fn hash_parent(
         left.now right.now) ≡ Some result }
 {
     let mut hasher = Hasher::new(suite);
-    feed_optional_parent(&mut hasher, node, left_out);
+    feed_type_and_parent(&mut hasher, node, left_out);
     feed_two_vectors(&mut hasher, left.as_slice(), right.as_slice());
     hasher.finish()
 }

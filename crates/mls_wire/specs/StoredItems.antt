@@ -5,12 +5,11 @@ use Rattle.std.proofs.lemmas.List.{length-append}
 use Rattle.mls_wire.specs.declared.fault.WireFault.{WireFault}
 use Rattle.mls_wire.specs.Input.{Input, at}
 use Rattle.mls_wire.specs.Encoding.{vector, items, list}
-use Rattle.mls_wire.specs.ReadContracts.{Reads, ReadsBody}
+use Rattle.mls_wire.specs.ReadContracts.{ReadsBody}
 use Rattle.mls_wire.specs.ExactReads.{Gives-body}
 use Rattle.mls_wire.specs.VectorsExact.{vector_within}
 use Rattle.mls_wire.specs.Limits.{vector_limit}
 use Rattle.mls_wire.specs.Parsing.{body_at, items_at, list_at}
-use Rattle.mls_wire.specs.ParsingInternal.{Gives}
 use Rattle.mls_wire.specs.OptionBind.{some_is}
 use Rattle.mls_wire.specs.ExactParsers.{IsExact, IsLong}
 use Rattle.mls_wire.specs.ListLoops.{Shortens, with_front, shortens, items_go_on, items_stop, items_end}

@@ -14,10 +14,10 @@ returns c =
     let node = optional layout.parent (option_map (stripped_parent c.args.left_out.now) (option_copied c.args.node)) in
     let hashes = vector c.args.left.now ⊕ vector c.args.right.now in
     let h0 = c.new-hasher.result in
-    let h1 = c.feed_optional_parent.new.hasher in
+    let h1 = c.feed_type_and_parent.new.hasher in
     let h2 = c.feed_two_vectors.new.hasher in
     hash_held (hash_of c.args.suite) (number w8 2 ⊕ node ⊕ hashes) h0 h2 c.finish.result c.new-hasher.ensures
     (first_two_held (number w8 2) node hashes h0 h2
-    (both_held (number w8 2 ⊕ node) hashes h0 h1 h2 c.feed_optional_parent.ensures
+    (both_held (number w8 2 ⊕ node) hashes h0 h1 h2 c.feed_type_and_parent.ensures
     (subst₂ (λ (l r : List ℕ). HoldsMore (vector l ⊕ vector r) h1 h2) c.as_slice.ensures.bytes c.as_slice-2.ensures.bytes c.feed_two_vectors.ensures)))
     (c.finish.ensures (hash_of c.args.suite))

@@ -6,7 +6,7 @@ use Rattle.mls_wire.specs.IntegersExact.{byte_made}
 use Rattle.mls_nodes.specs.Layout as layout
 use Rattle.mls_hash.specs.WithoutLeaves.{stripped_parent}
 use Rattle.mls_hash.proofs.Feeding.{both_held, bytes_held, first_two_held}
-use Rattle.mls_hash.proofs.hash_input.feed_optional_parent.Goals as goal
+use Rattle.mls_hash.proofs.hash_input.feed_type_and_parent.Goals as goal
 
 pub returns-in-None : goal.returns-in-None
 unfolding optional

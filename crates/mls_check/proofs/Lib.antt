@@ -33,6 +33,7 @@ pub mod ContentLengths
 pub mod Entering
 pub mod Everywhere
 pub mod Carrying
+pub mod CarriedDown
 pub mod Touching
 pub mod SoundSubtrees
 pub mod Remaining

@@ -14,7 +14,7 @@ use Rattle.mls_tree.specs.Tree.{Tree, leaf, branch, leaf_count, subtree_at, entr
 use Rattle.mls_tree.specs.NodeView.{HasChildren}
 use Rattle.mls_tree.proofs.Choices.{below, from}
 use Rattle.mls_tree.proofs.Descent.{depth}
-use Rattle.mls_check.specs.UnmergedInAll.{is_unmerged_in_all_at}
+use Rattle.mls_check.specs.UnmergedInAll.{holds_at, is_unmerged_in_all_at}
 use Rattle.mls_check.specs.UnmergedLists.{is_blank_or_lists, is_unmerged_in_all, is_consistent, HasConsistentUnmergedAt, IsSortedAt, HasSortedList}
 use Rattle.mls_check.proofs.Elements.{contains-head, contains-tail, all-each, and-left}
 use Rattle.mls_check.proofs.Outside.{outside_above}
@@ -61,33 +61,38 @@ module _ (t : Tree) (p index : ℕ) (x : Option LeafNode) (at : subtree_at 0 t p
 pub left_lower : (t : Tree) (p q u m : ℕ) (n : Option ParentNode) (h : HasChildren t p q u m n) → depth (subtree_at 0 t q) < depth (subtree_at 0 t p)
 left_lower t p q u m n h = omega (arith, ap depth h.left_child, ap depth h.whole)
 
+-- under a parent, a test of the leaves in the half that they lie in
+module _ (test : ℕ → ℕ → Tree → Bool) (t : Tree) (p q u m : ℕ) (n : Option ParentNode) (h : HasChildren t p q u m n) where
+  abbrev pub in_half : ℕ → Bool
+  in_half i = if nat_lt i (h.first + leaf_count h.left) then test i h.first h.left else test i (h.first + leaf_count h.left) h.right
+
+  pub halves-apart : (leaves before after : List ℕ) → leaves ≡ before ++ after → All (λ i. i < m) before → All (λ i. m ≤ i) after
+      → list_all in_half leaves ≡ (list_all (λ i. holds_at test (subtree_at 0 t q) i) before && list_all (λ i. holds_at test (subtree_at 0 t u) i) after)
+  halves-apart leaves before after e low high =
+      ap (λ xs. list_all in_half xs) e
+      ∙ list_all-append in_half before after
+      ∙ ap (λ a. a && list_all in_half after)
+      (list_all-same in_half (λ i. holds_at test (subtree_at 0 t q) i) before
+      (All-weaker (λ i. i < m) (λ i. in_half i ≡ holds_at test (subtree_at 0 t q) i)
+      (λ i l. below i (h.first + leaf_count h.left) (test i h.first h.left) (test i (h.first + leaf_count h.left) h.right) (let s = h.split in omega (arith, l, s)) ∙ sym (ap (λ s. holds_at test s i) h.left_child)) before low))
+      ∙ ap (λ a. list_all (λ i. holds_at test (subtree_at 0 t q) i) before && a)
+      (list_all-same in_half (λ i. holds_at test (subtree_at 0 t u) i) after
+      (All-weaker (λ i. m ≤ i) (λ i. in_half i ≡ holds_at test (subtree_at 0 t u) i)
+      (λ i l. from i (h.first + leaf_count h.left) (test i h.first h.left) (test i (h.first + leaf_count h.left) h.right) (let s = h.split in omega (arith, l, s)) ∙ sym (ap (λ s. holds_at test s i) h.right_child)) after high))
+
 -- under a parent, those that it lists and that are entered in the half that they lie in
 module _ (t : Tree) (p q u m : ℕ) (n : Option ParentNode) (h : HasChildren t p q u m n) where
   abbrev pub in_child : ℕ → Bool
-  in_child i = if nat_lt i (h.first + leaf_count h.left) then is_unmerged_in_all i h.first h.left else is_unmerged_in_all i (h.first + leaf_count h.left) h.right
+  in_child i = in_half is_unmerged_in_all t p q u m n h i
 
   pub parent-entered : (leaves : List ℕ) → list_all (λ i. is_unmerged_in_all_at (subtree_at 0 t p) i) leaves ≡ (list_all (λ i. is_blank_or_lists n i) leaves && list_all in_child leaves)
   parent-entered leaves = (λ j. list_all (λ i. is_unmerged_in_all_at (h.whole j) i) leaves) ∙ list_all-and (λ i. is_blank_or_lists n i) in_child leaves
-
-  pub children-entered : (leaves before after : List ℕ) → leaves ≡ before ++ after → All (λ i. i < m) before → All (λ i. m ≤ i) after
-      → list_all in_child leaves ≡ (list_all (λ i. is_unmerged_in_all_at (subtree_at 0 t q) i) before && list_all (λ i. is_unmerged_in_all_at (subtree_at 0 t u) i) after)
-  children-entered leaves before after e low high =
-      ap (λ xs. list_all in_child xs) e
-      ∙ list_all-append in_child before after
-      ∙ ap (λ a. a && list_all in_child after)
-      (list_all-same in_child (λ i. is_unmerged_in_all_at (subtree_at 0 t q) i) before
-      (All-weaker (λ i. i < m) (λ i. in_child i ≡ is_unmerged_in_all_at (subtree_at 0 t q) i)
-      (λ i l. below i (h.first + leaf_count h.left) (is_unmerged_in_all i h.first h.left) (is_unmerged_in_all i (h.first + leaf_count h.left) h.right) (let s = h.split in omega (arith, l, s)) ∙ sym (ap (λ s. is_unmerged_in_all_at s i) h.left_child)) before low))
-      ∙ ap (λ a. list_all (λ i. is_unmerged_in_all_at (subtree_at 0 t q) i) before && a)
-      (list_all-same in_child (λ i. is_unmerged_in_all_at (subtree_at 0 t u) i) after
-      (All-weaker (λ i. m ≤ i) (λ i. in_child i ≡ is_unmerged_in_all_at (subtree_at 0 t u) i)
-      (λ i l. from i (h.first + leaf_count h.left) (is_unmerged_in_all i h.first h.left) (is_unmerged_in_all i (h.first + leaf_count h.left) h.right) (let s = h.split in omega (arith, l, s)) ∙ sym (ap (λ s. is_unmerged_in_all_at s i) h.right_child)) after high))
 
   pub apart-entered : (leaves before after : List ℕ) → leaves ≡ before ++ after → All (λ i. i < m) before → All (λ i. m ≤ i) after → list_all (λ i. is_blank_or_lists n i) leaves ≡ true
       → list_all (λ i. is_unmerged_in_all_at (subtree_at 0 t p) i) leaves
       ≡ (list_all (λ i. is_unmerged_in_all_at (subtree_at 0 t q) i) before && list_all (λ i. is_unmerged_in_all_at (subtree_at 0 t u) i) after)
   apart-entered leaves before after e low high listed =
-      parent-entered leaves ∙ ap (λ a. a && list_all in_child leaves) listed ∙ children-entered leaves before after e low high
+      parent-entered leaves ∙ ap (λ a. a && list_all in_child leaves) listed ∙ halves-apart is_unmerged_in_all t p q u m n h leaves before after e low high
 
 -- a parent lists each of its own leaves
 own-listed : (n : ParentNode) (xs : List ℕ) → ((i : ℕ) → Contains xs i → Contains n.unmerged i) → list_all (λ i. is_blank_or_lists (Some n) i) xs ≡ true

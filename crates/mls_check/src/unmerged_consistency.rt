@@ -1,8 +1,12 @@
 //! Whether unmerged leaves are consistent: each is a non-blank leaf below the parent, and every non-blank parent in
 //! between lists it (RFC 9420, 12.4.3.1).
 //!
-//! A list is walked once along the tree below its parent. It is split at the middle of each parent, and not passed to a
-//! subtree without entries. It is compared with the list of each non-blank parent in between.
+//! If each list is carried down, each is consistent: then each of its leaves is listed by the next non-blank parent on the
+//! way down to it, which is asked of this parent's list in turn. So a list is walked along blank parents only, down to the
+//! next lists. It is split at the middle of each parent, and not passed to a subtree without entries.
+//!
+//! If one is not carried down, the first inconsistent one is looked for. A list is then walked along the whole tree below
+//! its parent, and compared with the list of each non-blank parent in between.
 
 ghost use Rattle.std.specs.Prelude.{◌≡◌, ◌↔◌, IsTrue, IfSome};
 ghost use Rattle.std.specs.Option.{option_copied};
@@ -10,14 +14,83 @@ ghost use Rattle.std.specs.List.{list_all};
 ghost use Rattle.std.specs.List.Sorted.{IsStrictlyIncreasing};
 ghost use Rattle.mls_tree.specs.Tree.{subtree_at};
 ghost use Rattle.mls_check.specs.FirstFailureInternal.{IsFirstFailureIn};
-ghost use Rattle.mls_check.specs.UnmergedLists.{HasStrictlyIncreasingLists, HasConsistentUnmergedAt, is_blank_or_lists, is_unmerged_in_all};
+ghost use Rattle.mls_check.specs.UnmergedLists.{HasStrictlyIncreasingLists, HasConsistentUnmerged, HasConsistentUnmergedAt, is_blank_or_lists, is_unmerged_in_all};
 ghost use Rattle.mls_check.specs.UnmergedListsInternal.{HasSortedEntries};
-ghost use Rattle.mls_check.specs.UnmergedInAll.{is_unmerged_in_all_at};
+ghost use Rattle.mls_check.specs.UnmergedInAll.{is_unmerged_in_all_at, is_listed_by_next_at, IsCarriedDownAt};
 
 use crate::node_count::node_index_count;
 use crate::sorted_leaf_lists::{are_among, is_only};
 use mls_nodes::ParentNode;
 use mls_tree::{Part, PublicTree, split_leaves};
+
+/// Returns whether each of the leaves is listed by the next non-blank parent on the way down to it from a node index. If
+/// there is none on the way to a leaf, the leaf must be non-blank and in the subtree. If the answer is no, nothing is
+/// known.
+fn are_listed_by_next(tree: &PublicTree, leaves: &[u32], node_index: u32) -> bool
+    requires sorted { HasStrictlyIncreasingLists tree.now.tree }
+    requires increasing { IsStrictlyIncreasing leaves.now }
+    ensures { IsTrue result
+        → IsTrue (list_all (λ i. is_listed_by_next_at (subtree_at 0 tree.now.tree node_index) i) leaves.now) }
+{
+    if leaves.is_empty() {
+        return true;
+    }
+    match tree.part(node_index) {
+        None => false,
+        Some(Part::Leaf { index, node }) => is_only(leaves, index) && node.is_some(),
+        Some(
+            Part::Parent {
+                node: Some(parent),
+                ..
+            },
+        ) => are_among(leaves, parent.unmerged.as_slice()),
+        Some(
+            Part::Parent {
+                node: None,
+                left,
+                right,
+                middle,
+            },
+        ) => {
+            let (before, after) = split_leaves(leaves, middle);
+            are_listed_by_next(tree, before, left) && are_listed_by_next(tree, after, right)
+        }
+    }
+}
+
+/// Returns whether the unmerged list of the parent at a node index, if it has one, is carried down. If the answer is no,
+/// nothing is known.
+fn is_carried_down(tree: &PublicTree, node_index: u32) -> bool
+    requires { HasStrictlyIncreasingLists tree.now.tree }
+    ensures { IsTrue result → IsCarriedDownAt tree.now.tree node_index }
+{
+    let Some(
+        Part::Parent {
+            node: Some(parent),
+            left,
+            right,
+            middle,
+        },
+    ) = tree.part(node_index)
+    else {
+        return true;
+    };
+    let (before, after) = split_leaves(parent.unmerged.as_slice(), middle);
+    are_listed_by_next(tree, before, left) && are_listed_by_next(tree, after, right)
+}
+
+/// Returns whether each unmerged list is carried down. Then each is consistent. If the answer is no, nothing is known.
+fn are_carried_down(tree: &PublicTree) -> bool
+    requires { HasStrictlyIncreasingLists tree.now.tree }
+    ensures { IsTrue result → HasConsistentUnmerged tree.now.tree }
+{
+    for node_index in 0..node_index_count(tree) {
+        if !is_carried_down(tree, node_index) {
+            return false;
+        }
+    }
+    true
+}
 
 /// Returns whether a parent has each of the leaves in its unmerged list, or is blank.
 fn lists_all(parent: Option<&ParentNode>, leaves: &[u32]) -> bool
@@ -84,6 +157,9 @@ pub(crate) fn first_inconsistent_unmerged(tree: &PublicTree) -> Option<u32>
     requires { HasStrictlyIncreasingLists tree.now.tree }
     ensures { IsFirstFailureIn (HasConsistentUnmergedAt tree.now.tree) result }
 {
+    if are_carried_down(tree) {
+        return None;
+    }
     for node_index in 0..node_index_count(tree) {
         if !has_consistent_unmerged_at(tree, node_index) {
             return Some(node_index);

@@ -14,7 +14,7 @@ use Rattle.mls_follow.specs.State.{State}
 use Rattle.mls_report.specs.Finding.{finding_verdict}
 use Rattle.mls_report.specs.StartInputs.{IsStartFinding}
 use Rattle.mls_report.specs.declared.finding.Finding.{Finding}
-use Rattle.mls_report.specs.declared.verdict.Verdict.TheVariants.{No}
+use Rattle.mls_show.specs.declared.verdict.Verdict.TheVariants.{No}
 use Rattle.mls_c.specs.declared.group_follower.GroupFollower.{GroupFollower}
 use Rattle.mls_c.specs.declared.input_verdict.InputVerdict.{InputVerdict}
 use Rattle.mls_c.specs.Followers.{state_in}

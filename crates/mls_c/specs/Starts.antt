@@ -17,7 +17,7 @@ use Rattle.mls_report.specs.StartInputs.{IsReadAs, IsStarted, IsStartFinding}
 use Rattle.mls_report.specs.ValidateTree.{IsTreeFinding}
 use Rattle.mls_report.specs.declared.finding.Finding.{Finding}
 use Rattle.mls_report.specs.declared.finding.Finding.TheVariants as findings
-use Rattle.mls_report.specs.declared.verdict.Verdict.TheVariants.{No}
+use Rattle.mls_show.specs.declared.verdict.Verdict.TheVariants.{No}
 use Rattle.mls_c.specs.declared.group_follower.GroupFollower.{GroupFollower}
 use Rattle.mls_c.specs.declared.input_verdict.InputVerdict.{InputVerdict}
 use Rattle.mls_c.specs.Buffers.{IsPut}

@@ -3,8 +3,8 @@ use Rattle.std.proofs.Common.{◌≡◌, Bool, true, false, Ok, Err, Result, ref
 use Rattle.std.specs.Prelude.{◌↔◌, ◌≢◌, IfErr}
 use Rattle.mls_cli.specs.Execution.{MeansWrite}
 use Rattle.mls_cli.specs.ReportResult.{ReportResult}
-use Rattle.mls_report.specs.declared.verdict.RunFault.{RunFault}
-use Rattle.mls_report.specs.declared.verdict.RunFault.TheVariants.{Read, Write}
+use Rattle.mls_show.specs.declared.verdict.RunFault.{RunFault}
+use Rattle.mls_show.specs.declared.verdict.RunFault.TheVariants.{Read, Write}
 
 -- ---- the fault of a report
 

@@ -7,28 +7,28 @@ use Rattle.mls_check.specs.Signatures.{VerifyFn}
 use Rattle.mls_cli.specs.Files.{Opener, Opens, OpensNamed, IsOpened, CannotOpen, CannotOpenNamed}
 use Rattle.mls_cli.specs.ProgramCheckers.{RunsWithCheckerOrEnds}
 use Rattle.mls_cli.specs.ReportResult.{ReportResult}
-use Rattle.mls_cli.specs.declared.order.GroupReport.{GroupReport}
-use Rattle.mls_cli.specs.declared.order.GroupReport.TheVariants.{ValidateTree, Validate, Replay, Signatures, Gate}
-use Rattle.mls_cli.specs.declared.order.GroupFiles.{GroupFiles}
-use Rattle.mls_cli.specs.declared.order.GroupFiles.TheVariants.{Info, State}
-use Rattle.mls_cli.specs.declared.order.ReplayFiles.{ReplayFiles}
-use Rattle.mls_cli.specs.declared.order.Order.{Order}
-use Rattle.mls_cli.specs.declared.order.Order.TheVariants.{Show, Group, Check}
+use Rattle.mls_commands.specs.declared.order.GroupReport.{GroupReport}
+use Rattle.mls_commands.specs.declared.order.GroupReport.TheVariants.{ValidateTree, Validate, Replay, Signatures, Gate}
+use Rattle.mls_commands.specs.declared.order.GroupFiles.{GroupFiles}
+use Rattle.mls_commands.specs.declared.order.GroupFiles.TheVariants.{Info, State}
+use Rattle.mls_commands.specs.declared.order.ReplayFiles.{ReplayFiles}
+use Rattle.mls_commands.specs.declared.order.Order.{Order}
+use Rattle.mls_commands.specs.declared.order.Order.TheVariants.{Show, Group, Check}
 use Rattle.mls_gate.specs.GateReport.{Gates, GatesPart, GatesState, GatesStatePart}
 use Rattle.mls_follow.specs.State as follower
 use Rattle.mls_follow.specs.StoredState.{EncodesState, HasNoFile}
 use Rattle.mls_msgs.specs.declared.profile.Profile.{Profile}
 use Rattle.mls_report.specs.Replay.{ReplaysGroupTo, ReplaysPart, ReplaysStateTo, ReplaysStatePart}
-use Rattle.mls_report.specs.Show.{Shows, ShowsPart}
+use Rattle.mls_show.specs.Show.{Shows, ShowsPart}
 use Rattle.mls_report.specs.SignaturesReport.{SignaturesPart, SignaturesState, SignaturesStatePart}
 use Rattle.mls_report.specs.SignaturesReport as signatures
 use Rattle.mls_report.specs.StartInputs.{has_failed}
 use Rattle.mls_report.specs.Validate.{Validates, ValidatesPart, ValidatesState, ValidatesStatePart}
 use Rattle.mls_report.specs.ValidateTree.{ValidatesTree, ValidatesTreePart}
-use Rattle.mls_report.specs.declared.verdict.RunFault.{RunFault}
-use Rattle.mls_report.specs.declared.verdict.RunFault.TheVariants.{Read, Write, Memory}
-use Rattle.mls_report.specs.declared.verdict.Verdict.{Verdict}
-use Rattle.mls_report.specs.declared.show.ShowKind.{ShowKind}
+use Rattle.mls_show.specs.declared.verdict.RunFault.{RunFault}
+use Rattle.mls_show.specs.declared.verdict.RunFault.TheVariants.{Read, Write, Memory}
+use Rattle.mls_show.specs.declared.verdict.Verdict.{Verdict}
+use Rattle.mls_show.specs.declared.show.ShowKind.{ShowKind}
 use Rattle.mls_vectors.specs.CheckReport.{Checks, ChecksPart}
 use Rattle.mls_vectors.specs.declared.check.CheckKind.{CheckKind}
 

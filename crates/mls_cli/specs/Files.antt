@@ -2,9 +2,9 @@
 use Rattle.std.specs.Prelude.{ℕ, List, [], Bool, true, Option, Some, None, Err, ◌≡◌, ◌≢◌, ◌↔◌, ◌⊎◌}
 use Rattle.std.specs.Io.KnownBytes.{Appends}
 use Rattle.mls_cli.specs.ReportResult.{ReportResult}
-use Rattle.mls_report.specs.ReadAll.{ReadsAll, ReadsSome}
-use Rattle.mls_report.specs.declared.verdict.RunFault.{RunFault}
-use Rattle.mls_report.specs.declared.verdict.RunFault.TheVariants.{Read, Write}
+use Rattle.mls_show.specs.ReadAll.{ReadsAll, ReadsSome}
+use Rattle.mls_show.specs.declared.verdict.RunFault.{RunFault}
+use Rattle.mls_show.specs.declared.verdict.RunFault.TheVariants.{Read, Write}
 
 -- `Opener`: what contracts know of an opener of files. `gives name file`: the file with this name may be opened as
 -- `file`. `lacks name`: opening it may fail. `stores name bytes`: the file with this name may be one that was stored with

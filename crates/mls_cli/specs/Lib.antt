@@ -1,11 +1,7 @@
 pub mod Execution
-pub mod ClapCommands
-pub mod ClapPartsInternal
 pub mod Files
 pub mod ProgramCheckers
 pub mod ProgramCheckersInternal
 pub mod CheckerFaults
-pub mod Orders
 pub mod ReportResult
 pub mod Program
-pub mod FaultStatus

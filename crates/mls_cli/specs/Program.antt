@@ -7,15 +7,15 @@ use Rattle.clap.specs.Words.{Text}
 use Rattle.mls_wire.specs.Devices.{AppendsPrefix}
 use Rattle.mls_cli.specs.Execution.{ExecutesOrder, MeansWrite, stores_state}
 use Rattle.mls_cli.specs.Files.{Opener}
-use Rattle.mls_cli.specs.Orders.{IsOrderOf, IsHelp, IsUsage, AsksForHelp, AsksForHelpAlone, RefusesArguments}
+use Rattle.mls_commands.specs.Orders.{IsOrderOf, IsHelp, IsUsage, AsksForHelp, AsksForHelpAlone, RefusesArguments}
 use Rattle.mls_cli.specs.ReportResult.{ReportResult}
-use Rattle.mls_cli.specs.FaultStatus.{fault_status}
-use Rattle.mls_cli.specs.declared.order.Order.{Order}
-use Rattle.mls_cli.specs.declared.order.OrderFault.{OrderFault}
-use Rattle.mls_cli.specs.declared.order.OrderFault.TheVariants as order
-use Rattle.mls_report.specs.Status.{status}
-use Rattle.mls_report.specs.declared.verdict.RunFault.TheVariants.{Read, Write, Memory}
-use Rattle.mls_report.specs.declared.verdict.Verdict.TheVariants.{Yes}
+use Rattle.mls_commands.specs.FaultStatus.{fault_status}
+use Rattle.mls_commands.specs.declared.order.Order.{Order}
+use Rattle.mls_commands.specs.declared.order.OrderFault.{OrderFault}
+use Rattle.mls_commands.specs.declared.order.OrderFault.TheVariants as order
+use Rattle.mls_show.specs.Status.{status}
+use Rattle.mls_show.specs.declared.verdict.RunFault.TheVariants.{Read, Write, Memory}
+use Rattle.mls_show.specs.declared.verdict.Verdict.TheVariants.{Yes}
 
 -- `fault_note outcome` is what is noted of how a report ended: a fault, by its name.
 abbrev pub fault_note : ReportResult → List ℕ

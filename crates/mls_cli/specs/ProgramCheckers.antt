@@ -7,11 +7,11 @@ use Rattle.mls_check.specs.Signatures.{VerifyFn}
 use Rattle.mls_check.specs.declared.receipts.ReceiptsFault.{ReceiptsFault}
 use Rattle.mls_cli.specs.Files.{Opener, ReadsFile, CannotReadFile}
 use Rattle.mls_cli.specs.ReportResult.{ReportResult}
-use Rattle.mls_cli.specs.declared.order.CheckerChoice.{CheckerChoice}
-use Rattle.mls_cli.specs.declared.order.CheckerChoice.TheVariants as checker
+use Rattle.mls_commands.specs.declared.order.CheckerChoice.{CheckerChoice}
+use Rattle.mls_commands.specs.declared.order.CheckerChoice.TheVariants as checker
 use Rattle.mls_report.specs.UnreadableReceipts.{ReportsReceipts, receipts_line}
-use Rattle.mls_report.specs.declared.verdict.RunFault.{RunFault}
-use Rattle.mls_report.specs.declared.verdict.RunFault.TheVariants.{Read, Write, Memory}
+use Rattle.mls_show.specs.declared.verdict.RunFault.{RunFault}
+use Rattle.mls_show.specs.declared.verdict.RunFault.TheVariants.{Read, Write, Memory}
 
 module _ {File : Type 0} (F : Opener File) where
   -- `HasReceipts name G`: the receipts file was read, and `G` accepts the signatures that it lists.

@@ -11,11 +11,10 @@ ghost use Rattle.mls_cli.specs.ProgramCheckersInternal.{checker_verify};
 ghost use Rattle.mls_report.specs.StartInputs.{has_failed};
 ghost use Rattle.mls_cli.specs.CheckerFaults.{IsCheckerFault};
 
-use crate::file_name::FileName;
 use crate::files::Files;
 use crate::load_checker::read_judge;
-use crate::order::{CheckerChoice, GroupFiles, GroupReport, Order, ReplayFiles};
 use crate::program_checker::{CheckerFault, ProgramChecker};
+use mls_commands::{CheckerChoice, FileName, GroupFiles, GroupReport, Order, ReplayFiles};
 use mls_follow::Follower;
 use mls_gate::{run_gate_in, run_gate_state};
 use mls_msgs::Profile;

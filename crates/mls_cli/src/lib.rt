@@ -1,20 +1,19 @@
-//! The commands of the program `mlscheck`, and how they are executed.
+//! How the commands of the program `mlscheck` are executed. The commands of [`mls_commands`] and the reports are
+//! re-exported.
 #![tactic(auto)]
 
-mod clap_command;
 mod execution;
-mod file_name;
 mod files;
 mod load_checker;
-mod order;
-mod parse_order;
 mod program;
 mod program_checker;
 mod progress;
 
 pub use execution::execute_order;
-pub use file_name::FileName;
 pub use files::Files;
+pub use mls_commands::{
+    CheckerChoice, FileName, GroupFiles, GroupReport, Order, OrderFault, ReplayFiles, order_of,
+};
 pub use mls_msgs::Profile;
 pub use mls_report::{
     RunFault, ShowKind, Verdict, read_all, run_replay, run_replay_in, run_replay_state, run_show,
@@ -22,7 +21,5 @@ pub use mls_report::{
     run_validate, run_validate_in, run_validate_state, run_validate_tree, status_of,
 };
 pub use mls_vectors::{CheckKind, run_check};
-pub use order::{CheckerChoice, GroupFiles, GroupReport, Order, OrderFault, ReplayFiles};
-pub use parse_order::order_of;
 pub use program::{run_fault, run_program};
 pub use progress::Progress;

@@ -7,8 +7,7 @@ ghost use Rattle.mls_cli.specs.Program as program;
 
 use crate::execution::execute_order;
 use crate::files::Files;
-use crate::order::{Order, OrderFault};
-use crate::parse_order::order_of;
+use mls_commands::{Order, OrderFault, order_of};
 use mls_report::{RunFault, Verdict, status_of, write_text};
 use mls_wire::{Sink, write_all};
 use std::alloc::Global;

@@ -17,8 +17,8 @@ use Rattle.mls_signatures.specs.declared.signature_to_verify.SignatureToVerify.{
 use Rattle.mls_report.specs.Finding.{finding_line}
 use Rattle.mls_report.specs.SignaturesReport.{HasSignatures}
 use Rattle.mls_report.specs.StartInputs.{ReadsBoth}
-use Rattle.mls_report.specs.declared.verdict.Verdict.{Verdict}
-use Rattle.mls_report.specs.declared.verdict.Verdict.TheVariants.{No}
+use Rattle.mls_show.specs.declared.verdict.Verdict.{Verdict}
+use Rattle.mls_show.specs.declared.verdict.Verdict.TheVariants.{No}
 use Rattle.mls_report.proofs.LogsExist.{Begins, Breaks, comes}
 use Rattle.mls_report.proofs.ReplaysExist.{read_input, read_optional_tree}
 use Rattle.mls_gate.specs.Answers as specs

@@ -8,7 +8,7 @@ use Rattle.mls_msgs.specs.declared.profile.Profile.{Profile}
 use Rattle.mls_follow.specs.CoveredLogs.{all_good}
 use Rattle.mls_report.specs.Finding.{finding_line}
 use Rattle.mls_report.specs.UniqueReports.{AreAlikeTexts}
-use Rattle.mls_report.specs.declared.verdict.Verdict.{Verdict}
+use Rattle.mls_show.specs.declared.verdict.Verdict.{Verdict}
 use Rattle.mls_report.proofs.InputsOnce.{written_is, one_input, one_tree_input}
 use Rattle.mls_gate.specs.Answers.{query_text}
 use Rattle.mls_gate.specs.FirstStates.{CanStart, Declines, ReadsGroup, ReadsState}

@@ -10,8 +10,8 @@ use Rattle.mls_follow.specs.MessageSignatures.{state_signatures}
 use Rattle.mls_follow.specs.State.{State}
 use Rattle.mls_report.proofs.StartLines.{prefix-more, prefix-behind, leaves_below, leaves-more, leaves-all}
 use Rattle.mls_report.specs.SignaturesSteps.{signatures_of_leaf, LinesWithoutMemory, StopsInLines}
-use Rattle.mls_report.specs.declared.verdict.RunFault.{RunFault}
-use Rattle.mls_report.specs.declared.verdict.RunFault.TheVariants.{Read, Write, Memory}
+use Rattle.mls_show.specs.declared.verdict.RunFault.{RunFault}
+use Rattle.mls_show.specs.declared.verdict.RunFault.TheVariants.{Read, Write, Memory}
 use Rattle.mls_gate.specs.Answers.{is_known, verify_line, verify_lines, query_count_line, query_text, unknown_count}
 use Rattle.mls_gate.specs.GateSteps.{StopsInStartLines}
 

@@ -8,7 +8,7 @@ use Rattle.mls_check.specs.Signatures.{VerifyFn}
 use Rattle.mls_signatures.proofs.Fronts.{front-more}
 use Rattle.mls_signatures.specs.declared.signature_to_verify.SignatureToVerify.{SignatureToVerify}
 use Rattle.mls_report.specs.SignaturesSteps.{LinesWithoutMemory, StopsInLines}
-use Rattle.mls_report.specs.declared.verdict.RunFault.{RunFault}
+use Rattle.mls_show.specs.declared.verdict.RunFault.{RunFault}
 use Rattle.mls_report.proofs.Replaying.{Appends-nil}
 use Rattle.mls_report.proofs.StartLines.{wrote-at, stops-at}
 use Rattle.mls_gate.specs.Answers.{verify_lines, unknown_count}

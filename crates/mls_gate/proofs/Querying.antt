@@ -8,8 +8,8 @@ use Rattle.mls_check.specs.Signatures.{VerifyFn}
 use Rattle.mls_signatures.specs.declared.signature_to_verify.SignatureToVerify.{SignatureToVerify}
 use Rattle.mls_follow.specs.State.{State}
 use Rattle.mls_report.proofs.Replaying.{Appends-nil}
-use Rattle.mls_report.specs.declared.verdict.RunFault.{RunFault}
-use Rattle.mls_report.specs.declared.verdict.RunFault.TheVariants.{Read, Write, Memory}
+use Rattle.mls_show.specs.declared.verdict.RunFault.{RunFault}
+use Rattle.mls_show.specs.declared.verdict.RunFault.TheVariants.{Read, Write, Memory}
 use Rattle.mls_gate.specs.Answers.{Outcome, Ends, Queries, query_text, broken_line}
 use Rattle.mls_gate.specs.GateSteps.{Answered, IsQueried, Replies, RespondsIn, StopsAnswering, StopsInStartLines}
 use Rattle.mls_gate.specs.Phases.{Phase, Following}

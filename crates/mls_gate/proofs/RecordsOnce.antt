@@ -6,8 +6,8 @@ use Rattle.mls_wire.specs.Logs.{ReadsRecord}
 use Rattle.mls_wire.specs.declared.log.LogStep.{LogStep}
 use Rattle.mls_wire.specs.declared.log.LogStep.TheVariants as steps
 use Rattle.mls_report.specs.Replay.{AreRecords}
-use Rattle.mls_report.specs.declared.verdict.Verdict.{Verdict}
-use Rattle.mls_report.specs.declared.verdict.Verdict.TheVariants.{No}
+use Rattle.mls_show.specs.declared.verdict.Verdict.{Verdict}
+use Rattle.mls_show.specs.declared.verdict.Verdict.TheVariants.{No}
 use Rattle.mls_gate.specs.Answers.{Goes, Ends, Answers, broken_line}
 use Rattle.mls_gate.specs.GateReport.{Turn, AreAnswered, phase_after, answers, record_limit, IsEnding, ReportsRecords}
 use Rattle.mls_gate.specs.Phases.{Phase, end_verdict}

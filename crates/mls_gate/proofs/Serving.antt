@@ -6,10 +6,10 @@ use Rattle.mls_wire.specs.Devices.{AppendsPrefix}
 use Rattle.mls_wire.proofs.KnownBytes.{Appends-trans, Consumes-trans}
 use Rattle.mls_wire.specs.Logs.{IsRecord, IsBrokenAt, IsIncomplete}
 use Rattle.mls_report.specs.Replay.{AreRecords}
-use Rattle.mls_report.specs.declared.verdict.RunFault.{RunFault}
-use Rattle.mls_report.specs.declared.verdict.RunFault.TheVariants.{Read, Write, Memory}
-use Rattle.mls_report.specs.declared.verdict.Verdict.{Verdict}
-use Rattle.mls_report.specs.declared.verdict.Verdict.TheVariants.{No}
+use Rattle.mls_show.specs.declared.verdict.RunFault.{RunFault}
+use Rattle.mls_show.specs.declared.verdict.RunFault.TheVariants.{Read, Write, Memory}
+use Rattle.mls_show.specs.declared.verdict.Verdict.{Verdict}
+use Rattle.mls_show.specs.declared.verdict.Verdict.TheVariants.{No}
 use Rattle.mls_report.proofs.Replaying.{Consumes-nil, Appends-nil}
 use Rattle.mls_report.specs.ReplaySteps.{ReadsUndecided}
 use Rattle.mls_check.specs.Signatures.{VerifyFn}

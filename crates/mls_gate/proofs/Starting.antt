@@ -12,9 +12,9 @@ use Rattle.mls_report.specs.StateInputs.{DeclinesState}
 use Rattle.mls_report.specs.declared.finding.Finding.{Finding}
 use Rattle.mls_report.specs.declared.read_inputs.StartFailure.{StartFailure}
 use Rattle.mls_report.specs.declared.read_inputs.StartFailure.TheVariants.{Found, Fault}
-use Rattle.mls_report.specs.declared.verdict.RunFault.{RunFault}
-use Rattle.mls_report.specs.declared.verdict.RunFault.TheVariants.{Read, Write, Memory}
-use Rattle.mls_report.specs.declared.verdict.Verdict.{Verdict}
+use Rattle.mls_show.specs.declared.verdict.RunFault.{RunFault}
+use Rattle.mls_show.specs.declared.verdict.RunFault.TheVariants.{Read, Write, Memory}
+use Rattle.mls_show.specs.declared.verdict.Verdict.{Verdict}
 use Rattle.mls_report.proofs.Replaying.{Appends-nil}
 use Rattle.mls_gate.specs.FirstStates.{StartSignatures, CanStart, Declines}
 use Rattle.mls_gate.specs.GateReport.{GatesOf, GateBefore, GatesPartOf}

@@ -17,7 +17,7 @@ use Rattle.mls_report.specs.FaultText.{member_fault_text}
 use Rattle.mls_report.specs.Finding.{finding_line}
 use Rattle.mls_report.specs.Replay.{ended_text}
 use Rattle.mls_report.specs.SignaturesReport.{HasSignatures, signature_line}
-use Rattle.mls_report.specs.ValueTexts.{hex_text}
+use Rattle.mls_show.specs.ValueTexts.{hex_text}
 use Rattle.mls_report.specs.declared.finding.Finding.{Finding}
 use Rattle.mls_gate.specs.FirstStates.{IsFirstState, Refuses}
 use Rattle.mls_gate.specs.Phases.{Inputs, Phase, Opening, Following}

@@ -14,13 +14,13 @@ use Rattle.mls_follow.specs.StoredRuns.{is_unreadable}
 use Rattle.mls_follow.specs.declared.resume_fault.ResumeFault.{ResumeFault}
 use Rattle.mls_follow.specs.declared.start_fault.StartFault.{StartFault}
 use Rattle.mls_report.specs.Finding.{finding_verdict}
-use Rattle.mls_report.specs.ReadAll.{ReadsAll}
+use Rattle.mls_show.specs.ReadAll.{ReadsAll}
 use Rattle.mls_report.specs.SignaturesReport.{StartHasSignatures}
 use Rattle.mls_report.specs.StartInputs.{IsReadAs, IsStarted, IsStartFinding, ReadsBoth}
 use Rattle.mls_report.specs.StateInputs.{IsStateFinding}
 use Rattle.mls_report.specs.declared.finding.Finding.{Finding}
 use Rattle.mls_report.specs.declared.finding.Finding.TheVariants.{StartRefused, StateRefused}
-use Rattle.mls_report.specs.declared.verdict.Verdict.TheVariants.{No}
+use Rattle.mls_show.specs.declared.verdict.Verdict.TheVariants.{No}
 use Rattle.mls_gate.specs.Phases.{GroupFiles, Inputs, OfGroup, OfState}
 
 -- ---- a follower

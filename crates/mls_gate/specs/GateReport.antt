@@ -13,10 +13,10 @@ use Rattle.mls_follow.specs.CoveredLogs.{all_good}
 use Rattle.mls_report.specs.Finding.{finding_line}
 use Rattle.mls_report.specs.Replay.{AreRecords, IsLeftOver, ReportsNothing}
 use Rattle.mls_report.specs.declared.finding.Finding.{Finding}
-use Rattle.mls_report.specs.declared.verdict.RunFault.{RunFault}
-use Rattle.mls_report.specs.declared.verdict.RunFault.TheVariants.{Read, Write, Memory}
-use Rattle.mls_report.specs.declared.verdict.Verdict.{Verdict}
-use Rattle.mls_report.specs.declared.verdict.Verdict.TheVariants.{No}
+use Rattle.mls_show.specs.declared.verdict.RunFault.{RunFault}
+use Rattle.mls_show.specs.declared.verdict.RunFault.TheVariants.{Read, Write, Memory}
+use Rattle.mls_show.specs.declared.verdict.Verdict.{Verdict}
+use Rattle.mls_show.specs.declared.verdict.Verdict.TheVariants.{No}
 use Rattle.mls_gate.specs.Answers.{Answers, Goes, Ends, verify_lines, query_text, broken_line}
 use Rattle.mls_gate.specs.FirstStates.{CanStart, Declines, ReadsGroup, ReadsState}
 use Rattle.mls_gate.specs.Phases.{Inputs, Phase, Opening, end_verdict}

@@ -4,7 +4,7 @@ use Rattle.std.specs.Prelude.{◌≡◌, ℕ, List, ◌++◌, Option, Some, opti
 use Rattle.mls_check.specs.Signatures.{VerifyFn}
 use Rattle.mls_msgs.specs.declared.profile.Profile.{Profile}
 use Rattle.mls_report.specs.UniqueReports.{AreAlikeTexts}
-use Rattle.mls_report.specs.declared.verdict.Verdict.{Verdict}
+use Rattle.mls_show.specs.declared.verdict.Verdict.{Verdict}
 use Rattle.mls_gate.specs.GateReport.{Gates, GatesState}
 
 -- `IsGateReport profile G info_bytes tree_bytes records text verdict`: a gate over these bytes in the profile has written

@@ -6,7 +6,7 @@ ghost use Rattle.mls_follow.specs.FollowerModel.{state_of};
 ghost use Rattle.mls_follow.specs.RefusalNumbers.{number_of};
 ghost use Rattle.mls_report.specs.FaultText.{member_fault_text};
 ghost use Rattle.mls_report.specs.Replay.{ended_text};
-ghost use Rattle.mls_report.specs.ValueTexts.{hex_text};
+ghost use Rattle.mls_show.specs.ValueTexts.{hex_text};
 ghost use Rattle.mls_gate.specs.Answers as answers;
 
 use mls_check::{MemberFault, SignatureCheck};
@@ -15,7 +15,7 @@ use mls_nodes::GroupContext;
 use mls_report::fault_text::member_fault_text;
 use mls_report::replay_text::ended_text;
 use mls_report::signature_text::signature_line;
-use mls_report::value_text::hex_of;
+use mls_show::hex_of;
 use mls_signatures::SignatureToVerify;
 use mls_tree::HashValue;
 use std::alloc::{AllocError, Global};

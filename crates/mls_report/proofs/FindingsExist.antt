@@ -25,13 +25,13 @@ use Rattle.mls_follow.specs.State.{State}
 use Rattle.mls_follow.proofs.Readings.{some_fault, read_or_not, fits_or_not, tree_or_not, same_or_not, supported_or_not}
 use Rattle.mls_report.proofs.StartsExist.{interim_of, starts_or_not}
 use Rattle.mls_report.specs.Finding.{finding_verdict}
-use Rattle.mls_report.specs.Show.{IsMessageIn}
+use Rattle.mls_show.specs.Show.{IsMessageIn}
 use Rattle.mls_report.specs.ReportsExist.{TreeFindingExists, StartFindingExists}
 use Rattle.mls_report.specs.StartInputs.{IsInfo, IsNoMessage, IsSupplied, IsSuppliedUnread, IsReadAs, IsStarted, IsStartFinding, started_of}
 use Rattle.mls_report.specs.ValidateTree.{IsContext, IsNoContext, IsTreeFinding}
 use Rattle.mls_report.specs.declared.finding.Finding.{Finding}
 use Rattle.mls_report.specs.declared.finding.Finding.TheVariants.{ContextUnreadable, InfoUnreadable, NotGroupInfo, TreeUnreadable, UnsupportedVersion, UnsupportedSuite, RequirementsUnreadable, TreeRefused, MembersRefused, StartRefused, TreeValid, Starts}
-use Rattle.mls_report.specs.declared.verdict.Verdict.TheVariants.{No}
+use Rattle.mls_show.specs.declared.verdict.Verdict.TheVariants.{No}
 
 -- ---- a context and a tree
 

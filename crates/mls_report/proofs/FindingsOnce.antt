@@ -28,7 +28,7 @@ use Rattle.mls_follow.specs.State.{State}
 use Rattle.mls_report.proofs.InOrder.{first_then, no_more, MetBefore, one_position, other_place}
 use Rattle.mls_report.proofs.StartsOnce.{one_tree_of, one_members_fault, no_members_fault, one_start, no_fault_of_start, one_start_fault}
 use Rattle.mls_report.specs.UniqueReports.{AreAlike, TreeFindingIsUnique, StartFindingIsUnique, StartIsUnique}
-use Rattle.mls_report.specs.Show.{IsMessageIn}
+use Rattle.mls_show.specs.Show.{IsMessageIn}
 use Rattle.mls_report.specs.StartInputs.{IsInfo, IsSupplied, IsSuppliedUnread, IsReadAs, IsStarted, IsStartFinding, started_of}
 use Rattle.mls_report.specs.ValidateTree.{IsContext, IsTreeFinding}
 use Rattle.mls_report.specs.declared.finding.Finding.{Finding}

@@ -11,12 +11,12 @@ use Rattle.mls_follow.specs.State.{State}
 use Rattle.mls_report.proofs.FindingsOnce.{one_start_finding, one_started}
 use Rattle.mls_report.specs.Finding.{finding_verdict}
 use Rattle.mls_report.specs.UniqueReports.{AreAlike}
-use Rattle.mls_report.specs.ReadAll.{ReadsAll}
+use Rattle.mls_show.specs.ReadAll.{ReadsAll}
 use Rattle.mls_report.specs.StartInputs.{ReadsSupplied, ReadsBoth, ReadsAndStarts, ReadsAndDeclines, IsStarted, IsStartFinding, started_of}
 use Rattle.mls_report.specs.declared.finding.Finding.{Finding}
 use Rattle.mls_report.specs.declared.finding.Finding.TheVariants.{ContextUnreadable, InfoUnreadable, NotGroupInfo, TreeUnreadable, UnsupportedVersion, UnsupportedSuite, RequirementsUnreadable, TreeRefused, MembersRefused, StartRefused, StateRefused, TreeValid, Starts}
 use Rattle.mls_report.specs.declared.finding.Started.{Started}
-use Rattle.mls_report.specs.declared.verdict.Verdict.TheVariants.{Yes, No}
+use Rattle.mls_show.specs.declared.verdict.Verdict.TheVariants.{Yes, No}
 
 -- what was written is what was appended
 pub written_is : (before text line : List ℕ) → Appends (Some before) (Some (before ++ text)) line → text ≡ line

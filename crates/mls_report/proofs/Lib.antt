@@ -1,8 +1,5 @@
-pub mod TreeLines
 pub mod Hashes
-pub mod Lines
 pub mod HexPieces
-pub mod Outcomes
 pub mod Replaying
 mod ReplayInputs
 pub mod Answered

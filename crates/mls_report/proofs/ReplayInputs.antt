@@ -4,15 +4,15 @@ use Rattle.mls_check.specs.Signatures.{VerifyFn}
 use Rattle.mls_msgs.specs.declared.profile.Profile.{Profile}
 use Rattle.mls_follow.specs.State.{State}
 use Rattle.mls_follow.specs.Resumption.{IsResumed}
-use Rattle.mls_report.specs.ReadAll.{ReadsAll}
+use Rattle.mls_show.specs.ReadAll.{ReadsAll}
 use Rattle.mls_report.specs.Replay.{ReplaysGroupTo, ReplaysPart, ReplaysStateTo, ReplaysStatePart}
 use Rattle.mls_report.specs.ReplaySteps.{ReturnsAfter, WritesDecline, WritesDeclinePart}
 use Rattle.mls_report.specs.StartInputs.{ReadsBoth, IsStarted, ReadsAndStarts, ReadsAndDeclines}
 use Rattle.mls_report.specs.StartSteps.{DeclinesStart, Says}
 use Rattle.mls_report.specs.StateInputs.{DeclinesState, ReadsAndResumes, ReadsAndDeclinesState}
 use Rattle.mls_report.specs.declared.read_inputs.StartFailure.{StartFailure}
-use Rattle.mls_report.specs.declared.verdict.RunFault.{RunFault}
-use Rattle.mls_report.specs.declared.verdict.Verdict.{Verdict}
+use Rattle.mls_show.specs.declared.verdict.RunFault.{RunFault}
+use Rattle.mls_show.specs.declared.verdict.Verdict.{Verdict}
 use Rattle.mls_report.proofs.Replaying.{says-map, replays-to, replays-none, replays-before}
 
 module _ (profile : Profile) (G : VerifyFn) (i0 i1 : Option (List ℕ)) (t0 t1 : Option (Option (List ℕ))) (info_bytes : List ℕ) (tree_bytes : Option (List ℕ))

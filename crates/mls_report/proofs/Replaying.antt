@@ -8,10 +8,10 @@ use Rattle.mls_wire.specs.Logs.{IsRecord, IsBrokenAt, IsIncomplete}
 use Rattle.mls_check.specs.Signatures.{VerifyFn}
 use Rattle.mls_follow.specs.Runs.{IsAnswer}
 use Rattle.mls_follow.specs.State.{State}
-use Rattle.mls_report.specs.declared.verdict.RunFault.{RunFault}
-use Rattle.mls_report.specs.declared.verdict.RunFault.TheVariants.{Read, Write, Memory}
-use Rattle.mls_report.specs.declared.verdict.Verdict.{Verdict}
-use Rattle.mls_report.specs.declared.verdict.Verdict.TheVariants.{No}
+use Rattle.mls_show.specs.declared.verdict.RunFault.{RunFault}
+use Rattle.mls_show.specs.declared.verdict.RunFault.TheVariants.{Read, Write, Memory}
+use Rattle.mls_show.specs.declared.verdict.Verdict.{Verdict}
+use Rattle.mls_show.specs.declared.verdict.Verdict.TheVariants.{No}
 use Rattle.mls_report.specs.Replay.{ProcessedMessage, AreProcessed, state_after, processed_line, processed_lines, one_if, accepted_count, refused_count, message_limit, messages_to_come, AreRecords, Follows, ReportsPart, IsVerdict, last_lines, ending, ReplaysFrom, ReplaysTo, ReplaysPartFrom}
 use Rattle.mls_report.specs.ReplaySteps.{ReadsUndecided, ReportsMessage, StopsAtMessage, FollowsLog, ReplaysLog, ReturnsAfter, WritesDecline, WritesDeclinePart}
 use Rattle.mls_report.specs.Finding.{finding_verdict}

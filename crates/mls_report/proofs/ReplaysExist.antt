@@ -13,15 +13,15 @@ use Rattle.mls_follow.proofs.Readings.{fits_or_not}
 use Rattle.mls_report.proofs.FindingsExist.{begun}
 use Rattle.mls_report.proofs.LogsExist.{IsLogReported, log_reported}
 use Rattle.mls_report.specs.Finding.{finding_line}
-use Rattle.mls_report.specs.ReadAll.{ReadsAll}
+use Rattle.mls_show.specs.ReadAll.{ReadsAll}
 use Rattle.mls_report.specs.Replay.{message_limit, IsVerdict, ReplaysFrom, processed_lines, ending, refused_count}
 use Rattle.mls_report.specs.ReportsExist.{ReplayExists, StateFindingExists, StateReplayExists}
 use Rattle.mls_report.specs.StartInputs.{ReadsSupplied, ReadsBoth, IsStarted, ReadsAndStarts, ReadsAndDeclines, started_of}
 use Rattle.mls_report.specs.StateInputs.{ReadsAndResumes, ReadsAndDeclinesState}
 use Rattle.mls_report.specs.declared.finding.Finding.{Finding}
 use Rattle.mls_report.specs.declared.finding.Finding.TheVariants.{StateRefused, Starts}
-use Rattle.mls_report.specs.declared.verdict.Verdict.{Verdict}
-use Rattle.mls_report.specs.declared.verdict.Verdict.TheVariants.{Yes, No}
+use Rattle.mls_show.specs.declared.verdict.Verdict.{Verdict}
+use Rattle.mls_show.specs.declared.verdict.Verdict.TheVariants.{Yes, No}
 
 -- ---- reading to the end
 

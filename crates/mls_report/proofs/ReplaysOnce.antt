@@ -13,8 +13,8 @@ use Rattle.mls_report.specs.Replay.{ProcessedMessage, IsVerdict, ReplaysFrom, Re
 use Rattle.mls_report.specs.StartInputs.{ReadsAndStarts, ReadsAndDeclines}
 use Rattle.mls_report.specs.StateInputs.{ReadsAndResumes, ReadsAndDeclinesState}
 use Rattle.mls_report.specs.declared.finding.Finding.{Finding}
-use Rattle.mls_report.specs.declared.verdict.Verdict.{Verdict}
-use Rattle.mls_report.specs.declared.verdict.Verdict.TheVariants.{Yes, No}
+use Rattle.mls_show.specs.declared.verdict.Verdict.{Verdict}
+use Rattle.mls_show.specs.declared.verdict.Verdict.TheVariants.{Yes, No}
 
 -- ---- the verdict
 

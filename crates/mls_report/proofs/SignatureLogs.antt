@@ -17,10 +17,10 @@ use Rattle.mls_report.specs.ReplaySteps.{ReadsUndecided}
 use Rattle.mls_follow.specs.CoveredLogs.{all_good}
 use Rattle.mls_report.specs.SignaturesReport.{HasSignatures, LoggedMessage, turns_of, HaveSignatures, signature_lines, needed_lines, log_lines, all_read, break_line, log_verdict, ProcessesLog, ReportsSignatureLog, SignatureLogPart}
 use Rattle.mls_report.specs.SignaturesSteps.{WritesSignatures, StopsInLines, StopsInMessage, StopsInMessageLines}
-use Rattle.mls_report.specs.declared.verdict.RunFault.{RunFault}
-use Rattle.mls_report.specs.declared.verdict.RunFault.TheVariants.{Read, Write, Memory}
-use Rattle.mls_report.specs.declared.verdict.Verdict.{Verdict}
-use Rattle.mls_report.specs.declared.verdict.Verdict.TheVariants.{No}
+use Rattle.mls_show.specs.declared.verdict.RunFault.{RunFault}
+use Rattle.mls_show.specs.declared.verdict.RunFault.TheVariants.{Read, Write, Memory}
+use Rattle.mls_show.specs.declared.verdict.Verdict.{Verdict}
+use Rattle.mls_show.specs.declared.verdict.Verdict.TheVariants.{No}
 use Rattle.mls_report.proofs.Replaying.{state_after-snoc, follows-read, follows-snoc, Consumes-nil, Appends-nil}
 
 -- ---- one message more

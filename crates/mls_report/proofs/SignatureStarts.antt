@@ -7,7 +7,7 @@ use Rattle.mls_follow.specs.CoveredLogs.{all_good}
 use Rattle.mls_follow.specs.Resumption.{IsResumed}
 use Rattle.mls_follow.specs.State.{State}
 use Rattle.mls_report.specs.Finding.{finding_verdict}
-use Rattle.mls_report.specs.ReadAll.{ReadsAll}
+use Rattle.mls_show.specs.ReadAll.{ReadsAll}
 use Rattle.mls_report.specs.ReplaySteps.{WritesDecline, WritesDeclinePart}
 use Rattle.mls_report.specs.SignaturesReport.{needed_lines, ReadsStartSignatures, ReadsStateSignatures, SignaturesFrom, SignaturesPartFrom, SignaturesBefore}
 use Rattle.mls_report.specs.SignaturesSteps.{StartsWithSignatures, signatures_of_state, StopsInLines, ReportsAfterStart, BehindPart}
@@ -17,10 +17,10 @@ use Rattle.mls_report.specs.StateInputs.{DeclinesState, ReadsAndDeclinesState}
 use Rattle.mls_report.specs.declared.finding.Finding.{Finding}
 use Rattle.mls_report.specs.declared.read_inputs.StartFailure.{StartFailure}
 use Rattle.mls_report.specs.declared.read_inputs.StartFailure.TheVariants.{Found}
-use Rattle.mls_report.specs.declared.verdict.RunFault.{RunFault}
-use Rattle.mls_report.specs.declared.verdict.RunFault.TheVariants.{Read, Write, Memory}
-use Rattle.mls_report.specs.declared.verdict.Verdict.{Verdict}
-use Rattle.mls_report.specs.declared.verdict.Verdict.TheVariants.{No}
+use Rattle.mls_show.specs.declared.verdict.RunFault.{RunFault}
+use Rattle.mls_show.specs.declared.verdict.RunFault.TheVariants.{Read, Write, Memory}
+use Rattle.mls_show.specs.declared.verdict.Verdict.{Verdict}
+use Rattle.mls_show.specs.declared.verdict.Verdict.TheVariants.{No}
 use Rattle.mls_report.proofs.Replaying.{Appends-nil, says-map}
 
 -- ---- a follower has started or resumed

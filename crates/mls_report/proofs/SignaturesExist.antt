@@ -28,8 +28,8 @@ use Rattle.mls_report.specs.StartInputs.{ReadsBoth, ReadsAndDeclines, IsStarted}
 use Rattle.mls_report.specs.StateInputs.{ReadsAndDeclinesState}
 use Rattle.mls_report.specs.declared.finding.Finding.{Finding}
 use Rattle.mls_report.specs.declared.finding.Finding.TheVariants.{StateRefused}
-use Rattle.mls_report.specs.declared.verdict.Verdict.{Verdict}
-use Rattle.mls_report.specs.declared.verdict.Verdict.TheVariants.{Yes, No}
+use Rattle.mls_show.specs.declared.verdict.Verdict.{Verdict}
+use Rattle.mls_show.specs.declared.verdict.Verdict.TheVariants.{Yes, No}
 
 -- ---- the signatures of messages
 

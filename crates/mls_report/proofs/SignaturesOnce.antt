@@ -22,7 +22,7 @@ use Rattle.mls_report.specs.StartInputs.{IsInfo, ReadsAndStarts, ReadsAndDecline
 use Rattle.mls_report.specs.StateInputs.{ReadsAndDeclinesState}
 use Rattle.mls_report.specs.UniqueReports.{AreAlike, AreAlikeTexts, EndsLog, MessageSignaturesAreUnique, SignaturesAreUnique, StateSignaturesAreUnique}
 use Rattle.mls_report.specs.declared.finding.Finding.{Finding}
-use Rattle.mls_report.specs.declared.verdict.Verdict.{Verdict}
+use Rattle.mls_show.specs.declared.verdict.Verdict.{Verdict}
 
 -- ---- the signatures of messages
 

@@ -15,8 +15,8 @@ use Rattle.mls_follow.specs.MessageSignatures.{state_signatures}
 use Rattle.mls_follow.specs.State.{State}
 use Rattle.mls_report.specs.SignaturesReport.{line_unless, needed_lines}
 use Rattle.mls_report.specs.SignaturesSteps.{signatures_of_leaf, StopsInLines}
-use Rattle.mls_report.specs.declared.verdict.RunFault.{RunFault}
-use Rattle.mls_report.specs.declared.verdict.RunFault.TheVariants.{Read, Write, Memory}
+use Rattle.mls_show.specs.declared.verdict.RunFault.{RunFault}
+use Rattle.mls_show.specs.declared.verdict.RunFault.TheVariants.{Read, Write, Memory}
 
 -- ---- a prefix of what is written
 

@@ -4,13 +4,14 @@ use Rattle.std.specs.Prelude.{ℕ, List, [], ◌++◌, codes, Option, ◌≡◌,
 use Rattle.std.specs.Fmt.{decimal}
 use Rattle.std.specs.Io.KnownBytes.{Appends}
 use Rattle.mls_wire.specs.Devices.{AppendsPrefix}
-use Rattle.mls_report.specs.FaultText.{wire_fault_text, node_fault_text, tree_fault_text, member_fault_text, start_fault_text, resume_fault_text}
-use Rattle.mls_report.specs.ValueTexts.{hex_text}
+use Rattle.mls_show.specs.FaultText.{wire_fault_text, node_fault_text}
+use Rattle.mls_report.specs.FaultText.{tree_fault_text, member_fault_text, start_fault_text, resume_fault_text}
+use Rattle.mls_show.specs.ValueTexts.{hex_text}
 use Rattle.mls_report.specs.declared.finding.Finding.{Finding}
 use Rattle.mls_report.specs.declared.finding.Finding.TheVariants.{ContextUnreadable, InfoUnreadable, NotGroupInfo, TreeUnreadable, UnsupportedVersion, UnsupportedSuite, RequirementsUnreadable, TreeRefused, MembersRefused, StartRefused, StateRefused, TreeValid, Starts}
 use Rattle.mls_report.specs.declared.finding.Started.{Started}
-use Rattle.mls_report.specs.declared.verdict.Verdict.{Verdict}
-use Rattle.mls_report.specs.declared.verdict.Verdict.TheVariants.{Yes, No}
+use Rattle.mls_show.specs.declared.verdict.Verdict.{Verdict}
+use Rattle.mls_show.specs.declared.verdict.Verdict.TheVariants.{Yes, No}
 
 -- `started_text s` is the text of a follower that starts: its epoch, its number of members, and its tree hash
 -- (RFC 9420, 8.1).

@@ -1,13 +1,8 @@
 pub mod FaultText
 pub mod Finding
-pub mod InfoText
-pub mod MessageText
-pub mod OneInputReport
 pub mod UniqueReports
-pub mod ReadAll
 pub mod Replay
 pub mod ReplaySteps
-pub mod Show
 pub mod SignaturesReport
 pub mod SignaturesSteps
 pub mod ReportsExist
@@ -15,10 +10,6 @@ pub mod FailedStarts
 pub mod StartInputs
 pub mod StateInputs
 pub mod StartSteps
-pub mod Status
-pub mod ValueTexts
-pub mod TreeText
-pub mod TreeTextInternal
 pub mod UnreadableReceipts
 pub mod Validate
 pub mod ValidateTree

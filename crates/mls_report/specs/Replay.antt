@@ -19,12 +19,12 @@ use Rattle.mls_report.specs.FaultText.{member_number}
 use Rattle.mls_report.specs.Finding.{finding_line}
 use Rattle.mls_report.specs.StartInputs.{ReadsAndStarts, ReadsAndDeclines}
 use Rattle.mls_report.specs.StateInputs.{ReadsAndResumes, ReadsAndDeclinesState}
-use Rattle.mls_report.specs.ValueTexts.{hex_text}
+use Rattle.mls_show.specs.ValueTexts.{hex_text}
 use Rattle.mls_report.specs.declared.finding.Finding.{Finding}
-use Rattle.mls_report.specs.declared.verdict.RunFault.{RunFault}
-use Rattle.mls_report.specs.declared.verdict.RunFault.TheVariants.{Read, Write, Memory}
-use Rattle.mls_report.specs.declared.verdict.Verdict.{Verdict}
-use Rattle.mls_report.specs.declared.verdict.Verdict.TheVariants.{Yes, No}
+use Rattle.mls_show.specs.declared.verdict.RunFault.{RunFault}
+use Rattle.mls_show.specs.declared.verdict.RunFault.TheVariants.{Read, Write, Memory}
+use Rattle.mls_show.specs.declared.verdict.Verdict.{Verdict}
+use Rattle.mls_show.specs.declared.verdict.Verdict.TheVariants.{Yes, No}
 
 -- The most messages of a log: a limit of this library.
 abbrev pub message_limit : ℕ

@@ -14,12 +14,12 @@ use Rattle.mls_follow.specs.State.{State}
 use Rattle.mls_follow.specs.Start.{IsStart, IsStartFault}
 use Rattle.mls_follow.specs.declared.start_fault.StartFault.TheVariants as starts
 use Rattle.mls_report.specs.Finding.{finding_verdict}
-use Rattle.mls_report.specs.ReadAll.{ReadsAll}
-use Rattle.mls_report.specs.Show.{IsMessageIn}
+use Rattle.mls_show.specs.ReadAll.{ReadsAll}
+use Rattle.mls_show.specs.Show.{IsMessageIn}
 use Rattle.mls_report.specs.declared.finding.Finding.{Finding}
 use Rattle.mls_report.specs.declared.finding.Finding.TheVariants.{InfoUnreadable, NotGroupInfo, TreeUnreadable, StartRefused, Starts}
 use Rattle.mls_report.specs.declared.finding.Started.{Started}
-use Rattle.mls_report.specs.declared.verdict.Verdict.TheVariants.{No}
+use Rattle.mls_show.specs.declared.verdict.Verdict.TheVariants.{No}
 use Rattle.mls_msgs.specs.declared.profile.Profile.{Profile}
 
 -- ---- what is read of the inputs

@@ -7,8 +7,8 @@ use Rattle.mls_report.specs.StartInputs.{IsStartFinding}
 use Rattle.mls_report.specs.declared.finding.Finding.{Finding}
 use Rattle.mls_report.specs.declared.read_inputs.StartFailure.{StartFailure}
 use Rattle.mls_report.specs.declared.read_inputs.StartFailure.TheVariants.{Found, Fault}
-use Rattle.mls_report.specs.declared.verdict.RunFault.TheVariants.{Memory}
-use Rattle.mls_report.specs.declared.verdict.Verdict.TheVariants.{No}
+use Rattle.mls_show.specs.declared.verdict.RunFault.TheVariants.{Memory}
+use Rattle.mls_show.specs.declared.verdict.Verdict.TheVariants.{No}
 
 -- `Says P failure`: no follower has started, for a finding with this property, or because memory ran out.
 abbrev pub Says : (Finding → Type 0) → StartFailure → Type 0

@@ -7,11 +7,11 @@ use Rattle.mls_follow.specs.State.{State}
 use Rattle.mls_follow.specs.Resumption.{IsResumed, IsResumeFault}
 use Rattle.mls_follow.specs.declared.resume_fault.ResumeFault.TheVariants as resumes
 use Rattle.mls_report.specs.Finding.{finding_verdict}
-use Rattle.mls_report.specs.ReadAll.{ReadsAll}
+use Rattle.mls_show.specs.ReadAll.{ReadsAll}
 use Rattle.mls_report.specs.StartInputs.{started_of}
 use Rattle.mls_report.specs.declared.finding.Finding.{Finding}
 use Rattle.mls_report.specs.declared.finding.Finding.TheVariants.{StateRefused, Starts}
-use Rattle.mls_report.specs.declared.verdict.Verdict.TheVariants.{No}
+use Rattle.mls_show.specs.declared.verdict.Verdict.TheVariants.{No}
 
 -- `IsStateFinding G bytes finding`: the first condition of a resumption that fails, or that a follower resumes.
 abbrev pub IsStateFinding : VerifyFn → List ℕ → Finding → Type 0

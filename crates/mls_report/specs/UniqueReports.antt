@@ -13,7 +13,7 @@ use Rattle.mls_report.specs.StateInputs.{IsStateFinding}
 use Rattle.mls_report.specs.ValidateTree.{IsTreeFinding}
 use Rattle.mls_report.specs.declared.finding.Finding.{Finding}
 use Rattle.mls_report.specs.declared.finding.Finding.TheVariants.{ContextUnreadable, InfoUnreadable, TreeUnreadable, StateRefused}
-use Rattle.mls_report.specs.declared.verdict.Verdict.{Verdict}
+use Rattle.mls_show.specs.declared.verdict.Verdict.{Verdict}
 use Rattle.mls_signatures.specs.declared.signature_to_verify.SignatureToVerify.{SignatureToVerify}
 
 -- ---- what is found

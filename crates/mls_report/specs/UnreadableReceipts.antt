@@ -4,8 +4,8 @@ use Rattle.std.specs.Fmt.{decimal}
 use Rattle.std.specs.Io.KnownBytes.{Appends}
 use Rattle.mls_check.specs.declared.receipts.ReceiptsFault.{ReceiptsFault}
 use Rattle.mls_check.specs.declared.receipts.ReceiptsFault.TheVariants as faults
-use Rattle.mls_report.specs.declared.verdict.Verdict.{Verdict}
-use Rattle.mls_report.specs.declared.verdict.Verdict.TheVariants.{No}
+use Rattle.mls_show.specs.declared.verdict.Verdict.{Verdict}
+use Rattle.mls_show.specs.declared.verdict.Verdict.TheVariants.{No}
 
 -- `receipts_line fault` is the line of a receipts file that cannot be read. It has the number of the first line without a
 -- digest, or says that the file is too long. OutOfMemory has no line.

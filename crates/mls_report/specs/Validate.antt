@@ -4,11 +4,11 @@ use Rattle.std.specs.Prelude.{List, ℕ, Option}
 use Rattle.mls_check.specs.Signatures.{VerifyFn}
 use Rattle.mls_msgs.specs.declared.profile.Profile.{Profile}
 use Rattle.mls_report.specs.Finding.{ReportsFinding, ReportsFindingPart}
-use Rattle.mls_report.specs.ReadAll.{ReadsAll}
+use Rattle.mls_show.specs.ReadAll.{ReadsAll}
 use Rattle.mls_report.specs.StartInputs.{IsStartFinding, ReadsBoth}
 use Rattle.mls_report.specs.StateInputs.{IsStateFinding}
 use Rattle.mls_report.specs.declared.finding.Finding.{Finding}
-use Rattle.mls_report.specs.declared.verdict.Verdict.{Verdict}
+use Rattle.mls_show.specs.declared.verdict.Verdict.{Verdict}
 
 -- `IsFoundOfStart profile G info0 info1 tree0 tree1 finding`: the inputs were read to their ends, and this is found of
 -- their bytes.

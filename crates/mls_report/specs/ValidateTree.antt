@@ -11,10 +11,10 @@ use Rattle.mls_tree.specs.TreeDecoding.{IsTreeOf, IsNoTree}
 use Rattle.mls_check.specs.GroupTree.{IsSupportedContext, HasMembers, FailsSuite, FailsRequirements, FailsValid, FailsMembers}
 use Rattle.mls_check.specs.Signatures.{VerifyFn}
 use Rattle.mls_report.specs.Finding.{ReportsFinding, ReportsFindingPart}
-use Rattle.mls_report.specs.ReadAll.{ReadsAll}
+use Rattle.mls_show.specs.ReadAll.{ReadsAll}
 use Rattle.mls_report.specs.declared.finding.Finding.{Finding}
 use Rattle.mls_report.specs.declared.finding.Finding.TheVariants.{ContextUnreadable, TreeUnreadable, UnsupportedVersion, UnsupportedSuite, RequirementsUnreadable, TreeRefused, MembersRefused, TreeValid}
-use Rattle.mls_report.specs.declared.verdict.Verdict.{Verdict}
+use Rattle.mls_show.specs.declared.verdict.Verdict.{Verdict}
 
 -- `IsContext bytes c`: the bytes are the encoding of the GroupContext, within the limit of an input (RFC 9420, 8.1).
 pub record IsContext (bytes : List ℕ) (c : GroupContext) : Type 0 where

@@ -5,16 +5,11 @@ ghost use Rattle.std.specs.Io.KnownBytes.{Appends};
 ghost use Rattle.mls_wire.specs.Devices.{AppendsPrefix};
 ghost use Rattle.mls_report.specs.Finding as findings;
 
-use crate::fault_text::{
-    member_fault_text, node_fault_text, resume_fault_text, start_fault_text, tree_fault_text,
-    wire_fault_text,
-};
-use crate::value_text::hex_of;
-use crate::verdict::{RunFault, Verdict};
-use crate::write::write_text;
+use crate::fault_text::{member_fault_text, resume_fault_text, start_fault_text, tree_fault_text};
 use mls_check::{MemberFault, TreeFault};
 use mls_follow::{ResumeFault, StartFault};
 use mls_nodes::{GroupContext, NodeFault};
+use mls_show::{RunFault, Verdict, hex_of, node_fault_text, wire_fault_text, write_text};
 use mls_tree::HashValue;
 use mls_wire::{Sink, WireFault};
 use std::alloc::{AllocError, Global};

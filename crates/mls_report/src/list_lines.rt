@@ -7,9 +7,8 @@ ghost use Rattle.mls_report.specs.SignaturesReport.{needed_lines};
 ghost use Rattle.mls_report.specs.SignaturesSteps.{StopsInLines};
 
 use crate::signature_text::put_line;
-use crate::verdict::RunFault;
-use crate::write::write_text;
 use mls_check::SignatureCheck;
+use mls_show::{RunFault, write_text};
 use mls_signatures::{SignatureList, SignatureToVerify};
 use mls_wire::Sink;
 use std::alloc::Global;

@@ -7,13 +7,12 @@ ghost use Rattle.mls_report.specs.StartInputs.{IsInfo, IsSupplied, IsSuppliedUnr
 ghost use Rattle.mls_report.specs.StartSteps.{Says, IsUnread, DeclinesStart};
 
 use crate::finding::Finding;
-use crate::read_to_end::read_all;
-use crate::verdict::RunFault;
 use mls_check::SignatureCheck;
 use mls_follow::{Follower, StartFault};
 use mls_hash::{Suite, decode_with_leaf_hashes};
 use mls_msgs::{GroupInfo, Message, Profile, decode_message_in};
 use mls_nodes::NodeFault;
+use mls_show::{RunFault, read_all};
 use mls_tree::PublicTree;
 use mls_wire::{CodecFault, Source};
 use std::alloc::Global;

@@ -13,14 +13,12 @@ ghost use Rattle.mls_report.specs.StartSteps.{Says};
 
 use crate::finding::report_finding;
 use crate::read_inputs::{StartFailure, read_inputs_to_end, start_from};
-use crate::read_to_end::read_all;
 use crate::replay_text::{last_lines, processed_line};
 use crate::state_input::resume_from;
-use crate::verdict::{RunFault, Verdict};
-use crate::write::write_text;
 use mls_check::SignatureCheck;
 use mls_follow::{Follower, Refusal};
 use mls_msgs::Profile;
+use mls_show::{RunFault, Verdict, read_all, write_text};
 use mls_wire::{LogStep, RecordFault, Records, Sink, Source};
 use std::alloc::Global;
 

@@ -4,13 +4,13 @@ ghost use Rattle.std.specs.Prelude.{◌≡◌, ◌++◌, ◌+◌, ◌≤◌, cod
 ghost use Rattle.std.specs.Fmt.{decimal};
 ghost use Rattle.mls_follow.specs.FollowerModel.{state_of};
 ghost use Rattle.mls_report.specs.Replay as lines;
-ghost use Rattle.mls_report.specs.ValueTexts.{hex_text};
+ghost use Rattle.mls_show.specs.ValueTexts.{hex_text};
 
 use crate::fault_text::member_number;
-use crate::value_text::hex_of;
 use mls_check::SignatureCheck;
 use mls_follow::{Follower, Refusal, Taken};
 use mls_nodes::GroupContext;
+use mls_show::hex_of;
 use mls_tree::HashValue;
 use std::alloc::{AllocError, Global};
 

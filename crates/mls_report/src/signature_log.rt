@@ -11,10 +11,9 @@ ghost use Rattle.mls_report.specs.SignaturesSteps.{WritesSignatures, StopsInMess
 use crate::list_lines::write_each_line;
 use crate::replay::{MESSAGE_LIMIT, next_record};
 use crate::replay_text::{broken_line, processed_line};
-use crate::verdict::{RunFault, Verdict};
-use crate::write::write_text;
 use mls_check::{SignatureCheck, Trusting};
 use mls_follow::{Follower, Refusal, SignatureListFault};
+use mls_show::{RunFault, Verdict, write_text};
 use mls_signatures::SignatureList;
 use mls_wire::{LogStep, Records, Sink, Source};
 use std::alloc::Global;

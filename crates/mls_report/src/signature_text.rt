@@ -6,10 +6,10 @@ ghost use Rattle.hex.specs.Hex.{encode_lower};
 ghost use Rattle.sha2.specs.Sha256.{sha256};
 ghost use Rattle.mls_check.specs.Receipts.{receipt_input};
 ghost use Rattle.mls_report.specs.SignaturesReport as lines;
-ghost use Rattle.mls_report.specs.ValueTexts.{hex_text};
+ghost use Rattle.mls_show.specs.ValueTexts.{hex_text};
 
-use crate::value_text::hex_of;
 use mls_check::{SignatureCheck, receipt};
+use mls_show::hex_of;
 use mls_signatures::SignatureToVerify;
 use std::alloc::{AllocError, Global};
 

@@ -9,16 +9,15 @@ ghost use Rattle.mls_report.specs.SignaturesReport.{Signatures, SignaturesPart, 
 ghost use Rattle.mls_report.specs.SignaturesSteps.{signatures_of_state, ReportsAfterStart, BehindPart};
 
 use crate::read_inputs::read_inputs_to_end;
-use crate::read_to_end::read_all;
 use crate::replay::decline;
 use crate::signature_log::write_signature_log;
 use crate::start_lines::{write_resumption_lines, write_start_lines};
 use crate::state_input::resume_from;
 use crate::trusting_start::trusting_start_from;
-use crate::verdict::{RunFault, Verdict};
 use mls_check::{SignatureCheck, Trusting};
 use mls_follow::Follower;
 use mls_msgs::Profile;
+use mls_show::{RunFault, Verdict, read_all};
 use mls_signatures::SignatureToVerify;
 use mls_wire::{Sink, Source};
 use std::alloc::Global;

@@ -9,10 +9,9 @@ ghost use Rattle.mls_report.specs.SignaturesSteps.{signatures_of_leaf, signature
 
 use crate::list_lines::write_each_line;
 use crate::signature_text::needed_text;
-use crate::verdict::RunFault;
-use crate::write::write_text;
 use mls_check::{SignatureCheck, Trusting};
 use mls_follow::Follower;
+use mls_show::{RunFault, write_text};
 use mls_signatures::{SignatureToVerify, leaf_signatures, resumption_signatures};
 use mls_wire::Sink;
 use std::alloc::Global;

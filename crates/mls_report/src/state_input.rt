@@ -8,9 +8,9 @@ ghost use Rattle.mls_report.specs.StateInputs.{DeclinesState};
 
 use crate::finding::Finding;
 use crate::read_inputs::StartFailure;
-use crate::verdict::RunFault;
 use mls_check::SignatureCheck;
 use mls_follow::{Follower, ResumeFault};
+use mls_show::RunFault;
 use std::alloc::Global;
 
 /// Returns why no follower has resumed.

@@ -6,9 +6,8 @@ ghost use Rattle.mls_wire.specs.Devices.{AppendsPrefix};
 ghost use Rattle.mls_report.specs.UnreadableReceipts as reports;
 ghost use Rattle.mls_report.specs.UnreadableReceipts.{ReportsReceipts};
 
-use crate::verdict::{RunFault, Verdict};
-use crate::write::write_text;
 use mls_check::ReceiptsFault;
+use mls_show::{RunFault, Verdict, write_text};
 use mls_wire::Sink;
 use std::alloc::Global;
 

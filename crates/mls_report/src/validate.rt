@@ -11,12 +11,11 @@ ghost use Rattle.mls_report.specs.Validate.{Validates, ValidatesPart, ValidatesS
 
 use crate::finding::{Finding, Started, report_finding, tree_hash_of};
 use crate::read_inputs::{InputBytes, StartFailure, read_inputs_to_end, start_from};
-use crate::read_to_end::read_all;
 use crate::state_input::resume_from;
-use crate::verdict::{RunFault, Verdict};
 use mls_check::SignatureCheck;
 use mls_follow::Follower;
 use mls_msgs::Profile;
+use mls_show::{RunFault, Verdict, read_all};
 use mls_wire::{Sink, Source};
 use std::alloc::Global;
 

@@ -8,11 +8,10 @@ ghost use Rattle.mls_check.specs.GroupTree.{IsSupportedContext};
 ghost use Rattle.mls_report.specs.ValidateTree.{IsContext, IsTreeFinding, ValidatesTree, ValidatesTreePart};
 
 use crate::finding::{Finding, report_finding, tree_hash_of};
-use crate::read_to_end::read_all;
-use crate::verdict::{RunFault, Verdict};
 use mls_check::{GroupTreeFault, SignatureCheck, validate_group_tree};
 use mls_hash::{Suite, decode_with_leaf_hashes, fill_hashes};
 use mls_nodes::{GroupContext, NodeFault, decode_context};
+use mls_show::{RunFault, Verdict, read_all};
 use mls_tree::PublicTree;
 use mls_wire::{CodecFault, Sink, Source};
 use std::alloc::Global;

@@ -23,7 +23,7 @@ use Rattle.mls_vectors.specs.declared.vector_result.VectorResult.{VectorResult}
 use Rattle.mls_vectors.specs.declared.vector_result.VectorResult.TheVariants.{Pass, Fail, Skip}
 use Rattle.mls_vectors.specs.declared.check.CheckKind.{CheckKind}
 use Rattle.mls_vectors.specs.declared.report_lines.Counts as code
-use Rattle.mls_report.specs.declared.verdict.Verdict.{Verdict}
+use Rattle.mls_show.specs.declared.verdict.Verdict.{Verdict}
 use Rattle.mls_vectors.specs.declared.suite.SuiteMember.{SuiteMember}
 use Rattle.mls_vectors.specs.declared.suite.SuiteMember.TheVariants as suites
 use Rattle.mls_vectors.specs.declared.tree_math.Column.{Column}

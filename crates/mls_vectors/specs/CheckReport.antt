@@ -4,7 +4,7 @@ use Rattle.std.specs.Fmt.{decimal}
 use Rattle.serde_json.specs.Data.{Data, Items, no_items, item}
 use Rattle.mls_wire.specs.Limits.{input_limit}
 use Rattle.mls_vectors.specs.VectorResults.{VectorResult, pass, fail, skip}
-use Rattle.mls_report.specs.OneInputReport.{WritesReport, WritesPart}
+use Rattle.mls_show.specs.OneInputReport.{WritesReport, WritesPart}
 use Rattle.mls_vectors.specs.TreeMath.{IsTreeMath}
 use Rattle.mls_vectors.specs.TranscriptVectors.{IsTranscript}
 use Rattle.mls_vectors.specs.TreeOperations.{IsTreeOperation}
@@ -13,8 +13,8 @@ use Rattle.mls_vectors.specs.TextWeight.{IsTooHeavy}
 use Rattle.mls_vectors.specs.VectorFile.{HoldsVectors, HoldsNoVectors}
 use Rattle.mls_vectors.specs.declared.check.CheckKind.{CheckKind}
 use Rattle.mls_vectors.specs.declared.check.CheckKind.TheVariants as kind
-use Rattle.mls_report.specs.declared.verdict.Verdict.{Verdict}
-use Rattle.mls_report.specs.declared.verdict.Verdict.TheVariants.{Yes, No}
+use Rattle.mls_show.specs.declared.verdict.Verdict.{Verdict}
+use Rattle.mls_show.specs.declared.verdict.Verdict.TheVariants.{Yes, No}
 
 -- `IsOutcomeOf k d o`: `o` is the result of the vector `d` of a kind.
 abbrev pub IsOutcomeOf : CheckKind → Data → VectorResult → Type 0

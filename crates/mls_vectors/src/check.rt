@@ -15,7 +15,7 @@ use crate::tree_math::tree_math_outcome;
 use crate::tree_operations::tree_operations_outcome;
 use crate::tree_validation::tree_validation_outcome;
 use crate::vector_result::VectorResult;
-use mls_report::{Report, RunFault, Verdict, read_all, write_bytes};
+use mls_show::{Report, RunFault, Verdict, read_all, write_bytes};
 use mls_wire::{MAX_INPUT, Sink, Source};
 use serde_json::Value;
 use std::alloc::{AllocError, Global};

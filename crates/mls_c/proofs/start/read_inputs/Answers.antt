@@ -1,5 +1,5 @@
 use Rattle.std.proofs.Common.{rules}
-use Rattle.mls_report.proofs.Outcomes.{IfErr-is}
+use Rattle.mls_show.proofs.Outcomes.{IfErr-is}
 use Rattle.mls_c.proofs.start.read_inputs.Goals as goal
 
 pub returns-in_err-info-clause-unread : goal.returns-in_err-info-clause-unread

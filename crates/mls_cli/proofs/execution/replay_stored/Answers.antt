@@ -2,7 +2,7 @@ use Rattle.std.proofs.Common.{inl, inr, rules, refl}
 use Rattle.std.specs.Prelude.{option_map}
 use Rattle.mls_follow.specs.FollowerModel.{state_of}
 use Rattle.mls_cli.proofs.Saving.{going, fault_means, outcome_means, unfailed, saved-read, saved-write, means-write}
-use Rattle.mls_report.specs.declared.verdict.RunFault.TheVariants.{Read, Write}
+use Rattle.mls_show.specs.declared.verdict.RunFault.TheVariants.{Read, Write}
 use Rattle.mls_cli.proofs.execution.replay_stored.Goals as goal
 
 pub returns-in-Ok-clause-executed : goal.returns-in-Ok-clause-executed

@@ -2,8 +2,8 @@ use Rattle.std.proofs.Common.{rules, subst}
 use Rattle.std.specs.Prelude.{string_bytes}
 use Rattle.std.specs.Io.KnownBytes.{Appends}
 use Rattle.mls_wire.specs.Devices.{AppendsPrefix}
-use Rattle.mls_report.specs.declared.verdict.RunFault.TheVariants.{Write}
-use Rattle.mls_report.proofs.Outcomes.{IfErr-is}
+use Rattle.mls_show.specs.declared.verdict.RunFault.TheVariants.{Write}
+use Rattle.mls_show.proofs.Outcomes.{IfErr-is}
 use Rattle.mls_gate.proofs.gate.answer_record.Goals as goal
 
 pub returns-clause-printed : goal.returns-clause-printed

@@ -1,6 +1,6 @@
 use Rattle.std.proofs.Common.{rules, inr, refl}
 use Rattle.std.proofs.lemmas.Result.{IfOk-weaker, IfErr-weaker}
-use Rattle.mls_report.proofs.Outcomes.{IfErr-is}
+use Rattle.mls_show.proofs.Outcomes.{IfErr-is}
 use Rattle.mls_gate.specs.GateSteps.{files_of, Are}
 use Rattle.mls_gate.specs.Phases.{OfGroup}
 use Rattle.mls_gate.proofs.FirstStates.{readable}

@@ -1,7 +1,7 @@
 use Rattle.std.proofs.Common.{rules, arith, ◌≡◌, ◌<◌, ap, false}
 use Rattle.mls_wire.specs.Logs.{LogState}
 use Rattle.mls_gate.specs.GateReport.{record_limit}
-use Rattle.mls_report.proofs.Outcomes.{IfErr-is}
+use Rattle.mls_show.proofs.Outcomes.{IfErr-is}
 use Rattle.std.proofs.lemmas.Result.{IfOk-weaker}
 use Rattle.mls_gate.proofs.Answering.{there}
 use Rattle.mls_gate.proofs.Serving.{so_far-none, so_far-snoc, ready-snoc, printed-last, part-record, part-read, printed-end, printed-broken, in-broken, write-part}

@@ -1,6 +1,6 @@
 use Rattle.std.proofs.Common.{rules}
 use Rattle.std.proofs.lemmas.Result.{IfOk-weaker, IfErr-weaker}
-use Rattle.mls_report.proofs.Outcomes.{IfErr-is}
+use Rattle.mls_show.proofs.Outcomes.{IfErr-is}
 use Rattle.mls_follow.specs.CoveredLogs.{all_good}
 use Rattle.mls_gate.specs.GateSteps.{files_of}
 use Rattle.mls_gate.proofs.Starting.{can-start, says-declines, says-unread}

@@ -1,7 +1,7 @@
 use Rattle.std.proofs.Common.{rules, arith, ◌+◌, ◌∙◌, sym}
 use Rattle.mls_follow.specs.FollowerModel.{state_of}
 use Rattle.mls_follow.specs.MessageSignatures.{state_signatures}
-use Rattle.mls_report.proofs.Outcomes.{IfErr-is}
+use Rattle.mls_show.proofs.Outcomes.{IfErr-is}
 use Rattle.mls_report.proofs.StartLines.{wrote-both, stops-before, stops-behind}
 use Rattle.mls_gate.specs.Answers.{verify_lines}
 use Rattle.mls_gate.proofs.OpeningLines.{verify_lines-both, unknown_count-both, unknown_count-most}

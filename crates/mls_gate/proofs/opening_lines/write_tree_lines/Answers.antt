@@ -1,6 +1,6 @@
 use Rattle.std.proofs.Common.{rules, arith}
 use Rattle.mls_follow.specs.FollowerModel.{state_of}
-use Rattle.mls_report.proofs.Outcomes.{IfErr-is}
+use Rattle.mls_show.proofs.Outcomes.{IfErr-is}
 use Rattle.mls_report.proofs.StartLines.{leaves-all, wrote-leaf, stops-at-leaf}
 use Rattle.mls_gate.specs.Answers.{verify_lines}
 use Rattle.mls_gate.proofs.OpeningLines.{verify_lines-both, count-leaf, count-leaves}

@@ -1,6 +1,6 @@
 use Rattle.std.proofs.Common.{rules, ap}
-use Rattle.mls_report.specs.declared.verdict.RunFault.TheVariants.{Memory}
-use Rattle.mls_report.proofs.Outcomes.{IfErr-is}
+use Rattle.mls_show.specs.declared.verdict.RunFault.TheVariants.{Memory}
+use Rattle.mls_show.proofs.Outcomes.{IfErr-is}
 use Rattle.mls_gate.proofs.Querying.{listed, unlisted, before-listing, not-read}
 use Rattle.mls_gate.proofs.phase.query_message.Goals as goal
 

@@ -1,5 +1,5 @@
 use Rattle.std.proofs.Common.{rules, arith}
-use Rattle.mls_report.proofs.Outcomes.{IfErr-is}
+use Rattle.mls_show.proofs.Outcomes.{IfErr-is}
 use Rattle.mls_gate.proofs.QueryLines.{wrote-next, count-next, stops-next, wrote-all, count-all}
 use Rattle.mls_gate.proofs.query_lines.write_each_line.Goals as goal
 

@@ -1,7 +1,7 @@
 use Rattle.std.proofs.Common.{rules, ◌∙◌, ◌++◌, List, ℕ, ap, sym, subst, append-nil}
 use Rattle.mls_wire.specs.Devices.{AppendsPrefix}
-use Rattle.mls_report.specs.declared.verdict.RunFault.TheVariants.{Write}
-use Rattle.mls_report.proofs.Outcomes.{IfErr-is}
+use Rattle.mls_show.specs.declared.verdict.RunFault.TheVariants.{Write}
+use Rattle.mls_show.proofs.Outcomes.{IfErr-is}
 use Rattle.mls_gate.specs.Answers.{verify_line}
 use Rattle.mls_gate.proofs.query_lines.write_line.Goals as goal
 

@@ -3,8 +3,8 @@ use Rattle.std.specs.Io.KnownBytes.{Appends}
 use Rattle.std.proofs.lemmas.Result.{on_ok_weaker}
 use Rattle.mls_wire.proofs.KnownBytes.{Appends-trans}
 use Rattle.mls_wire.specs.Devices.{AppendsPrefix}
-use Rattle.mls_report.specs.declared.verdict.RunFault.TheVariants.{Memory}
-use Rattle.mls_report.proofs.Outcomes.{IfErr-is}
+use Rattle.mls_show.specs.declared.verdict.RunFault.TheVariants.{Memory}
+use Rattle.mls_show.proofs.Outcomes.{IfErr-is}
 use Rattle.mls_gate.specs.Answers.{query_count_line}
 use Rattle.mls_gate.proofs.OpeningLines.{in-lines, before-count, in-count}
 use Rattle.mls_gate.proofs.Serving.{write-part}

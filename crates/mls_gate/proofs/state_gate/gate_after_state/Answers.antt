@@ -1,6 +1,6 @@
 use Rattle.std.proofs.Common.{rules, inr, refl}
 use Rattle.std.proofs.lemmas.Result.{IfOk-weaker, IfErr-weaker}
-use Rattle.mls_report.proofs.Outcomes.{IfErr-is}
+use Rattle.mls_show.proofs.Outcomes.{IfErr-is}
 use Rattle.mls_follow.specs.FollowerModel.{state_of}
 use Rattle.mls_gate.specs.GateSteps.{Are}
 use Rattle.mls_gate.specs.Phases.{OfState}

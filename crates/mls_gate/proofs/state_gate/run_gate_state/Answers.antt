@@ -1,6 +1,6 @@
 use Rattle.std.proofs.Common.{rules}
 use Rattle.std.proofs.lemmas.Result.{IfOk-weaker, IfErr-weaker}
-use Rattle.mls_report.proofs.Outcomes.{IfErr-is}
+use Rattle.mls_show.proofs.Outcomes.{IfErr-is}
 use Rattle.mls_gate.specs.Phases.{OfState}
 use Rattle.mls_gate.proofs.Starting.{printed-read, part-read, part-unread}
 use Rattle.mls_gate.proofs.state_gate.run_gate_state.Goals as goal

@@ -1,6 +1,6 @@
 use Rattle.std.proofs.Common.{rules}
-use Rattle.mls_report.specs.declared.verdict.RunFault.TheVariants.{Memory}
-use Rattle.mls_report.proofs.Outcomes.{IfErr-is}
+use Rattle.mls_show.specs.declared.verdict.RunFault.TheVariants.{Memory}
+use Rattle.mls_show.proofs.Outcomes.{IfErr-is}
 use Rattle.mls_follow.specs.FollowerModel.{state_of}
 use Rattle.mls_gate.specs.GateSteps.{signatures_of}
 use Rattle.mls_gate.proofs.QueryLines.{before-lines}

@@ -1,6 +1,6 @@
 use Rattle.std.proofs.Common.{◌∙◌, subst}
 use Rattle.mls_wire.specs.Devices.{AppendsPrefix}
-use Rattle.mls_report.proofs.Outcomes.{OnErr-any}
+use Rattle.mls_show.proofs.Outcomes.{OnErr-any}
 use Rattle.mls_report.proofs.finding.report_finding.Goals as goal
 
 pub returns-in_err-write_text-clause-effect_on_error : goal.returns-in_err-write_text-clause-effect_on_error

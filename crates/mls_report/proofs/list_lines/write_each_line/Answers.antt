@@ -1,6 +1,6 @@
 use Rattle.std.proofs.Common.{rules}
 use Rattle.mls_report.specs.SignaturesReport.{needed_lines}
-use Rattle.mls_report.proofs.Outcomes.{IfErr-is}
+use Rattle.mls_show.proofs.Outcomes.{IfErr-is}
 use Rattle.mls_report.proofs.StartLines.{wrote-at, stops-at, wrote-all, needed_lines-both}
 use Rattle.mls_report.proofs.list_lines.write_each_line.Goals as goal
 

@@ -2,7 +2,7 @@ use Rattle.std.proofs.Common.{rules, arith, ◌≡◌, ◌∙◌, ◌+◌, ◌<�
 use Rattle.mls_wire.specs.Logs.{LogState}
 use Rattle.mls_follow.specs.FollowerModel.{state_of}
 use Rattle.mls_report.specs.Replay.{ProcessedMessage, message_limit}
-use Rattle.mls_report.proofs.Outcomes.{IfErr-is}
+use Rattle.mls_show.proofs.Outcomes.{IfErr-is}
 use Rattle.mls_report.proofs.Replaying.{so_far-none, so_far-snoc, accepted-more, part-turn, followed-broken}
 use Rattle.mls_report.proofs.replay.follow_log.Goals as goal
 

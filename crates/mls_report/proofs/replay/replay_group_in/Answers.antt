@@ -2,7 +2,7 @@ use Rattle.std.proofs.Common.{ap}
 use Rattle.std.specs.Prelude.{option_map}
 use Rattle.std.proofs.lemmas.Result.{IfOk-weaker, IfErr-weaker}
 use Rattle.mls_follow.specs.FollowerModel.{state_of}
-use Rattle.mls_report.proofs.Outcomes.{IfOk-both}
+use Rattle.mls_show.proofs.Outcomes.{IfOk-both}
 use Rattle.mls_report.proofs.ReplayInputs.{group-to, group-none, group-before}
 use Rattle.mls_report.proofs.replay.replay_group_in.Goals as goal
 

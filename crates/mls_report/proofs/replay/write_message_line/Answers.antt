@@ -1,8 +1,8 @@
 use Rattle.std.proofs.Common.{rules, arith}
 use Rattle.mls_follow.specs.FollowerModel.{state_of}
-use Rattle.mls_report.specs.declared.verdict.RunFault.TheVariants.{Write}
+use Rattle.mls_show.specs.declared.verdict.RunFault.TheVariants.{Write}
 use Rattle.mls_report.proofs.Answered.{answered}
-use Rattle.mls_report.proofs.Outcomes.{IfErr-is}
+use Rattle.mls_show.proofs.Outcomes.{IfErr-is}
 use Rattle.mls_report.proofs.replay.write_message_line.Goals as goal
 
 pub returns-in_err-write_text-clause-effect_on_error : goal.returns-in_err-write_text-clause-effect_on_error

@@ -5,7 +5,7 @@ use Rattle.mls_follow.specs.FollowerModel.{state_of}
 use Rattle.mls_report.specs.Replay.{message_limit}
 use Rattle.mls_report.specs.SignaturesReport.{LoggedMessage}
 use Rattle.mls_report.proofs.SignatureLogs.{so_far-none, so_far-snoc, read-more, part-turn, printed-break, in-break, before-break}
-use Rattle.mls_report.proofs.Outcomes.{IfErr-is}
+use Rattle.mls_show.proofs.Outcomes.{IfErr-is}
 use Rattle.mls_report.proofs.Replaying.{line-part}
 use Rattle.mls_report.proofs.signature_log.write_signature_log.Goals as goal
 

@@ -4,7 +4,7 @@ use Rattle.mls_follow.specs.FollowerModel.{state_of}
 use Rattle.mls_follow.specs.Runs.{IsAnswer}
 use Rattle.mls_follow.specs.State.{State}
 use Rattle.mls_report.proofs.Answered.{answered}
-use Rattle.mls_report.proofs.Outcomes.{IfErr-is}
+use Rattle.mls_show.proofs.Outcomes.{IfErr-is}
 use Rattle.mls_report.proofs.signature_log.write_signatures.Goals as goal
 
 pub returns-clause-printed : goal.returns-clause-printed

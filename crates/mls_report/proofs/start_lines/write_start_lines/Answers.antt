@@ -3,7 +3,7 @@ use Rattle.std.proofs.lemmas.Result.{IfErr-weaker, on_ok_weaker}
 use Rattle.mls_follow.specs.FollowerModel.{state_of}
 use Rattle.mls_follow.specs.MessageSignatures.{state_signatures}
 use Rattle.mls_report.specs.SignaturesReport.{needed_lines}
-use Rattle.mls_report.proofs.Outcomes.{IfErr-is}
+use Rattle.mls_show.proofs.Outcomes.{IfErr-is}
 use Rattle.mls_report.proofs.StartLines.{wrote-both, stops-before, stops-behind, needed_lines-both}
 use Rattle.mls_report.proofs.start_lines.write_start_lines.Goals as goal
 

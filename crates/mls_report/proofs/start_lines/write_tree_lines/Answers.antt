@@ -1,7 +1,7 @@
 use Rattle.std.proofs.Common.{rules}
 use Rattle.mls_follow.specs.FollowerModel.{state_of}
 use Rattle.mls_report.specs.SignaturesReport.{needed_lines}
-use Rattle.mls_report.proofs.Outcomes.{IfErr-is}
+use Rattle.mls_show.proofs.Outcomes.{IfErr-is}
 use Rattle.mls_report.proofs.StartLines.{leaves-all, wrote-leaf, stops-at-leaf, needed_lines-both}
 use Rattle.mls_report.proofs.start_lines.write_tree_lines.Goals as goal
 

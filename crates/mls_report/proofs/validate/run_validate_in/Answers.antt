@@ -1,7 +1,7 @@
 use Rattle.std.proofs.Common.{inr}
 use Rattle.std.specs.Prelude.{option_map}
 use Rattle.std.proofs.lemmas.Result.{IfOk-weaker, on_err_weaker}
-use Rattle.mls_report.proofs.Outcomes.{read-nothing}
+use Rattle.mls_show.proofs.Outcomes.{read-nothing}
 use Rattle.mls_report.proofs.validate.run_validate_in.Goals as goal
 
 pub returns-clause-read : goal.returns-clause-read

@@ -1,4 +1,0 @@
-use Rattle.mls_cli.proofs.clap_command.gate_command.Goals as goal
-
-pub returns : goal.returns
-returns c = c.with_checker.ensures _ (c.with_group-command.ensures _ c.titled.ensures)

@@ -1,8 +1,0 @@
-use Rattle.mls_cli.proofs.clap_command.replay_command.Goals as goal
-
-pub returns : goal.returns
-returns c =
-    let group = c.with_group-command.ensures _ c.titled.ensures in
-    let log = c.with-command.ensures _ _ group c.needed-log.ensures in
-    let save = c.with-command-2.ensures _ _ log c.file-save.ensures in
-    c.with_checker.ensures _ save

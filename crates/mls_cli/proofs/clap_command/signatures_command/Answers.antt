@@ -1,7 +1,0 @@
-use Rattle.mls_cli.proofs.clap_command.signatures_command.Goals as goal
-
-pub returns : goal.returns
-returns c =
-    let group = c.with_group-command.ensures _ c.titled.ensures in
-    let log = c.with-command.ensures _ _ group c.file-log.ensures in
-    c.with.ensures _ _ log c.file-receipts.ensures

@@ -1,0 +1,4 @@
+pub mod ClapCommands
+pub mod ClapPartsInternal
+pub mod Orders
+pub mod FaultStatus

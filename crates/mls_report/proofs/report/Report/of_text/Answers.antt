@@ -1,5 +1,0 @@
-use Rattle.std.proofs.Common.{ap}
-use Rattle.mls_report.proofs.report.Report.of_text.Goals as goal
-
-pub returns-clause-bytes : goal.returns-clause-bytes
-returns-clause-bytes c = ap (λ v. v.items) c.into_bytes.ensures.value

@@ -1,0 +1,3 @@
+pub mod TreeLines
+pub mod Lines
+pub mod Outcomes

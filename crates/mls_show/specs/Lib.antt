@@ -1,0 +1,10 @@
+pub mod FaultText
+pub mod InfoText
+pub mod MessageText
+pub mod OneInputReport
+pub mod ReadAll
+pub mod Show
+pub mod Status
+pub mod ValueTexts
+pub mod TreeText
+pub mod TreeTextInternal

@@ -1,0 +1,23 @@
+//! The report `show`: the content of an input as text. How an input is read to its end, and how a report of one input is
+//! written and ends.
+#![tactic(auto)]
+
+mod fault_text;
+mod info_text;
+mod message_text;
+mod read_to_end;
+mod report;
+mod report_buffer;
+mod show;
+mod tree_text;
+mod value_text;
+mod verdict;
+mod write;
+
+pub use fault_text::{node_fault_text, wire_fault_text};
+pub use read_to_end::read_all;
+pub use report::Report;
+pub use show::{ShowKind, run_show, run_show_in};
+pub use value_text::hex_of;
+pub use verdict::{RunFault, Verdict, status_of};
+pub use write::{write_bytes, write_text};

@@ -1,0 +1,51 @@
+//! How a report ends, and the exit status.
+
+ghost use Rattle.std.specs.Prelude.{◌≡◌};
+ghost use Rattle.mls_show.specs.Status.{status};
+
+use std::alloc::AllocError;
+use thiserror::Error;
+
+/// The verdict of a report that is written whole.
+#[derive(Clone, Copy, Debug, PartialEq, Eq)]
+pub enum Verdict {
+    /// Each input is readable, and none was refused.
+    Yes,
+    /// An input is not readable, or was refused.
+    No,
+}
+
+/// Why a report was not written whole.
+#[derive(Clone, Copy, Debug, PartialEq, Eq, Error)]
+pub enum RunFault {
+    /// A source failed, or a file can't be opened.
+    #[error("read")]
+    Read,
+    /// The sink failed.
+    #[error("write")]
+    Write,
+    /// An allocation failed.
+    #[error("memory")]
+    Memory,
+}
+
+impl From<AllocError> for RunFault {
+    ghost use Rattle.mls_show.specs.declared.verdict.RunFault.TheVariants.{Memory};
+
+    ghost from_gives = { λ _ e. e ≡ Memory };
+
+    fn from(_e: AllocError) -> RunFault {
+        RunFault::Memory
+    }
+}
+
+/// Returns the exit status: 0 for `Yes`, 1 for `No`, 3 for a fault.
+pub fn status_of(outcome: &Result<Verdict, RunFault>) -> u8
+    ensures { result ≡ status outcome.now }
+{
+    match outcome {
+        Ok(Verdict::Yes) => 0,
+        Ok(Verdict::No) => 1,
+        Err(_) => 3,
+    }
+}

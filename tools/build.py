@@ -54,7 +54,8 @@ def fail(why):
 
 class Step:
     """The build of one crate. Beside another one it is done in a folder of its own, since `rt` works on the crates
-    below a crate for one command at a time; what it kept is moved there, and back when it is done."""
+    below a crate for one command at a time; what it kept is moved there, and back when it is done. It has a lower
+    priority then: it takes what the other one leaves of the processors."""
 
     def __init__(self, name, jobs, is_beside):
         self.name = name
@@ -67,6 +68,8 @@ class Step:
         self.said = tempfile.TemporaryFile("w+", errors="replace")
         command = [sys.executable, RT, "run" if name == PROGRAM else "lib", "--jobs", str(jobs)]
         command += ["--", "--help"] if name == PROGRAM else []
+        if is_beside:
+            command = ["nice", "-n", "10", *command]
         folder = os.path.join(self.top, "crates", name)
         self.process = subprocess.Popen(
             command, cwd=folder, stdin=subprocess.DEVNULL, stdout=self.said, stderr=subprocess.STDOUT)
@@ -157,7 +160,7 @@ class Build:
         return min(free, self.memory - sum(step.memory() for step in self.running)) - CHECK_MEMORY
 
     def begin(self):
-        """Begins the crates that there is room for: one in its place, with a job for each core, others beside it."""
+        """Begins the crates that there is room for, with a job for each core: one in its place, others beside it."""
         for name in self.ready():
             is_beside = any(not step.is_beside for step in self.running)
             if is_beside and (len(self.running) >= self.cores or not self.can_link):
@@ -165,8 +168,7 @@ class Build:
             room = self.room()
             if is_beside and room < JOB_MEMORY:
                 return
-            most = max(self.cores // 2, 1) if is_beside else min(self.cores, 8)
-            jobs = max(min(most, room // JOB_MEMORY), 1)
+            jobs = max(min(self.cores, 8, room // JOB_MEMORY), 1)
             share = sum(map(seconds_of, self.done)) * 100 // sum(map(seconds_of, self.below))
             say(f"{share} % {name}")
             self.running.append(Step(name, jobs, is_beside))

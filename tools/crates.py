@@ -17,6 +17,7 @@ SECONDS = {
     "mls_nodes": 75,
     "mls_tree": 182,
     "mls_msgs": 215,
+    "mls_show": 65,
     "mls_state": 50,
     "mls_hash": 63,
     "mls_check": 83,
@@ -24,10 +25,11 @@ SECONDS = {
     "mls_apply": 152,
     "mls_signatures": 159,
     "mls_follow": 143,
-    "mls_report": 165,
+    "mls_report": 120,
     "mls_vectors": 101,
     "mls_gate": 98,
-    "mls_cli": 102,
+    "mls_commands": 90,
+    "mls_cli": 45,
     "mlscheck": 113,
 }
 OTHER_SECONDS = 120

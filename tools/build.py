@@ -244,7 +244,7 @@ def announce(below):
     kept = [name for name in below if os.path.exists(os.path.join(CRATES, name, "out", "rlib", "stamp"))]
     if kept:
         say(f"not built yet: going on from what is kept of {len(kept)} of {len(below)} crates")
-    minutes = sum(map(seconds_of, below)) // 60
+    minutes = max(chain(below, name) for name in below) // 60
     say(f"{'all of it' if kept else 'not built yet: proving and building it'} takes some {minutes} minutes on four "
         f"cores, {gigabytes(DISK)} of disk ({gigabytes(shutil.disk_usage(TOP).free)} are free) "
         f"and at least {gigabytes(MEMORY)} of memory ({gigabytes(free_memory())} are free)")

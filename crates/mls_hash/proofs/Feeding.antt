@@ -1,10 +1,8 @@
 -- Encodings that are fed to a hasher one after the other.
-use Rattle.std.proofs.Common.{◌≡◌, ℕ, ◌+◌, List, [], ◌∷◌, ◌++◌, ◌<◌, length, take, drop, replicate, Option, Some, None, refl, sym, ap, ap₂, ◌∙◌, subst, append_assoc, arith}
-use lib.Seq.{take-append-add, drop-append-add}
-use Rattle.std.proofs.lemmas.List.{append-nil}
+use Rattle.std.proofs.Common.{◌≡◌, ℕ, List, [], ◌++◌, ◌<◌, length, Option, Some, None, refl, sym, ap, ◌∙◌, subst, append_assoc, arith}
 use Rattle.std.specs.Prelude.{option_map}
 use Rattle.mls_wire.specs.Encoding.{◌⊕◌, length_form, vector}
-use Rattle.mls_wire.specs.LengthsExact.{no_length, form_1}
+use Rattle.mls_wire.specs.LengthsExact.{no_length}
 use Rattle.mls_wire.specs.EncodingConcat.{join, no_left, regrouped}
 use Rattle.mls_hash.specs.declared.hasher.Hasher.{Hasher}
 use Rattle.mls_hash.specs.HasherModel.{HoldsMessage, HoldsMore, IsFed}
@@ -40,21 +38,3 @@ hash_held H text old new result none more end =
 -- three encodings, of which the first two are one, and of which the last two are one
 pub first_two_held : (a b c : Option (List ℕ)) (old new : Hasher) → HoldsMore ((a ⊕ b) ⊕ c) old new → HoldsMore (a ⊕ b ⊕ c) old new
 first_two_held a b c old new = subst (λ (t : Option (List ℕ)). HoldsMore t old new) (regrouped a b c)
-
--- ---- two vectors of 32 bytes
-
-short_vector : (body : List ℕ) → length body ≡ 32 → vector body ≡ Some (32 ∷ body)
-unfolding vector
-short_vector body e = join (length_form (length body)) (Some body) (32 ∷ []) body (ap length_form e ∙ form_1 32 (omega arith)) refl
-
--- both, put into 66 bytes that are all 32
-pub two_short : (l r : List ℕ) → length l ≡ 32 → length r ≡ 32
-    → vector l ⊕ vector r ≡ Some (32 ∷ (take 33 (l ++ replicate 33 32) ++ (r ++ drop 32 (drop 33 (l ++ replicate 33 32)))))
-two_short l r a b =
-    let R : List ℕ = replicate 33 32 in
-    let same : 33 ≡ length l + 1 = omega (arith, a) in
-    let before : take 33 (l ++ R) ≡ l ++ 32 ∷ [] = ap (λ (n : ℕ). take n (l ++ R)) same ∙ take-append-add l R 1 in
-    let after : drop 33 (l ++ R) ≡ drop 1 R = ap (λ (n : ℕ). drop n (l ++ R)) same ∙ drop-append-add l R 1 in
-    let whole : take 33 (l ++ R) ++ (r ++ drop 32 (drop 33 (l ++ R))) ≡ l ++ 32 ∷ r =
-    ap₂ (λ (p q : List ℕ). p ++ (r ++ drop 32 q)) before after ∙ append_assoc l (32 ∷ []) (r ++ []) ∙ ap (λ (t : List ℕ). l ++ 32 ∷ t) (append-nil r) in
-    join (vector l) (vector r) (32 ∷ l) (32 ∷ r) (short_vector l a) (short_vector r b) ∙ ap (λ (t : List ℕ). Some (32 ∷ t)) (sym whole)

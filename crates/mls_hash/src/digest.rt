@@ -45,31 +45,14 @@ pub(crate) fn feed_vector(hasher: &mut Hasher, body: &[u8])
     hasher.update(body);
 }
 
-/// Returns two bodies of 32 bytes, each as a vector.
-fn two_vectors(first: &[u8], second: &[u8]) -> [u8; 66]
-    requires first { length first.now ≡ 32 }
-    requires second { length second.now ≡ 32 }
-    ensures { vector first.now ⊕ vector second.now ≡ Some result }
-{
-    // The bytes at 0 and 33 are the lengths.
-    let mut both = [32; 66];
-    both[1..33].copy_from_slice(first);
-    both[34..].copy_from_slice(second);
-    both
-}
-
-/// Feeds two vectors. Bodies of 32 bytes, as the hashes and keys of most suites, are fed at once.
+/// Feeds two vectors, one after the other.
 pub(crate) fn feed_two_vectors(hasher: &mut Hasher, first: &[u8], second: &[u8])
     requires first { length first.now ≤ vector_limit }
     requires second { length second.now ≤ vector_limit }
     ensures { HoldsMore (vector first.now ⊕ vector second.now) hasher.old hasher.new }
 {
-    if first.len() == 32 && second.len() == 32 {
-        hasher.update(&two_vectors(first, second));
-    } else {
-        feed_vector(hasher, first);
-        feed_vector(hasher, second);
-    }
+    feed_vector(hasher, first);
+    feed_vector(hasher, second);
 }
 
 /// Returns the reference `RefHash(label, value)` (RFC 9420, 5.2): the hash of the label and the value, each as a

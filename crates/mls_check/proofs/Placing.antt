@@ -5,12 +5,11 @@ use Rattle.std.specs.List.{Contains, list_all}
 use Rattle.std.specs.List.Sorted.{IsStrictlyIncreasing}
 use Rattle.std.proofs.lemmas.Option.{same_Some, none-some}
 use Rattle.std.proofs.lemmas.Bool.{cases_lt, cases_Bool, false≢true, eqb-true}
-use Rattle.std.proofs.lemmas.Bool.Decides.{Decides-eqb}
 use Rattle.std.proofs.lemmas.List.Elements.{All-weaker, Contains-get_or}
 use Rattle.std.proofs.lemmas.List.Folds.{list_all-append}
 use Rattle.mls_nodes.specs.declared.leaf.LeafNode.{LeafNode}
 use Rattle.mls_nodes.specs.declared.parent.ParentNode.{ParentNode}
-use Rattle.mls_tree.specs.Tree.{Tree, leaf, branch, leaf_count, subtree_at, entry_of}
+use Rattle.mls_tree.specs.Tree.{Tree, leaf, branch, leaf_count, Subtree, subtree_at, entry_of}
 use Rattle.mls_tree.specs.NodeView.{HasChildren}
 use Rattle.mls_tree.proofs.Choices.{below, from}
 use Rattle.mls_tree.proofs.Descent.{depth}
@@ -20,30 +19,18 @@ use Rattle.mls_check.proofs.Elements.{contains-head, contains-tail, all-each, an
 use Rattle.mls_check.proofs.Outside.{outside_above}
 use Rattle.mls_check.proofs.Walks.{one-fails, list_all-and, list_all-same, contained}
 
-eqb-same : (n : ℕ) → (n == n) ≡ true
-eqb-same n = (Decides-eqb n n).1 refl
+-- where there is no subtree, no test of a leaf holds
+pub none-entered : (test : ℕ → ℕ → Tree → Bool) (t : Tree) (p : ℕ) (leaves : List ℕ) → 0 < length leaves → subtree_at 0 t p ≡ None → false ≡ list_all (λ i. holds_at test (subtree_at 0 t p) i) leaves
+none-entered test t p leaves l e =
+    one-fails (λ i. holds_at test (subtree_at 0 t p) i) leaves 0 l (λ h. false≢true (sym (ap (λ s. holds_at test s (get_or leaves 0 0)) e) ∙ h))
 
-and-true : (b : Bool) → (b && true) ≡ b
-and-true true = refl
-and-true false = refl
+-- under a leaf, a test that holds of that leaf alone
+module _ (test : ℕ → ℕ → Tree → Bool) (t : Tree) (p index : ℕ) (x : Option LeafNode) (alone : (i : ℕ) → test i index (leaf x) ≡ ((i == index) && is_some x))
+    (at : subtree_at 0 t p ≡ Some (record { first = index; tree = leaf x })) (leaves : List ℕ) where
+  entered-here : list_all (λ i. holds_at test (subtree_at 0 t p) i) leaves ≡ list_all (λ i. (i == index) && is_some x) leaves
+  entered-here = (λ j. list_all (λ i. holds_at test (at j) i) leaves) ∙ (λ j. list_all (λ i. alone i j) leaves)
 
--- where there is no subtree, no leaf is entered
-pub none-entered : (t : Tree) (p : ℕ) (leaves : List ℕ) → 0 < length leaves → subtree_at 0 t p ≡ None → false ≡ list_all (λ i. is_unmerged_in_all_at (subtree_at 0 t p) i) leaves
-none-entered t p leaves l e =
-    one-fails (λ i. is_unmerged_in_all_at (subtree_at 0 t p) i) leaves 0 l (λ h. false≢true (sym (ap (λ s. is_unmerged_in_all_at s (get_or leaves 0 0)) e) ∙ h))
-
--- under a leaf, that leaf alone is
-module _ (t : Tree) (p index : ℕ) (x : Option LeafNode) (at : subtree_at 0 t p ≡ Some (record { first = index; tree = leaf x })) (leaves : List ℕ) where
-  entered-here : list_all (λ i. is_unmerged_in_all_at (subtree_at 0 t p) i) leaves ≡ list_all (λ i. (i == index) && is_some x) leaves
-  entered-here j = list_all (λ i. is_unmerged_in_all_at (at j) i) leaves
-
-  pub leaf-entered : leaves ≡ index ∷ [] → is_some x ≡ list_all (λ i. is_unmerged_in_all_at (subtree_at 0 t p) i) leaves
-  leaf-entered e = sym (entered-here ∙ ap (λ xs. list_all (λ i. (i == index) && is_some x) xs) e ∙ only (is_some x))
-    where
-      only : (b : Bool) → (((index == index) && b) && true) ≡ b
-      only b = ap (λ a. (a && b) && true) (eqb-same index) ∙ and-true b
-
-  pub others-entered : 0 < length leaves → IsStrictlyIncreasing leaves → leaves ≢ index ∷ [] → false ≡ list_all (λ i. is_unmerged_in_all_at (subtree_at 0 t p) i) leaves
+  pub others-entered : 0 < length leaves → IsStrictlyIncreasing leaves → leaves ≢ index ∷ [] → false ≡ list_all (λ i. holds_at test (subtree_at 0 t p) i) leaves
   others-entered l increasing n = go leaves l increasing n ∙ sym entered-here
     where
       same : (xs : List ℕ) → list_all (λ i. (i == index) && is_some x) xs ≡ true → (k : ℕ) → k < length xs → get_or xs k 0 ≡ index
@@ -115,9 +102,13 @@ module _ (t : Tree) (p q u m : ℕ) where
       )
 
 -- there is nothing to ask past the last place
-pub consistent_everywhere : (t : Tree) (n : ℕ) → n + 1 ≡ 2 * leaf_count t → ((p : ℕ) → p < n → HasConsistentUnmergedAt t p) → (p : ℕ) → HasConsistentUnmergedAt t p
-consistent_everywhere t n e h p s a =
+pub asked_everywhere : (P : Subtree → Type 0) (t : Tree) (n : ℕ) → n + 1 ≡ 2 * leaf_count t
+    → ((p : ℕ) → p < n → (s : Subtree) → subtree_at 0 t p ≡ Some s → P s) → (p : ℕ) (s : Subtree) → subtree_at 0 t p ≡ Some s → P s
+asked_everywhere P t n e h p s a =
     elim (cases_lt p n) [ inl l ↦ h p l s a | inr g ↦ absurd (none-some s (sym (outside_above t p n e g) ∙ a)) ]
+
+pub consistent_everywhere : (t : Tree) (n : ℕ) → n + 1 ≡ 2 * leaf_count t → ((p : ℕ) → p < n → HasConsistentUnmergedAt t p) → (p : ℕ) → HasConsistentUnmergedAt t p
+consistent_everywhere t n e h = asked_everywhere (λ s. IsTrue (is_consistent s.first s.tree)) t n e h
 
 pub sorted_everywhere : (t : Tree) (n : ℕ) → n + 1 ≡ 2 * leaf_count t → ((p : ℕ) → p < n → IsSortedAt t p) → (p : ℕ) → IsSortedAt t p
 sorted_everywhere t n e h p =

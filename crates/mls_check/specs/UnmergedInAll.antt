@@ -35,3 +35,7 @@ is_carried_down first (branch l (Some p) r) = list_all (λ i. is_listed_by_next 
 -- `IsCarriedDownAt t p`: so it is with the subtree at node index p, if there is one.
 abbrev pub IsCarriedDownAt : Tree → ℕ → Type 0
 IsCarriedDownAt t p = (s : Subtree) → subtree_at 0 t p ≡ Some s → IsTrue (is_carried_down s.first s.tree)
+
+-- `AreCarriedDown t`: so it is at every node index.
+abbrev pub AreCarriedDown : Tree → Type 0
+AreCarriedDown t = (p : ℕ) → IsCarriedDownAt t p

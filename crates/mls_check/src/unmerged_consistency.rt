@@ -1,12 +1,13 @@
 //! Whether unmerged leaves are consistent: each is a non-blank leaf below the parent, and every non-blank parent in
 //! between lists it (RFC 9420, 12.4.3.1).
 //!
-//! If each list is carried down, each is consistent: then each of its leaves is listed by the next non-blank parent on the
-//! way down to it, which is asked of this parent's list in turn. So a list is walked along blank parents only, down to the
-//! next lists. It is split at the middle of each parent, and not passed to a subtree without entries.
+//! A list is carried down if each of its leaves is listed by the next non-blank parent on the way down to it, or is
+//! non-blank if there is none. If all lists are carried down, all are consistent: the next parent's list has the leaf, and
+//! is carried down itself. So at first each list is compared with the next lists below it only. It is split at the middle
+//! of each blank parent in between, and not passed to a subtree without entries.
 //!
-//! If one is not carried down, the first inconsistent one is looked for. A list is then walked along the whole tree below
-//! its parent, and compared with the list of each non-blank parent in between.
+//! If one is not carried down, the first inconsistent one is looked for. A list is then compared with the list of each
+//! non-blank parent on the way down to each of its leaves.
 
 ghost use Rattle.std.specs.Prelude.{◌≡◌, ◌↔◌, IsTrue, IfSome};
 ghost use Rattle.std.specs.Option.{option_copied};
@@ -14,23 +15,22 @@ ghost use Rattle.std.specs.List.{list_all};
 ghost use Rattle.std.specs.List.Sorted.{IsStrictlyIncreasing};
 ghost use Rattle.mls_tree.specs.Tree.{subtree_at};
 ghost use Rattle.mls_check.specs.FirstFailureInternal.{IsFirstFailureIn};
-ghost use Rattle.mls_check.specs.UnmergedLists.{HasStrictlyIncreasingLists, HasConsistentUnmerged, HasConsistentUnmergedAt, is_blank_or_lists, is_unmerged_in_all};
+ghost use Rattle.mls_check.specs.UnmergedLists.{HasStrictlyIncreasingLists, HasConsistentUnmergedAt, is_blank_or_lists, is_unmerged_in_all};
 ghost use Rattle.mls_check.specs.UnmergedListsInternal.{HasSortedEntries};
-ghost use Rattle.mls_check.specs.UnmergedInAll.{is_unmerged_in_all_at, is_listed_by_next_at, IsCarriedDownAt};
+ghost use Rattle.mls_check.specs.UnmergedInAll.{is_unmerged_in_all_at, is_listed_by_next_at, IsCarriedDownAt, AreCarriedDown};
 
 use crate::node_count::node_index_count;
 use crate::sorted_leaf_lists::{are_among, is_only};
 use mls_nodes::ParentNode;
 use mls_tree::{Part, PublicTree, split_leaves};
 
-/// Returns whether each of the leaves is listed by the next non-blank parent on the way down to it from a node index. If
-/// there is none on the way to a leaf, the leaf must be non-blank and in the subtree. If the answer is no, nothing is
-/// known.
+/// Returns whether each of the leaves is in the subtree at a node index, and is listed by the next non-blank parent on the
+/// way down to it, or is non-blank if there is none.
 fn are_listed_by_next(tree: &PublicTree, leaves: &[u32], node_index: u32) -> bool
     requires sorted { HasStrictlyIncreasingLists tree.now.tree }
     requires increasing { IsStrictlyIncreasing leaves.now }
-    ensures { IsTrue result
-        → IsTrue (list_all (λ i. is_listed_by_next_at (subtree_at 0 tree.now.tree node_index) i) leaves.now) }
+    ensures { result ≡ list_all
+        (λ i. is_listed_by_next_at (subtree_at 0 tree.now.tree node_index) i) leaves.now }
 {
     if leaves.is_empty() {
         return true;
@@ -58,11 +58,10 @@ fn are_listed_by_next(tree: &PublicTree, leaves: &[u32], node_index: u32) -> boo
     }
 }
 
-/// Returns whether the unmerged list of the parent at a node index, if it has one, is carried down. If the answer is no,
-/// nothing is known.
+/// Returns whether the unmerged list of the parent at a node index is carried down, or there is none.
 fn is_carried_down(tree: &PublicTree, node_index: u32) -> bool
     requires { HasStrictlyIncreasingLists tree.now.tree }
-    ensures { IsTrue result → IsCarriedDownAt tree.now.tree node_index }
+    ensures { IsTrue result ↔ IsCarriedDownAt tree.now.tree node_index }
 {
     let Some(
         Part::Parent {
@@ -79,10 +78,10 @@ fn is_carried_down(tree: &PublicTree, node_index: u32) -> bool
     are_listed_by_next(tree, before, left) && are_listed_by_next(tree, after, right)
 }
 
-/// Returns whether each unmerged list is carried down. Then each is consistent. If the answer is no, nothing is known.
+/// Returns whether each unmerged list is carried down.
 fn are_carried_down(tree: &PublicTree) -> bool
     requires { HasStrictlyIncreasingLists tree.now.tree }
-    ensures { IsTrue result → HasConsistentUnmerged tree.now.tree }
+    ensures { IsTrue result ↔ AreCarriedDown tree.now.tree }
 {
     for node_index in 0..node_index_count(tree) {
         if !is_carried_down(tree, node_index) {

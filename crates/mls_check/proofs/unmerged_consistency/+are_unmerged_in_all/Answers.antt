@@ -1,4 +1,4 @@
-use Rattle.std.proofs.Common.{ℕ, List, sym, ap, ◌∙◌, arith}
+use Rattle.std.proofs.Common.{ℕ, List, refl, sym, ap, ◌∙◌, arith}
 use Rattle.std.specs.Prelude.{◌&&◌}
 use Rattle.std.specs.List.{list_all}
 use Rattle.std.proofs.lemmas.Bool.{false≢true}
@@ -7,19 +7,20 @@ use Rattle.mls_tree.specs.PublicTreeModel.{plain}
 use Rattle.mls_tree.specs.RatchetTree.{RatchetTree}
 use Rattle.mls_tree.proofs.Descent.{right_lower}
 use Rattle.mls_check.specs.UnmergedInAll.{is_unmerged_in_all_at}
+use Rattle.mls_check.specs.UnmergedLists.{is_unmerged_in_all}
 use Rattle.mls_check.proofs.Placing.{none-entered, others-entered, parent-entered, apart-entered, in_child, left_lower}
 use Rattle.mls_check.proofs.Walks.{all-from, left-rises, right-rises, not-empty}
 use Rattle.mls_check.proofs.unmerged_consistency.+are_unmerged_in_all.Goals as goal
 
 pub returns-in-None : goal.returns-in-None
 returns-in-None t c =
-    none-entered c.args.tree.now.tree c.args.node_index c.args.leaves.now (not-empty c.args.leaves.now (sym c.is_empty.ensures ∙ c.if-is_empty.false)) c.in-None.ensures
+    none-entered is_unmerged_in_all c.args.tree.now.tree c.args.node_index c.args.leaves.now (not-empty c.args.leaves.now (sym c.is_empty.ensures ∙ c.if-is_empty.false)) c.in-None.ensures
 
 pub returns-else-is_only : goal.returns-else-is_only
 returns-else-is_only t c =
     let part = rw c.in-Some-Leaf.field-0-is at c.in-Some-Leaf.ensures in
     c.if-is_only.false
-    ∙ others-entered c.args.tree.now.tree c.args.node_index c.in-Some-Leaf.index _ part c.args.leaves.now (not-empty c.args.leaves.now (sym c.is_empty.ensures ∙ c.if-is_empty.false)) c.requires.increasing
+    ∙ others-entered is_unmerged_in_all c.args.tree.now.tree c.args.node_index c.in-Some-Leaf.index _ (λ i. refl) part c.args.leaves.now (not-empty c.args.leaves.now (sym c.is_empty.ensures ∙ c.if-is_empty.false)) c.requires.increasing
     (λ e. false≢true (sym c.if-is_only.false ∙ c.is_only.ensures.1 e))
 
 pub returns-then-not-lists_all : goal.returns-then-not-lists_all

@@ -23,14 +23,14 @@ use Rattle.mls_show.specs.Show.{Shows, ShowsPart}
 use Rattle.mls_report.specs.SignaturesReport.{SignaturesPart, SignaturesState, SignaturesStatePart}
 use Rattle.mls_report.specs.SignaturesReport as signatures
 use Rattle.mls_report.specs.StartInputs.{has_failed}
-use Rattle.mls_report.specs.Validate.{Validates, ValidatesPart, ValidatesState, ValidatesStatePart}
+use Rattle.mls_audit.specs.Validate.{Validates, ValidatesPart, ValidatesState, ValidatesStatePart}
 use Rattle.mls_report.specs.ValidateTree.{ValidatesTree, ValidatesTreePart}
 use Rattle.mls_show.specs.declared.verdict.RunFault.{RunFault}
 use Rattle.mls_show.specs.declared.verdict.RunFault.TheVariants.{Read, Write, Memory}
 use Rattle.mls_show.specs.declared.verdict.Verdict.{Verdict}
 use Rattle.mls_show.specs.declared.show.ShowKind.{ShowKind}
 use Rattle.mls_vectors.specs.CheckReport.{Checks, ChecksPart}
-use Rattle.mls_vectors.specs.declared.check.CheckKind.{CheckKind}
+use Rattle.mls_show.specs.declared.check_kind.CheckKind.{CheckKind}
 
 -- `stdin` is the name of standard input.
 abbrev pub stdin : List ℕ

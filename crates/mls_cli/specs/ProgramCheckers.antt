@@ -9,7 +9,7 @@ use Rattle.mls_cli.specs.Files.{Opener, ReadsFile, CannotReadFile}
 use Rattle.mls_cli.specs.ReportResult.{ReportResult}
 use Rattle.mls_commands.specs.declared.order.CheckerChoice.{CheckerChoice}
 use Rattle.mls_commands.specs.declared.order.CheckerChoice.TheVariants as checker
-use Rattle.mls_report.specs.UnreadableReceipts.{ReportsReceipts, receipts_line}
+use Rattle.mls_audit.specs.UnreadableReceipts.{ReportsReceipts, receipts_line}
 use Rattle.mls_show.specs.declared.verdict.RunFault.{RunFault}
 use Rattle.mls_show.specs.declared.verdict.RunFault.TheVariants.{Read, Write, Memory}
 

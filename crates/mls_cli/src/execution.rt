@@ -14,15 +14,15 @@ ghost use Rattle.mls_cli.specs.CheckerFaults.{IsCheckerFault};
 use crate::files::Files;
 use crate::load_checker::read_judge;
 use crate::program_checker::{CheckerFault, ProgramChecker};
+use mls_audit::{
+    Replayed, replay_group_in, replay_state, run_signatures_in, run_signatures_state,
+    run_unreadable_receipts, run_validate_in, run_validate_state, run_validate_tree,
+};
 use mls_commands::{CheckerChoice, FileName, GroupFiles, GroupReport, Order, ReplayFiles};
 use mls_follow::Follower;
 use mls_gate::{run_gate_in, run_gate_state};
 use mls_msgs::Profile;
-use mls_report::{
-    Replayed, RunFault, ShowKind, Verdict, replay_group_in, replay_state, run_show_in,
-    run_signatures_in, run_signatures_state, run_unreadable_receipts, run_validate_in,
-    run_validate_state, run_validate_tree,
-};
+use mls_report::{RunFault, ShowKind, Verdict, run_show_in};
 use mls_vectors::{CheckKind, run_check};
 use mls_wire::{CodecFault, Sink};
 use std::alloc::Global;

@@ -4,8 +4,8 @@ use Rattle.std.specs.Str.{bytes_eq}
 use Rattle.clap.specs.Words.{Text, Row, first_of, fault_of, subcommand_of, IsAmong}
 use Rattle.clap.specs.declared.error.kind.ErrorKind.TheVariants.{DisplayHelp, DisplayVersion}
 use Rattle.mls_commands.specs.ClapCommands.{mlscheck_app}
-use Rattle.mls_vectors.specs.declared.check.CheckKind.{CheckKind}
-use Rattle.mls_vectors.specs.declared.check.CheckKind.TheVariants as checks
+use Rattle.mls_show.specs.declared.check_kind.CheckKind.{CheckKind}
+use Rattle.mls_show.specs.declared.check_kind.CheckKind.TheVariants as checks
 use Rattle.mls_commands.specs.declared.order.CheckerChoice.{CheckerChoice}
 use Rattle.mls_commands.specs.declared.order.CheckerChoice.TheVariants as checker
 use Rattle.mls_commands.specs.declared.order.GroupReport.{GroupReport}

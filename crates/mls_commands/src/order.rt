@@ -5,8 +5,7 @@ ghost use Rattle.mls_commands.specs.FaultStatus.{fault_status};
 
 use crate::file_name::FileName;
 use mls_msgs::Profile;
-use mls_show::ShowKind;
-use mls_vectors::CheckKind;
+use mls_show::{CheckKind, ShowKind};
 use std::alloc::AllocError;
 use thiserror::Error;
 

@@ -12,8 +12,7 @@ use crate::order::{CheckerChoice, GroupFiles, GroupReport, Order, OrderFault, Re
 use clap::error::ErrorKind;
 use clap::{ArgMatches, Error};
 use mls_msgs::Profile;
-use mls_show::ShowKind;
-use mls_vectors::CheckKind;
+use mls_show::{CheckKind, ShowKind};
 use std::alloc::{AllocError, Global};
 
 /// Returns clap's refusal as a fault.

@@ -37,7 +37,7 @@ use Rattle.mls_follow.specs.State.{State}
 use Rattle.mls_follow.specs.ReadableExtensions.{AreReadable, FollowersKnowReadable, CommitsAreReadable}
 use Rattle.mls_follow.specs.MessageRules.{required_after, proposal_message_rules, content_rules, leaf_rules, signed_proposal_rules, outside_content_rules, outside_rules, if_full, sender_rules, frame_rules, message_rules, reference_of}
 use Rattle.mls_follow.specs.NextState.{Transition, after_proposal, committed, after_tree, commit_tree, with_list, after_commit, after_content, after_join, after_outside, after_sender, next}
-use Rattle.mls_follow.specs.Transcript.{confirmed_hash, interim_hash}
+use Rattle.mls_apply.specs.Transcript.{confirmed_hash, interim_hash}
 use Rattle.mls_tree.specs.TreeHash.{tree_hash}
 use Rattle.mls_hash.specs.SuiteHash.{hash_of}
 use Rattle.mls_follow.specs.Acceptance.{IsAcceptable, IsNext}

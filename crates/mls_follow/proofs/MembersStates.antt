@@ -53,7 +53,7 @@ use Rattle.mls_follow.specs.MessageRules.{reference_of, proposal_message_rules, 
 use Rattle.mls_follow.specs.NextState.{Transition, after_proposal, committed, after_tree, commit_tree, with_list, is_over_after, after_content, after_sender, next}
 use Rattle.mls_follow.specs.RefusalNumbers.{number_of}
 use Rattle.mls_follow.specs.Resumption.{CanHoldEntries, can_hold, is_receivable, with_pending, base_state, is_over, profile_of_mode}
-use Rattle.mls_follow.specs.Transcript.{confirmed_hash, interim_hash}
+use Rattle.mls_apply.specs.Transcript.{confirmed_hash, interim_hash}
 use Rattle.mls_follow.specs.declared.refusal.Refusal.{Refusal}
 use Rattle.mls_follow.proofs.Answering.{one_message}
 

@@ -45,7 +45,7 @@ use Rattle.mls_apply.proofs.RuleLists.{AreKept, passed, refused, first_failing-m
 use Rattle.mls_follow.specs.State.{State}
 use Rattle.mls_follow.specs.MessageRules.{refusal_of, reference_of, is_known_reference, is_new_proposal, proposal_message_rules, content_rules, leaf_rules, is_sender_supported, is_known_external, signed_proposal_rules, outside_content_rules, outside_rules, if_full, sender_rules, frame_rules, message_rules}
 use Rattle.mls_follow.specs.NextState.{Transition, after_proposal, committed, after_tree, commit_tree, with_list, after_commit, after_content, after_join, after_outside, after_sender, next}
-use Rattle.mls_follow.specs.Transcript.{confirmed_hash, interim_hash}
+use Rattle.mls_apply.specs.Transcript.{confirmed_hash, interim_hash}
 use Rattle.mls_follow.specs.Acceptance.{IsAcceptable, IsNext}
 use Rattle.mls_follow.specs.Runs.{IsTransition, Call, IsRun}
 use Rattle.mls_follow.specs.Start.{IsStart}

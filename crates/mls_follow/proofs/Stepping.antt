@@ -36,7 +36,7 @@ use Rattle.mls_apply.specs.RuleLists.{first_failing, map_refusals}
 use Rattle.mls_apply.proofs.Merging.{came_from}
 use Rattle.mls_apply.proofs.RuleLists.{AreKept, passed, passed_both, refused}
 use Rattle.mls_follow.specs.State.{State}
-use Rattle.mls_follow.specs.Transcript.{confirmed_hash, interim_hash}
+use Rattle.mls_apply.specs.Transcript.{confirmed_hash, interim_hash}
 use Rattle.mls_follow.specs.MessageRules.{refusal_of, reference_of, inline_rules, member_rules, tree_rules, CommitterTree, committer_tree, resulting, changed_tree, path_rules_of, committer_tree_rules, applied_tree_rules, required_after, rules_with_requirements, proposal_list_rules, commit_rules, content_rules, leaf_rules, external_commit_rules, signed_commit_rules, joiner_rules, if_full, sender_rules, frame_rules, message_rules}
 use Rattle.mls_follow.specs.NextState.{Transition, after_proposal, committed, after_tree, commit_tree, with_extensions, with_list, after_content, after_join, after_outside, after_sender, next}
 use Rattle.mls_follow.specs.Acceptance.{IsAcceptable, IsNext}

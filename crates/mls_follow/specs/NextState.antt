@@ -22,7 +22,7 @@ use Rattle.mls_apply.specs.ResolvedList.{resolved}
 use Rattle.mls_apply.specs.AppliedList.{outcome}
 use Rattle.mls_follow.specs.State.{State}
 use Rattle.mls_follow.specs.MessageRules.{reference_of, changed_tree}
-use Rattle.mls_follow.specs.Transcript.{confirmed_hash, interim_hash}
+use Rattle.mls_apply.specs.Transcript.{confirmed_hash, interim_hash}
 use Rattle.mls_follow.specs.declared.taken.Taken.{Taken}
 use Rattle.mls_follow.specs.declared.taken.Taken.TheVariants as takens
 

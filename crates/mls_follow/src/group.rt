@@ -10,13 +10,12 @@ ghost use Rattle.mls_nodes.proofs.RequiredOnce.{Requires-prop};
 ghost use Rattle.mls_apply.specs.Staged.{IsSettled};
 ghost use Rattle.mls_apply.specs.StagedInternal.{IsSettled-prop};
 ghost use Rattle.mls_follow.specs.State.{last_epoch};
-ghost use Rattle.mls_follow.specs.Transcript.{confirmed_hash, interim_hash};
+ghost use Rattle.mls_apply.specs.Transcript.{confirmed_hash, interim_hash};
 
 use crate::next_extensions::NextExtensions;
 use crate::refusal::Refusal;
 use crate::taken::Taken;
-use crate::transcript::{confirmed_hash, interim_hash};
-use mls_apply::{KnownProposal, PendingProposals, StagedTree};
+use mls_apply::{KnownProposal, PendingProposals, StagedTree, confirmed_hash, interim_hash};
 use mls_hash::Suite;
 use mls_msgs::{Authenticated, Profile, Proposal, Sender};
 use mls_nodes::{ExternalSenders, GroupContext, RequiredCapabilities};

@@ -31,9 +31,9 @@ mod start_fault;
 mod stored_state;
 mod take;
 mod taken;
-mod transcript;
 
 pub use follower::Follower;
+pub use mls_apply::{confirmed_hash, interim_hash};
 pub use refusal::Refusal;
 pub use resume::ResumeRefused;
 pub use resume_fault::ResumeFault;
@@ -41,4 +41,3 @@ pub use signatures::SignatureListFault;
 pub use start::{StartRefused, tree_in};
 pub use start_fault::StartFault;
 pub use taken::Taken;
-pub use transcript::{confirmed_hash, interim_hash};

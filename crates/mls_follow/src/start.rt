@@ -15,8 +15,7 @@ ghost use Rattle.mls_follow.specs.StartInternal.{StartsWith, FailsWith, IsSigned
 
 use crate::group_tree::{UnsupportedContext, group_requirements, suite_of};
 use crate::start_fault::StartFault;
-use crate::transcript::interim_hash;
-use mls_apply::StagedTree;
+use mls_apply::{StagedTree, interim_hash};
 use mls_check::{OutOfMemory, SignatureCheck, signed};
 use mls_hash::Suite;
 use mls_msgs::{GROUP_INFO_LABEL, GroupInfo, info_tbs};

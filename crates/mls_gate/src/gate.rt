@@ -194,7 +194,7 @@ fn gate_from<R: Source, C: LearningCheck, K: Sink>(
 }
 
 /// Reads the GroupInfo to its end, then the tree if there is a file of it. If no follower with this profile can start from
-/// them though each signature is good, it writes the line of [`mls_report::run_validate_in`]; the verdict is `No` and no
+/// them though each signature is good, it writes the line of `mls_audit::run_validate_in`; the verdict is `No` and no
 /// record is read.
 ///
 /// Else it writes a line for each signature of the start that the checker does not accept, and one with their number. It

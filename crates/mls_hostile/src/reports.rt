@@ -6,13 +6,14 @@ use crate::group::{
     TREE_CONTEXT, VALIDATED, VALIDATED_TREE, VECTORS,
 };
 use crate::output::{Output, Stop, have};
+use mls_audit::{
+    replay_state, run_replay, run_signatures, run_signatures_state, run_validate,
+    run_validate_state, run_validate_tree,
+};
 use mls_check::{Receipts, Trusting};
 use mls_follow::Follower;
 use mls_gate::{run_gate, run_gate_state};
-use mls_report::{
-    RunFault, Verdict, replay_state, run_replay, run_signatures, run_signatures_state,
-    run_validate, run_validate_state, run_validate_tree,
-};
+use mls_report::{RunFault, Verdict};
 use mls_vectors::{CheckKind, run_check};
 use mls_wire::{CodecFault, MemorySink, MemorySource};
 use std::alloc::Global;

@@ -27,7 +27,7 @@ use Rattle.mls_msgs.specs.declared.profile.Profile.{Profile}
 use Rattle.mls_follow.specs.Start.{UsesTree, UsesNoTree, IsTreeIn, HasSigner, IsStart, IsStartFault, is_info_signed, info_interim, initial_state}
 use Rattle.mls_follow.specs.StartInternal.{start_fault_of}
 use Rattle.mls_follow.specs.State.{State}
-use Rattle.mls_follow.specs.Transcript.{interim_hash}
+use Rattle.mls_apply.specs.Transcript.{interim_hash}
 use Rattle.mls_follow.specs.declared.start_fault.StartFault.{StartFault}
 use Rattle.mls_follow.specs.declared.start_fault.StartFault.TheVariants.{UnsupportedVersion, UnsupportedSuite, NoTree, SignerNotMember, InfoSignature, OutOfMemory}
 use Rattle.mls_follow.proofs.Readings.{tree_or_not, same_or_not, supported_or_not}

@@ -10,9 +10,4 @@ pub mod FailedStarts
 pub mod StartInputs
 pub mod StateInputs
 pub mod StartSteps
-pub mod UnreadableReceipts
-pub mod Validate
 pub mod ValidateTree
-pub mod ValidEpochs
-pub mod CoveredReports
-pub mod SavedStates

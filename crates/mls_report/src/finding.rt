@@ -57,7 +57,7 @@ pub enum Finding {
 }
 
 /// Returns the tree hash of a GroupContext that belongs to a valid tree.
-pub(crate) fn tree_hash_of(context: &GroupContext) -> HashValue
+pub fn tree_hash_of(context: &GroupContext) -> HashValue
     requires { length context.now.tree_hash ≤ 64 }
     ensures { result ≡ context.now.tree_hash }
 {

@@ -93,7 +93,7 @@ pub fn answer_text<C: SignatureCheck>(
 }
 
 /// Returns the line of message n.
-pub(crate) fn processed_line<C: SignatureCheck>(
+pub fn processed_line<C: SignatureCheck>(
     alloc: Global,
     n: u32,
     answer: &Result<Taken, Refusal>,
@@ -122,14 +122,14 @@ fn log_counts_line(
 }
 
 /// Returns the line of message n, which is broken.
-pub(crate) fn broken_line(alloc: Global, n: u32) -> Result<String, AllocError>
+pub fn broken_line(alloc: Global, n: u32) -> Result<String, AllocError>
     ensures { IfOk result (λ text. string_bytes text ≡ decimal n ++ codes " broken\n") }
 {
     format!(in alloc; "{n} broken\n")
 }
 
 /// Returns the last lines, after the given numbers of accepted and refused messages.
-pub(crate) fn last_lines(
+pub fn last_lines(
     alloc: Global,
     is_broken: bool,
     accepted: u32,

@@ -130,7 +130,7 @@ fn start_decoded(
 }
 
 /// As [`trusting_start`], from the bytes of a GroupInfo, and of a tree if there is a file of it. Drops the bytes.
-pub(crate) fn trusting_start_from(
+pub fn trusting_start_from(
     alloc: Global,
     profile: Profile,
     bytes: InputBytes,

@@ -2,6 +2,7 @@
 //! written and ends.
 #![tactic(auto)]
 
+mod check_kind;
 mod fault_text;
 mod info_text;
 mod message_text;
@@ -14,6 +15,7 @@ mod value_text;
 mod verdict;
 mod write;
 
+pub use check_kind::CheckKind;
 pub use fault_text::{node_fault_text, wire_fault_text};
 pub use read_to_end::read_all;
 pub use report::Report;

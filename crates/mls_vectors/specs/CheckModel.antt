@@ -21,7 +21,7 @@ use Rattle.mls_vectors.specs.VectorResults as outcomes
 use Rattle.mls_vectors.specs.TreeMath.{Relation, IsLeftOrNone, IsRightOrNone, IsParentOrNone, IsSiblingOrNone}
 use Rattle.mls_vectors.specs.declared.vector_result.VectorResult.{VectorResult}
 use Rattle.mls_vectors.specs.declared.vector_result.VectorResult.TheVariants.{Pass, Fail, Skip}
-use Rattle.mls_vectors.specs.declared.check.CheckKind.{CheckKind}
+use Rattle.mls_show.specs.declared.check_kind.CheckKind.{CheckKind}
 use Rattle.mls_vectors.specs.declared.report_lines.Counts as code
 use Rattle.mls_show.specs.declared.verdict.Verdict.{Verdict}
 use Rattle.mls_vectors.specs.declared.suite.SuiteMember.{SuiteMember}

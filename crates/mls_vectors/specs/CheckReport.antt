@@ -11,8 +11,8 @@ use Rattle.mls_vectors.specs.TreeOperations.{IsTreeOperation}
 use Rattle.mls_vectors.specs.TreeValidation.{IsOutcomeUnlessSkipped, IsTreeValidation}
 use Rattle.mls_vectors.specs.TextWeight.{IsTooHeavy}
 use Rattle.mls_vectors.specs.VectorFile.{HoldsVectors, HoldsNoVectors}
-use Rattle.mls_vectors.specs.declared.check.CheckKind.{CheckKind}
-use Rattle.mls_vectors.specs.declared.check.CheckKind.TheVariants as kind
+use Rattle.mls_show.specs.declared.check_kind.CheckKind.{CheckKind}
+use Rattle.mls_show.specs.declared.check_kind.CheckKind.TheVariants as kind
 use Rattle.mls_show.specs.declared.verdict.Verdict.{Verdict}
 use Rattle.mls_show.specs.declared.verdict.Verdict.TheVariants.{Yes, No}
 

@@ -7,7 +7,7 @@ use Rattle.mls_msgs.specs.Layout.{is_commit}
 use Rattle.mls_msgs.specs.Profile.{authenticated_in}
 use Rattle.mls_msgs.specs.declared.profile.Profile.TheVariants.{Members}
 use Rattle.mls_msgs.specs.declared.authenticated.AuthenticatedParts.{AuthenticatedParts}
-use Rattle.mls_follow.specs.Transcript.{confirmed_hash, interim_hash}
+use Rattle.mls_apply.specs.Transcript.{confirmed_hash, interim_hash}
 use Rattle.mls_vectors.specs.VectorResults.{Check, check, VectorResult, IsVectorResult, IsEarlyFailure}
 use Rattle.mls_vectors.specs.TreeValidation.{HasSuite}
 use Rattle.mls_vectors.specs.VectorFile.{bytes_under}

@@ -15,23 +15,10 @@ use crate::tree_math::tree_math_outcome;
 use crate::tree_operations::tree_operations_outcome;
 use crate::tree_validation::tree_validation_outcome;
 use crate::vector_result::VectorResult;
-use mls_show::{Report, RunFault, Verdict, read_all, write_bytes};
+use mls_show::{CheckKind, Report, RunFault, Verdict, read_all, write_bytes};
 use mls_wire::{MAX_INPUT, Sink, Source};
 use serde_json::Value;
 use std::alloc::{AllocError, Global};
-
-/// The kind of a file of test vectors.
-#[derive(Clone, Copy, Debug, PartialEq, Eq)]
-pub enum CheckKind {
-    /// Node indices of a tree (RFC 9420, 4.1.1 and Appendix C).
-    TreeMath,
-    /// A tree that must be valid, with its resolutions and tree hashes (RFC 9420, 4.1.1, 7.8 and 12.4.3.1).
-    TreeValidation,
-    /// A tree before and after one proposal (RFC 9420, 12.1 and 12.3).
-    TreeOperations,
-    /// The transcript hashes before and after a commit (RFC 9420, 8.2).
-    Transcript,
-}
 
 /// Returns whether each value is an object.
 fn are_objects(values: &[Value]) -> bool

@@ -14,4 +14,5 @@ mod tree_validation;
 mod vector_result;
 mod vector_trees;
 
-pub use check::{CheckKind, run_check};
+pub use check::run_check;
+pub use mls_show::CheckKind;

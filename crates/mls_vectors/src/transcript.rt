@@ -11,7 +11,7 @@ ghost use Rattle.mls_vectors.specs.TreeValidation.{HasSuite, IsOutcomeUnlessSkip
 use crate::json_members::{bytes_under, has_bytes};
 use crate::suite::{SuiteMember, suite_of};
 use crate::vector_result::VectorResult;
-use mls_follow::{confirmed_hash, interim_hash};
+use mls_apply::{confirmed_hash, interim_hash};
 use mls_hash::Suite;
 use mls_msgs::{Authenticated, decode_authenticated};
 use mls_wire::CodecFault;

@@ -1,0 +1,68 @@
+//! Properties of the reports' definitions. No caller needs to run these functions.
+
+ghost use Rattle.mls_report.specs.UniqueReports.{TreeFindingIsUnique, StartFindingIsUnique, StartIsUnique, StateFindingIsUnique, LogIsUnique, ReplayIsUnique, StateReplayIsUnique, MessageSignaturesAreUnique, SignaturesAreUnique, StateSignaturesAreUnique};
+ghost use Rattle.mls_report.specs.ReportsExist.{TreeFindingExists, StartFindingExists, StateFindingExists, ReplayExists, StateReplayExists, SignaturesExist, StateSignaturesExist};
+ghost use Rattle.mls_audit.specs.CoveredReports.{CoveredReportsReplay};
+ghost use Rattle.mls_audit.specs.SavedStates.{SavedStatesResume, LaterMessagesFollow};
+ghost use Rattle.mls_audit.specs.ValidEpochs.{StartedEpochsAreValid, ReportedEpochsAreValid, ResumedEpochsAreValid};
+
+/// Findings are determined by the bytes of the inputs and the verification function of the signature check, except for
+/// which fault is named of an undecodable input. So is the state in which a follower starts.
+pub fn findings_are_determined()
+    ensures tree { TreeFindingIsUnique }
+    ensures start { StartFindingIsUnique }
+    ensures state { StartIsUnique }
+    ensures stored { StateFindingIsUnique }
+{}
+
+/// A replay is determined by the bytes of its inputs and the verification function of the signature check, however the
+/// bytes are divided among reads: the messages of the log, the answer to each, whether the log is broken, the text, and
+/// the verdict.
+pub fn replays_are_determined()
+    ensures log { LogIsUnique }
+    ensures report { ReplayIsUnique }
+    ensures stored { StateReplayIsUnique }
+{}
+
+/// The report `signatures` is determined by the bytes of its inputs and the verification function of the receipts,
+/// however the bytes are divided among reads: the signatures of each message, the text, and the verdict. Only which
+/// fault is named of an undecodable input is not.
+pub fn signatures_are_determined()
+    ensures messages { MessageSignaturesAreUnique }
+    ensures report { SignaturesAreUnique }
+    ensures stored { StateSignaturesAreUnique }
+{}
+
+/// For any bytes and any verification function of the signature check there is a finding, and `replay` and `signatures`
+/// have a report. So contracts that allow `Memory`, `Read` and `Write` never allow only these.
+pub fn reports_exist()
+    ensures tree { TreeFindingExists }
+    ensures start { StartFindingExists }
+    ensures stored { StateFindingExists }
+    ensures replay { ReplayExists }
+    ensures stored_replay { StateReplayExists }
+    ensures signatures { SignaturesExist }
+    ensures stored_signatures { StateSignaturesExist }
+{}
+
+/// Each epoch that `validate` or `replay` reports has a tree that is valid by the GroupContext's tree hash, and valid
+/// members by its required capabilities, though the tree is validated only where a follower starts or resumes.
+pub fn reported_epochs_are_valid()
+    ensures started { StartedEpochsAreValid }
+    ensures printed { ReportedEpochsAreValid }
+    ensures resumed { ResumedEpochsAreValid }
+{}
+
+/// Suppose a check accepts every signature that `signatures` lists of the start and of the messages of a log. Then a
+/// follower with this check starts in the same state as one that accepts every signature, and `replay` gives the same
+/// answers and states.
+pub fn covered_reports_replay()
+    ensures { CoveredReportsReplay }
+{}
+
+/// From the file of the state after a log a follower resumes in this state. It processes the messages after this log with
+/// the same results and the same states as the follower that goes on.
+pub fn saved_states_resume()
+    ensures resume { SavedStatesResume }
+    ensures later { LaterMessagesFollow }
+{}

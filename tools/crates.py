@@ -10,28 +10,29 @@ OUT = os.path.join(CRATES, PROGRAM, "out")
 # What the last build took by crate, and in memory and disk.
 MEASURED = os.path.join(OUT, "measured")
 
-# About how long each crate takes to prove and build on four cores, in seconds, and what is taken for another one. A
-# build from nothing writes what it measured into MEASURED.
+# About how long each crate takes to prove and build on four cores, in seconds, and what is taken for another one. Crates
+# beside the longest chain have a lower priority, and take longer than alone. A build from nothing writes what it
+# measured into MEASURED.
 SECONDS = {
     "mls_wire": 77,
     "mls_nodes": 75,
-    "mls_tree": 182,
-    "mls_msgs": 215,
-    "mls_show": 65,
-    "mls_state": 50,
-    "mls_hash": 63,
+    "mls_tree": 145,
+    "mls_msgs": 311,
+    "mls_show": 200,
+    "mls_state": 147,
+    "mls_hash": 53,
     "mls_check": 83,
-    "mls_index": 64,
-    "mls_apply": 152,
-    "mls_signatures": 159,
-    "mls_follow": 143,
-    "mls_report": 75,
-    "mls_audit": 75,
-    "mls_vectors": 101,
-    "mls_gate": 98,
-    "mls_commands": 90,
-    "mls_cli": 45,
-    "mlscheck": 113,
+    "mls_index": 48,
+    "mls_apply": 145,
+    "mls_signatures": 72,
+    "mls_follow": 155,
+    "mls_report": 66,
+    "mls_audit": 139,
+    "mls_vectors": 246,
+    "mls_gate": 84,
+    "mls_commands": 258,
+    "mls_cli": 66,
+    "mlscheck": 115,
 }
 OTHER_SECONDS = 120
 

@@ -28,6 +28,8 @@ mod report_devices;
 #[cfg(test)]
 mod stored_states;
 #[cfg(test)]
+mod stored_values;
+#[cfg(test)]
 mod support;
 #[cfg(test)]
 mod tree_entries;

@@ -10,7 +10,7 @@ use crate::fault::HashFault;
 use crate::hasher::Hasher;
 use crate::suite::Suite;
 use mls_tree::HashValue;
-use mls_wire::MAX_BODY;
+use mls_wire::{MAX_BODY, Opaque};
 
 /// Returns the hash of `first` followed by `second`, by the suite's hash function. Does not allocate.
 pub fn hash(suite: Suite, first: &[u8], second: &[u8]) -> HashValue
@@ -53,6 +53,26 @@ pub(crate) fn feed_two_vectors(hasher: &mut Hasher, first: &[u8], second: &[u8])
 {
     feed_vector(hasher, first);
     feed_vector(hasher, second);
+}
+
+/// Feeds the body of a vector as that vector. A short one is stored as it is fed.
+pub(crate) fn feed_opaque(hasher: &mut Hasher, body: &Opaque)
+    ensures { HoldsMore (vector body.now) hasher.old hasher.new }
+{
+    match body.short_encoding() {
+        Some(encoded) => hasher.update(encoded),
+        None => feed_vector(hasher, body.as_slice()),
+    }
+}
+
+/// Feeds a hash as a vector. One of fewer than 64 bytes is stored as it is fed.
+pub(crate) fn feed_hash(hasher: &mut Hasher, value: &HashValue)
+    ensures { HoldsMore (vector value.now) hasher.old hasher.new }
+{
+    match value.short_encoding() {
+        Some(encoded) => hasher.update(encoded),
+        None => feed_vector(hasher, value.as_slice()),
+    }
 }
 
 /// Returns the reference `RefHash(label, value)` (RFC 9420, 5.2): the hash of the label and the value, each as a

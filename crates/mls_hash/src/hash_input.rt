@@ -11,7 +11,7 @@ ghost use Rattle.mls_hash.specs.SuiteHash.{hash_of};
 ghost use Rattle.mls_hash.specs.HasherModel.{HoldsMore};
 ghost use Rattle.mls_hash.specs.WithoutLeaves.{stripped_parent, without};
 
-use crate::digest::{feed_length, feed_two_vectors, hash};
+use crate::digest::{feed_hash, feed_length, feed_opaque, hash};
 use crate::hasher::Hasher;
 use crate::leaf_set::LeafSet;
 use crate::suite::Suite;
@@ -80,8 +80,8 @@ fn feed_unmerged(hasher: &mut Hasher, indices: &[u32], left_out: &LeafSet<'_>)
 fn feed_parent(hasher: &mut Hasher, node: &ParentNode, left_out: &LeafSet<'_>)
     ensures { HoldsMore (layout.parent (stripped_parent left_out.now node.now)) hasher.old hasher.new }
 {
-    let key = node.encryption_key.as_slice();
-    feed_two_vectors(hasher, key, node.parent_hash.as_slice());
+    feed_opaque(hasher, &node.encryption_key);
+    feed_opaque(hasher, &node.parent_hash);
     feed_unmerged(hasher, node.unmerged.as_slice(), left_out);
 }
 
@@ -115,6 +115,7 @@ pub(crate) fn hash_parent(
 {
     let mut hasher = Hasher::new(suite);
     feed_type_and_parent(&mut hasher, node, left_out);
-    feed_two_vectors(&mut hasher, left.as_slice(), right.as_slice());
+    feed_hash(&mut hasher, left);
+    feed_hash(&mut hasher, right);
     hasher.finish()
 }

@@ -5,7 +5,7 @@ ghost use Rattle.mls_hash.specs.SuiteHash.{hash_of};
 ghost use Rattle.mls_hash.specs.ParentHash.{parent_at, parent_hash_at, parent_hash_input};
 ghost use Rattle.mls_hash.specs.ChildOnSide.{HasChildOn};
 
-use crate::digest::{feed_two_vectors, feed_vector};
+use crate::digest::{feed_hash, feed_opaque};
 use crate::fault::HashFault;
 use crate::hasher::Hasher;
 use crate::leaf_set::{LeafSet, sorted};
@@ -45,9 +45,9 @@ pub fn parent_hash_of(suite: Suite, parent: &ParentNode, original: &HashValue) -
     ensures { option_map (hash_of suite) (parent_hash_input parent.now original.now) ≡ Some result }
 {
     let mut hasher = Hasher::new(suite);
-    let key = parent.encryption_key.as_slice();
-    feed_two_vectors(&mut hasher, key, parent.parent_hash.as_slice());
-    feed_vector(&mut hasher, original.as_slice());
+    feed_opaque(&mut hasher, &parent.encryption_key);
+    feed_opaque(&mut hasher, &parent.parent_hash);
+    feed_hash(&mut hasher, original);
     hasher.finish()
 }
 

@@ -7,4 +7,5 @@ pub mod WriteLaws
 pub mod Sized
 mod Edited
 mod ShortLists
+mod ShortVectors
 mod CountedCodes

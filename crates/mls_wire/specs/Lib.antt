@@ -4,6 +4,7 @@ pub mod Faults
 pub mod Encoding
 pub mod Codes
 pub mod OpaqueBytes
+pub mod ShortVectors
 pub mod BoxedBytes
 pub mod ReadContracts
 pub mod WriteContracts

@@ -8,3 +8,7 @@ input_limit = 268435456
 -- The most bytes of the body of a vector, 2 ^ 30 - 1 (RFC 9420, 2.1.2).
 abbrev pub vector_limit : ℕ
 vector_limit = 1073741823
+
+-- The most bytes of the body of a vector that is stored in place.
+abbrev pub short_limit : ℕ
+short_limit = 38

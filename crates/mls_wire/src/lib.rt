@@ -40,6 +40,7 @@ mod sequence;
 mod shared;
 mod short_bytes;
 mod short_codes;
+mod short_vector;
 mod sink;
 mod size;
 mod source;

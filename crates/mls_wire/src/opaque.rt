@@ -1,10 +1,10 @@
 //! The body of a vector.
 
-ghost use Rattle.std.specs.Prelude.{◌≡◌, ℕ, ◌≤◌, ◌<◌, List, Option, Err, IfOk, length, MatchResult};
+ghost use Rattle.std.specs.Prelude.{◌≡◌, ◌↔◌, ℕ, ◌≤◌, ◌<◌, List, Option, Some, Err, IsNone, IfOk, IfSome, length, MatchResult};
 ghost use Rattle.mls_wire.specs.Faults.{too_long_at};
 ghost use Rattle.mls_wire.specs.Input.{Input};
-ghost use Rattle.mls_wire.specs.Limits.{vector_limit};
-ghost use Rattle.mls_wire.specs.OpaqueBytes.{bytes_in};
+ghost use Rattle.mls_wire.specs.Limits.{short_limit, vector_limit};
+ghost use Rattle.mls_wire.specs.OpaqueBytes.{bytes_in, IsInPlaceIfShort};
 ghost use Rattle.mls_wire.specs.Encoding.{vector};
 ghost use Rattle.mls_wire.specs.Parsing.{GivesOrFull, vector_at};
 ghost use Rattle.mls_wire.specs.VectorsExact.{vector_exact, vector_long};
@@ -14,7 +14,7 @@ use crate::draft::Draft;
 use crate::encode::Encode;
 use crate::fault::{CodecFault, WireFault, WireFaultKind};
 use crate::reader::Reader;
-use crate::short_bytes::ShortBytes;
+use crate::short_vector::{MAX_SHORT, ShortVector};
 use crate::size::size_of_vector;
 use std::alloc::{AllocError, Global};
 use std::marker::Model;
@@ -22,14 +22,11 @@ use std::marker::Model;
 /// The most bytes of the body of a vector (RFC 9420, 2.1.2).
 pub const MAX_BODY: usize = 1073741823;
 
-/// The most bytes of a body that is stored in place.
-const MAX_SHORT: usize = 38;
-
 /// Where the bytes of a body are.
 #[derive(Debug)]
 enum Stored {
     /// In place.
-    InPlace(ShortBytes<MAX_SHORT>),
+    InPlace(ShortVector),
     /// On the heap.
     OnHeap(Vec<u8>),
 }
@@ -47,10 +44,11 @@ impl Drop for Stored {
 impl Stored {
     /// Stores these bytes. Does not allocate.
     fn of(bytes: Vec<u8>) -> Stored
-        ensures { bytes_in result ≡ bytes.items }
+        ensures bytes { bytes_in result ≡ bytes.items }
+        ensures place { IsInPlaceIfShort result }
     {
         if bytes.len() <= MAX_SHORT {
-            Stored::InPlace(ShortBytes::of(bytes.as_slice()))
+            Stored::InPlace(ShortVector::of(bytes.as_slice()))
         } else {
             Stored::OnHeap(bytes)
         }
@@ -58,10 +56,11 @@ impl Stored {
 
     /// Stores a copy of these bytes. Allocates only if there are more than [`MAX_SHORT`].
     fn copy(alloc: Global, bytes: &[u8]) -> Result<Stored, AllocError>
-        ensures { IfOk result (λ stored. bytes_in stored ≡ bytes.now) }
+        ensures bytes { IfOk result (λ stored. bytes_in stored ≡ bytes.now) }
+        ensures place { IfOk result (λ stored. IsInPlaceIfShort stored) }
     {
         if bytes.len() <= MAX_SHORT {
-            Ok(Stored::InPlace(ShortBytes::of(bytes)))
+            Ok(Stored::InPlace(ShortVector::of(bytes)))
         } else {
             Ok(Stored::OnHeap(Vec::from_slice(alloc, bytes)?))
         }
@@ -72,8 +71,20 @@ impl Stored {
         ensures { result.now ≡ bytes_in self.now }
     {
         match self {
-            Stored::InPlace(bytes) => bytes.as_slice(),
+            Stored::InPlace(vector) => vector.body(),
             Stored::OnHeap(bytes) => bytes.as_slice(),
+        }
+    }
+
+    /// Returns the encoding as a vector, if the bytes are stored in place.
+    fn short_encoding(&self) -> Option<&[u8]>
+        requires { IsInPlaceIfShort self.now }
+        ensures value { IfSome result (λ encoded. vector (bytes_in self.now) ≡ Some encoded.now) }
+        ensures long { IsNone result ↔ (short_limit < length (bytes_in self.now)) }
+    {
+        match self {
+            Stored::InPlace(vector) => Some(vector.encoding()),
+            Stored::OnHeap(_) => None,
         }
     }
 }
@@ -95,13 +106,13 @@ impl Drop for Opaque {
 impl Model for Opaque {
     ghost use Rattle.std.specs.Prelude.{ℕ, ◌≤◌, List, length};
     ghost use Rattle.mls_wire.specs.Limits.{vector_limit};
-    ghost use Rattle.mls_wire.specs.OpaqueBytes.{bytes_in};
+    ghost use Rattle.mls_wire.specs.OpaqueBytes.{bytes_in, IsInPlaceIfShort};
 
     ghost Value = { List ℕ };
 
     ghost view = { λ a. bytes_in a.stored };
 
-    ghost invariant = { λ a. length (bytes_in a.stored) ≤ vector_limit };
+    ghost invariant = { λ a. (length (bytes_in a.stored) ≤ vector_limit) × IsInPlaceIfShort a.stored };
 }
 
 impl Opaque {
@@ -146,6 +157,14 @@ impl Opaque {
         ensures limit { length self.now ≤ vector_limit }
     {
         self.stored.as_slice()
+    }
+
+    /// Returns the encoding of the bytes as a vector (RFC 9420, 2.1.2), if there are at most 38: it is stored then.
+    pub fn short_encoding(&self) -> Option<&[u8]>
+        ensures value { IfSome result (λ encoded. vector self.now ≡ Some encoded.now) }
+        ensures long { IsNone result ↔ (short_limit < length self.now) }
+    {
+        self.stored.short_encoding()
     }
 }
 

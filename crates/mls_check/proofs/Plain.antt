@@ -3,11 +3,12 @@ use Rattle.std.proofs.Common.{◌≡◌, ◌∙◌, ℕ, ◌+◌, ◌<◌, List,
 use Rattle.std.specs.List.{list_all}
 use Rattle.std.proofs.lemmas.Bool.{cases_lt}
 use Rattle.std.proofs.lemmas.Option.{none-some, same_Some}
+use Rattle.mls_nodes.specs.PlainLeaf.{IsPlain}
 use Rattle.mls_nodes.specs.declared.extension.Extension.{Extension}
 use Rattle.mls_nodes.specs.declared.leaf.LeafNode.{LeafNode}
 use Rattle.mls_tree.specs.Tree.{Tree, leaf_count, leaf_at}
 use Rattle.mls_check.specs.LeafValidation.{all_leaves, credential_type, supports_credential, supports_extension, supports_own_extensions, supports_used_credentials}
-use Rattle.mls_check.specs.PlainLeaves.{IsPlain, ArePlain}
+use Rattle.mls_check.specs.PlainLeaves.{ArePlain}
 use Rattle.mls_check.proofs.Leaves.{all_leaves-below}
 
 -- those below leaf i
@@ -44,7 +45,7 @@ one_credentials : (t : Tree) → ArePlain t → (x : LeafNode) → IsPlain x →
 unfolding supports_used_credentials
 one_credentials t p x own =
     all_leaves-below (λ _ other. supports_credential x (credential_type other.credential)) t (leaf_count t)
-    (record { at = λ j other low e. ap (supports_credential x) (p j other e).basic ∙ own.supported })
+    (record { at = λ j other low e. ap (λ c. supports_credential x (credential_type c)) (p j other e).basic.1 ∙ own.supported })
     (omega arith)
 
 pub plain_credentials : (t : Tree) → ArePlain t → all_leaves (λ _ x. supports_used_credentials t x) 0 t ≡ true

@@ -8,9 +8,9 @@ ghost use Rattle.mls_check.specs.SortedRequirements.{requirements_of};
 
 use crate::credential_types::{BASIC, X509};
 use crate::signatures::OutOfMemory;
-use crate::sorted_codes::{has_code, lists_code, sorted_leaf_codes};
+use crate::sorted_codes::{has_code, sorted_leaf_codes};
 use crate::sorted_requirements::SortedRequirements;
-use mls_nodes::{EncodedLeaf, Extension, ExtensionsLeft};
+use mls_nodes::{EncodedLeaf, Extension, ExtensionsLeft, lists_code};
 use mls_wire::ItemsRef;
 use std::alloc::Global;
 

@@ -1,37 +1,22 @@
-//! Leaf nodes of which one reading shows that two rules hold (RFC 9420, 7.3), as of most leaf nodes.
+//! Leaf nodes that are plain, as most are: two rules hold of them (RFC 9420, 7.3).
 
 ghost use Rattle.std.specs.Prelude.{◌≡◌, IfOk, true};
 ghost use Rattle.mls_check.specs.LeafValidation.{FindsFailing, supports_own_extensions, supports_used_credentials};
-ghost use Rattle.mls_check.specs.PlainLeaves.{IsPlain, ArePlain};
+ghost use Rattle.mls_check.specs.PlainLeaves.{ArePlain};
 
 use crate::capability_support::supports_own_extensions;
-use crate::credential_types::{BASIC, first_unsupported_credential};
+use crate::credential_types::first_unsupported_credential;
 use crate::signatures::OutOfMemory;
-use crate::sorted_codes::lists_code;
-use mls_nodes::{CredentialBody, EncodedLeaf};
 use mls_tree::PublicTree;
 use std::alloc::Global;
 
-/// Returns whether a leaf has no extensions, and has and supports a basic credential.
-fn is_plain(leaf: &EncodedLeaf) -> bool
-    ensures { result ≡ true → IsPlain leaf.now }
-{
-    let fields = leaf.fields();
-    match fields.credential.body() {
-        CredentialBody::Basic(_) => {
-            fields.extensions.is_empty() && lists_code(&fields.capabilities.credentials, BASIC)
-        }
-        CredentialBody::X509(_) => false,
-    }
-}
-
-/// Returns whether all leaves of a tree are so. Each is read once.
+/// Returns whether all leaves of a tree are plain. None is read again.
 pub(crate) fn are_plain(tree: &PublicTree) -> bool
     ensures { result ≡ true → ArePlain tree.now.tree }
 {
     for index in 0..tree.leaf_count() {
         if let Some(leaf) = tree.leaf(index) {
-            if !is_plain(leaf) {
+            if !leaf.is_plain() {
                 return false;
             }
         }

@@ -1,6 +1,8 @@
-//! Short vectors, which are stored as they are encoded (RFC 9420, 2.1.2).
+//! What values store beside their bytes: short vectors their encoding (RFC 9420, 2.1.2), and leaf nodes whether they are
+//! plain (7.2).
 
 use crate::support::{bytes, expect_text, have, text};
+use mls_nodes::decode_leaf;
 use mls_tree::HashValue;
 use mls_wire::Opaque;
 use std::alloc::Global;
@@ -79,5 +81,32 @@ fn hashes_are_stored_as_they_are_encoded(rt: HostRuntime) {
         let expected = expected_text(&rt, alloc, length, hash.as_str());
         let found = hash_text(&rt, alloc, hash.as_str());
         expect_text(&rt, found, expected.as_str());
+    }
+}
+
+/// A credential, the credential types that the leaf node lists, its extensions, and whether it is plain.
+const LEAVES: &[(&str, &str, &str, bool)] = &[
+    ("00010140", "020001", "00", true),
+    ("00010140", "0400020001", "00", true),
+    ("00010140", "020002", "00", false),
+    ("00010140", "00", "00", false),
+    ("00010140", "020001", "03ff0000", false),
+    ("000200", "0400010002", "00", false),
+];
+
+#[test]
+fn plain_leaf_nodes(rt: HostRuntime) {
+    let alloc = rt.alloc();
+    for (credential, listed, extensions, is_plain) in LEAVES {
+        let leaf = have(
+            &rt,
+            format!(in alloc;
+                "01a001b0{credential}02000102000100\
+                00{listed}010000000000000000ffffffffffffffff{extensions}01c0"
+            ),
+        );
+        let leaf = bytes(&rt, alloc, leaf.as_str());
+        let leaf = have(&rt, decode_leaf(alloc, leaf.as_slice()));
+        assert_eq!(rt; leaf.is_plain(), *is_plain);
     }
 }

@@ -19,6 +19,7 @@ pub mod LeafParsing
 pub mod KeyPrefix
 pub mod Fingerprints
 pub mod FingerprintsInternal
+pub mod PlainLeaf
 pub mod StoredLeaf
 pub mod LeafBytesInternal
 pub mod ParsingInternal

@@ -1,6 +1,7 @@
 //! Lists of codes, borrowed from the bytes that encode them (RFC 9420, 7.2 and 11.1).
 
-ghost use Rattle.std.specs.Prelude.{◌≡◌, ◌∷◌, [], MatchOption};
+ghost use Rattle.std.specs.Prelude.{◌≡◌, ◌==◌, ◌∷◌, [], MatchOption};
+ghost use Rattle.std.specs.List.{list_any};
 
 use mls_wire::{ItemsRef, parse_u16};
 
@@ -19,4 +20,17 @@ pub fn next_code(codes: &mut ItemsRef<'_, u16>) -> Option<u16>
     };
     *codes = ItemsRef::new(reader.left());
     Some(code)
+}
+
+/// Returns whether a list contains this code.
+pub fn lists_code(codes: &ItemsRef<'_, u16>, code: u16) -> bool
+    ensures { result ≡ list_any (λ x. x == code) codes.now }
+{
+    let mut left = ItemsRef::new(codes.encoded());
+    while let Some(listed) = next_code(&mut left) {
+        if listed == code {
+            return true;
+        }
+    }
+    false
 }

@@ -1,6 +1,6 @@
 //! Leaf nodes that are stored as the bytes that encode them (RFC 9420, 7.2).
 
-ghost use Rattle.std.specs.Prelude.{◌≡◌, ◌≤◌, ◌^◌, ◌-◌, IfOk, IfErr, Some, length, option_map, take};
+ghost use Rattle.std.specs.Prelude.{◌≡◌, ◌↔◌, ◌≤◌, ◌^◌, ◌-◌, IfOk, IfErr, IsTrue, Some, length, option_map, take};
 ghost use Rattle.mls_wire.specs.Limits.{vector_limit};
 ghost use Rattle.mls_wire.specs.Parsing.{GivesOrFull};
 ghost use Rattle.mls_wire.specs.ReadContracts.{Decodes, DecodesAll, seen};
@@ -9,6 +9,7 @@ ghost use Rattle.mls_nodes.specs.Fingerprints.{fingerprint};
 ghost use Rattle.mls_nodes.specs.Layout.{leaf, unsigned_leaf};
 ghost use Rattle.mls_nodes.specs.LeafBytesInternal.{IsFrom};
 ghost use Rattle.mls_nodes.specs.LeafParsing.{leaf_node_at};
+ghost use Rattle.mls_nodes.specs.PlainLeaf.{IsPlain};
 ghost use Rattle.mls_nodes.specs.StoredLeaf.{IsAfterKeys};
 ghost use Rattle.mls_wire.specs.declared.fault.CodecFault.TheVariants as codec;
 
@@ -30,11 +31,13 @@ use std::marker::Model;
 /// without being encoded. Leaf nodes of one tree file share its bytes ([`OwnedTreeReader`](crate::OwnedTreeReader)).
 /// [`EncodedLeaf::fields`] reads the bytes. The model is the [`LeafNode`].
 ///
-/// A leaf node with a long key also stores the fingerprints of its keys, so that a long key is hashed once.
+/// A leaf node with a long key also stores the fingerprints of its keys, so that a long key is hashed once. Each stores
+/// whether it is plain ([`EncodedLeaf::is_plain`]), so that most are validated without being read again.
 #[derive(Debug)]
 pub struct EncodedLeaf {
     bytes: LeafBytes,
     fingerprints: Option<Box<KeyFingerprints>>,
+    is_plain: bool,
 }
 
 // Written out, so that a drop is one call in the proofs of its owners.
@@ -43,6 +46,7 @@ impl Drop for EncodedLeaf {
         let EncodedLeaf {
             bytes: _,
             fingerprints: _,
+            is_plain: _,
         } = self;
     }
 }
@@ -56,7 +60,7 @@ impl Model for EncodedLeaf {
 
     ghost view = { λ s. stored_leaf s.bytes };
 
-    ghost invariant = { λ s. IsStoredLeaf s.bytes (option_map (λ b. b.value) s.fingerprints) };
+    ghost invariant = { λ s. IsStoredLeaf s.bytes (option_map (λ b. b.value) s.fingerprints) s.is_plain };
 }
 
 /// Returns a copy of bytes. More than a vector may have are taken for more than there is memory for.
@@ -118,10 +122,12 @@ impl EncodedLeaf {
         let signature_key = fields.signature_key.as_slice();
         let bytes = read_bytes(alloc, source, reader, &ahead)?;
         let fingerprints = fingerprints_of_long(alloc, encryption_key, signature_key)?;
+        let is_plain = fields.is_plain();
         *reader = ahead;
         Ok(EncodedLeaf {
             bytes,
             fingerprints,
+            is_plain,
         })
     }
 
@@ -185,6 +191,14 @@ impl EncodedLeaf {
             Some(both) => both.signature,
             None => fingerprint(self.signature_key()),
         }
+    }
+
+    /// Returns whether the leaf node has no extensions, and has and supports a basic credential (RFC 9420, 5.3 and 7.2).
+    /// This was found when it was read, and reads nothing now.
+    pub fn is_plain(&self) -> bool
+        ensures { IsTrue result ↔ IsPlain self.now }
+    {
+        self.is_plain
     }
 
     /// Returns a reader of what follows the two keys.
@@ -303,6 +317,7 @@ impl TryClone for EncodedLeaf {
         Ok(EncodedLeaf {
             bytes,
             fingerprints: copy_fingerprints(alloc, &self.fingerprints)?,
+            is_plain: self.is_plain,
         })
     }
 }

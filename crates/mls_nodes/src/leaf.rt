@@ -1,13 +1,19 @@
 //! Leaf nodes (RFC 9420, 7.2).
+ghost use Rattle.std.specs.Prelude.{◌↔◌, IsTrue};
 ghost use Rattle.mls_wire.specs.EncodedItems.{Parses};
 ghost use Rattle.mls_nodes.specs.Layout.{leaf};
 ghost use Rattle.mls_nodes.specs.LeafParsing.{leaf_node_at};
+ghost use Rattle.mls_nodes.specs.PlainLeaf.{IsPlain};
 
 use crate::capabilities::Capabilities;
-use crate::credential::CredentialRef;
+use crate::codes::lists_code;
+use crate::credential::{CredentialBody, CredentialRef};
 use crate::extension::Extension;
 use crate::leaf_source::LeafSource;
 use mls_wire::{ItemsRef, OpaqueRef, Reader, WireFault};
+
+/// The code of basic credentials (RFC 9420, 5.3).
+const BASIC: u16 = 1;
 
 /// A member of a group, as its leaf of the ratchet tree shows it (RFC 9420, 7.2): its fields, borrowed from the bytes
 /// that encode them.
@@ -65,5 +71,17 @@ impl<'a> LeafNode<'a> {
             extensions,
             signature,
         })
+    }
+
+    /// Returns whether the leaf node has no extensions, and has and supports a basic credential.
+    pub(crate) fn is_plain(&self) -> bool
+        ensures { IsTrue result ↔ IsPlain self.now }
+    {
+        match self.credential.body() {
+            CredentialBody::Basic(_) => {
+                self.extensions.is_empty() && lists_code(&self.capabilities.credentials, BASIC)
+            }
+            CredentialBody::X509(_) => false,
+        }
     }
 }

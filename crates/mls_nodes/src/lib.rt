@@ -28,7 +28,7 @@ mod tbs;
 mod unmerged;
 
 pub use capabilities::Capabilities;
-pub use codes::next_code;
+pub use codes::{lists_code, next_code};
 pub use context::{GroupContext, decode_context, encode_context, read_context, write_context};
 pub use credential::{Credential, CredentialBody, CredentialRef};
 pub use encoded_leaf::{EncodedLeaf, decode_leaf, encode_leaf, read_leaf, write_leaf};

@@ -13,7 +13,7 @@ loop-index-preserved c =
     let t = c.args.tree.now.tree in
     elim c.match-leaf.branch [
       | in-Some+else-not-is_plain w ↦
-          plain_more t c.loop-index.index w.in-Some.leaf.now c.loop-index.invariant (sym c.leaf.ensures ∙ ap option_copied w.in-Some.is) (w.is_plain.ensures w.if-not-is_plain.false)
+          plain_more t c.loop-index.index w.in-Some.leaf.now c.loop-index.invariant (sym c.leaf.ensures ∙ ap option_copied w.in-Some.is) (w.is_plain.ensures.0 w.if-not-is_plain.false)
       | in_default w ↦ plain_blank t c.loop-index.index c.loop-index.invariant (sym c.leaf.ensures ∙ ap option_copied w.in_default.is)
     ]
 

@@ -12,7 +12,7 @@ invariant_of-result c =
     let there = rw (c.fork-ahead.ensures, c.in-Ok.is) at c.parse-parsed.ensures in
     let encodes = rw (← c.in_ok-bytes.ensures.bytes) at (front_encodes c.in-Ok.fields c.args.reader.now c.parse-parsed.new.reader (length c.args.reader.now.left - length c.parse-parsed.new.reader.left) there refl) in
     let stored = rw (c.as_slice-encryption_key.ensures, c.as_slice-signature_key.ensures) at c.in_ok-fingerprints.ensures in
-    rw (stored_is c.in-Ok.fields c.in_ok-bytes.bytes encodes) (encodes, c.in_ok-bytes.ensures.limit, stored)
+    rw (stored_is c.in-Ok.fields c.in_ok-bytes.bytes encodes) (encodes, c.in_ok-bytes.ensures.limit, stored, c.is_plain-is_plain.ensures)
 
 pub returns : goal.returns
 returns c =

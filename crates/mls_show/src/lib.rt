@@ -1,5 +1,5 @@
 //! The report `show`: the content of an input as text. How an input is read to its end, and how a report of one input is
-//! written and ends.
+//! written and ends. Also the names of the kinds of test vectors, which the command line and the checks of them share.
 #![tactic(auto)]
 
 mod check_kind;

@@ -10,11 +10,11 @@ ghost use Rattle.mls_apply.specs.Senders.{is_present};
 use crate::fault::ApplyFault;
 use crate::psk_list::is_valid_psk;
 use crate::senders::is_present;
-use mls_check::{OutOfMemory, SignatureCheck, is_leaf_signed, signed};
-use mls_msgs::{KEY_PACKAGE_LABEL, KeyPackage, Proposal, ReInit, Sender, package_tbs};
+use mls_check::{OutOfMemory, SignatureCheck, is_leaf_signed, signed_in_pieces};
+use mls_msgs::{KEY_PACKAGE_LABEL, KeyPackage, Proposal, ReInit, Sender};
 use mls_nodes::{EncodedLeaf, Extensions, GroupContext, LeafSource, requirements_of};
 use mls_tree::PublicTree;
-use mls_wire::CodecFault;
+use mls_wire::{CodecFault, EncodedLength};
 use std::alloc::Global;
 
 /// The context and the tree of a group in one epoch.
@@ -157,8 +157,8 @@ fn is_from_update(source: &LeafSource<'_>) -> bool
     matches!(source, LeafSource::Update)
 }
 
-/// Returns whether the signature of a KeyPackage is good (RFC 9420, 10.1).
-#[tactic(auto, unfolding(crate::specs::ProposalRules::is_package_signed))]
+/// Returns whether the signature of a KeyPackage is good (RFC 9420, 10.1). The checker gets the KeyPackageTBS (10) in pieces,
+/// each from where it is stored.
 fn is_package_signed<C: SignatureCheck>(
     alloc: Global,
     suite: u16,
@@ -168,15 +168,33 @@ fn is_package_signed<C: SignatureCheck>(
     ensures { IfOk result (λ good.
         good ≡ is_package_signed (C.meaning checker.now) suite key_package.now) }
 {
-    let tbs = match package_tbs(alloc, key_package) {
-        Ok(tbs) => tbs,
-        Err(CodecFault::Wire(_)) => return Ok(false),
-        Err(CodecFault::OutOfMemory) => return Err(OutOfMemory),
-    };
-    let key = key_package.leaf_node.signature_key();
-    let label = KEY_PACKAGE_LABEL;
+    let leaf = &key_package.leaf_node;
+    let version = key_package.version.to_be_bytes();
+    let cipher_suite = key_package.cipher_suite.to_be_bytes();
+    let init_key = key_package.init_key.as_slice();
+    let init_key_len = EncodedLength::of(init_key.len());
+    let extensions = key_package.extensions.encoded();
+    let extensions_len = EncodedLength::of(extensions.len());
+    let tbs: [&[u8]; 7] = [
+        &version,
+        &cipher_suite,
+        init_key_len.as_slice(),
+        init_key,
+        leaf.encoding(),
+        extensions_len.as_slice(),
+        extensions,
+    ];
+    let key = leaf.signature_key();
     let signature = key_package.signature.as_slice();
-    Ok(signed(checker, suite, key, label, tbs.as_slice(), signature))
+    signed_in_pieces(
+        alloc,
+        checker,
+        suite,
+        key,
+        KEY_PACKAGE_LABEL,
+        &tbs,
+        signature,
+    )
 }
 
 /// Returns whether a KeyPackage fits a group. Signatures are not checked.

@@ -35,6 +35,8 @@ pub use members::{
 pub use receipt_set::{LearningCheck, Receipts};
 pub use receipts::{ReceiptsFault, receipt};
 pub use signature_keys::first_repeated_signature_key;
-pub use signatures::{OutOfMemory, SignatureCheck, Trusting, sign_content, signed};
+pub use signatures::{
+    OutOfMemory, SignatureCheck, Trusting, sign_content, signed, signed_in_pieces,
+};
 pub use sorted_requirements::SortedRequirements;
 pub use tree_validation::{TreeFault, validate_tree};

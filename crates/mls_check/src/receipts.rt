@@ -76,7 +76,7 @@ pub(crate) fn digests_of(alloc: Global, bytes: &[u8]) -> Result<Vec<[u8; 32]>, R
 }
 
 /// Returns how many bytes the pieces have. `None` if they are too long for a vector.
-fn len_of_pieces(pieces: &[&[u8]]) -> Option<usize>
+pub(crate) fn len_of_pieces(pieces: &[&[u8]]) -> Option<usize>
     ensures { MatchOption result
         (vector_limit < length (flat_map (λ p. p.now) pieces.now))
         (λ n. (n ≡ length (flat_map (λ p. p.now) pieces.now)) × (n ≤ vector_limit)) }

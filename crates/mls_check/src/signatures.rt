@@ -1,11 +1,12 @@
 //! Signatures (RFC 9420, 5.1.2), which a checker verifies that the caller supplies.
 
-ghost use Rattle.std.specs.Prelude.{◌≡◌, ℕ, List, Bool, true, flat_map};
+ghost use Rattle.std.specs.Prelude.{◌≡◌, ℕ, List, Bool, true, flat_map, IfOk};
 ghost use Rattle.std.specs.Bool.{OnTrue};
 ghost use Rattle.mls_check.specs.Signatures.{AcceptsAll, is_signed, sign_content};
 ghost use Rattle.mls_wire.specs.ReadContracts.{seen};
 ghost use Rattle.mls_wire.specs.WriteContracts.{Makes};
 
+use crate::receipts::len_of_pieces;
 use mls_wire::{CodecFault, Draft, EncodedLength, MAX_BODY};
 use std::alloc::{AllocError, AllocFailed, Global};
 use thiserror::Error;
@@ -102,4 +103,37 @@ pub fn signed<C: SignatureCheck>(
     let tbs_len = EncodedLength::of(tbs.len());
     let content = [label_len.as_slice(), label, tbs_len.as_slice(), tbs];
     checker.good(suite, key, &content, signature)
+}
+
+/// VerifyWithLabel (RFC 9420, 5.1.2) for bytes in pieces: returns whether the checker accepts `signature` for the pieces of
+/// `tbs`, one after the other, under the label `label`, which begins with `MLS 1.0 `. Bytes that are too long for a
+/// SignContent are not signed. The checker gets the pieces where they are: none is copied.
+///
+/// # Errors
+///
+/// [`OutOfMemory`]
+pub fn signed_in_pieces<C: SignatureCheck>(
+    alloc: Global,
+    checker: &C,
+    suite: u16,
+    key: &[u8],
+    label: &str,
+    tbs: &[&[u8]],
+    signature: &[u8],
+) -> Result<bool, OutOfMemory>
+    ensures { IfOk result (λ good. good ≡ is_signed (C.meaning checker.now) suite key.now label.now
+        (flat_map (λ p. p.now) tbs.now) signature.now) }
+{
+    let label = label.as_bytes();
+    let Some(len) = len_of_pieces(tbs) else {
+        return Ok(false);
+    };
+    if label.len() > MAX_BODY {
+        return Ok(false);
+    }
+    let label_len = EncodedLength::of(label.len());
+    let tbs_len = EncodedLength::of(len);
+    let mut content = Vec::from_slice(alloc, &[label_len.as_slice(), label, tbs_len.as_slice()])?;
+    content.extend_from_slice(tbs)?;
+    Ok(checker.good(suite, key, content.as_slice(), signature))
 }

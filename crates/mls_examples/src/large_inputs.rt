@@ -2,7 +2,7 @@
 //! bytes of a vector's body (RFC 9420, 2.1.2).
 
 use crate::support::{expect_text, have, held_text, sink};
-use mls_check::{Receipts, Trusting, signed};
+use mls_check::{Receipts, Trusting, signed, signed_in_pieces};
 use mls_cli::{CheckKind, ShowKind, run_check, run_show};
 use mls_msgs::{Message, decode_message};
 use mls_nodes::{decode_context, decode_ratchet_tree};
@@ -114,6 +114,10 @@ fn arguments_over_a_vector(rt: HostRuntime) {
     let zeros = have(&rt, vec![in alloc; 0u8; 1073741824]);
     let zeros = zeros.as_slice();
     assert!(rt; !signed(&Trusting, 1, b"k", "MLS 1.0 Test", zeros, b"s"));
+    let (first, rest) = zeros.split_at(1);
+    let in_pieces = [first, rest];
+    let found = signed_in_pieces(alloc, &Trusting, 1, b"k", "MLS 1.0 Test", &in_pieces, b"s");
+    assert!(rt; !have(&rt, found));
     let copied = Opaque::copy(alloc, zeros);
     expect_text(&rt, fault_text(&rt, alloc, copied), "TooLong at 0");
     expect_text(&rt, written(&rt, alloc, zeros), "TooLong at 1");

@@ -1,6 +1,6 @@
 //! The follower.
 
-ghost use Rattle.std.specs.Prelude.{◌≡◌, ◌≢◌, ◌↔◌, ℕ, ◌<◌, List, length, None, Err, IfOk, IfErr, OnOk, OnErr, IsErrAnd, option_map};
+ghost use Rattle.std.specs.Prelude.{◌≡◌, ◌≢◌, ◌↔◌, ◌<◌, length, None, Err, IfOk, IfErr, OnOk, OnErr, IsErrAnd, option_map};
 ghost use Rattle.mls_wire.specs.Limits.{input_limit};
 ghost use Rattle.mls_tree.specs.PublicTreeModel.{plain};
 ghost use Rattle.mls_nodes.specs.ExternalSenders.{senders_by};
@@ -8,7 +8,7 @@ ghost use Rattle.mls_nodes.specs.Requirements.{extension_of, Requires};
 ghost use Rattle.mls_msgs.specs.declared.profile.Profile.TheVariants.{Members};
 ghost use Rattle.mls_apply.specs.Staged.{IsSettled};
 ghost use Rattle.mls_follow.specs.CommitTree.{initial_state_of_tree};
-ghost use Rattle.mls_follow.specs.State.{HasEncoding, EncodesMessage};
+ghost use Rattle.mls_follow.specs.State.{EncodesMessage};
 ghost use Rattle.mls_follow.specs.GroupModel.{group_state};
 ghost use Rattle.mls_follow.specs.FollowerInvariant.{HasUniqueKeysAndValidLeaves, HasUniqueKeysAndValidLeaves-prop};
 ghost use Rattle.mls_follow.specs.Acceptance.{IsAcceptable, IsNext, IsFirstRefusal};
@@ -256,15 +256,14 @@ impl<C: SignatureCheck> Follower<C> {
         &self.checker
     }
 
-    /// Processes a message that was decoded.
-    fn take_message(&mut self, message: &Message) -> Result<Taken, Refusal>
-        requires { HasEncoding (state_of self.old).profile message.now }
-        ensures takes { (bytes : List ℕ) → EncodesMessage (state_of self.old).profile message.now bytes
-            → IsTransition (C.meaning (checker_of self.old)) (state_of self.old) bytes result
+    /// Processes a message, which `bytes` must encode.
+    fn take_message(&mut self, message: &Message, bytes: &[u8]) -> Result<Taken, Refusal>
+        requires { EncodesMessage (state_of self.old).profile message.now bytes.now }
+        ensures takes { IsTransition (C.meaning (checker_of self.old)) (state_of self.old) bytes.now result
             (state_of self.new) }
         ensures checker { C.meaning (checker_of self.new) ≡ C.meaning (checker_of self.old) }
     {
-        self.group.take(self.alloc, &self.checker, message)
+        self.group.take(self.alloc, &self.checker, message, bytes)
     }
 
     /// Processes one message (RFC 9420, 6), and accepts it if it satisfies every rule.
@@ -293,7 +292,7 @@ impl<C: SignatureCheck> Follower<C> {
         ensures checker { C.meaning (checker_of self.new) ≡ C.meaning (checker_of self.old) }
     {
         let message = read_message(self.alloc, self.group.profile, bytes)?;
-        let answer = self.take_message(&message);
+        let answer = self.take_message(&message, bytes);
         drop(message);
         answer
     }

@@ -17,13 +17,14 @@ ghost use Rattle.mls_follow.specs.Acceptance.{EncodesNoMessage};
 ghost use Rattle.mls_follow.specs.AcceptanceInternal.{FailsWithRule};
 ghost use Rattle.mls_follow.specs.MessageHeader.{HasNoHeader, IsUnreadMessage};
 
+use crate::context_pieces::ContextPieces;
 use crate::group::Group;
 use crate::message_header::{is_unread, wire_format_of};
+use crate::received_frame::ReceivedFrame;
 use crate::refusal::Refusal;
-use mls_check::{OutOfMemory, SignatureCheck, signed};
+use mls_check::{OutOfMemory, SignatureCheck, signed, signed_in_pieces};
 use mls_msgs::{
-    Authenticated, CONTENT_LABEL, Commit, Content, Message, Profile, Proposal, Sender, content_tbs,
-    decode_message_in,
+    CONTENT_LABEL, Commit, Content, Message, Profile, Proposal, Sender, decode_message_in,
 };
 use mls_nodes::GroupContext;
 use mls_signatures::{may_propose, outside_key_among, signed_context};
@@ -77,51 +78,56 @@ pub(crate) fn read_message(
 }
 
 /// Returns whether the signature of a FramedContent is good under this key. The group's context is signed too, as the sender
-/// demands.
-#[tactic(auto, unfolding(crate::specs::MessageRules::is_frame_signed))]
+/// demands. The checker gets what is signed in pieces, each from where it is stored.
 fn is_frame_signed<C: SignatureCheck>(
     alloc: Global,
     context: &GroupContext,
     key: &[u8],
-    auth: &Authenticated,
+    frame: &ReceivedFrame<'_>,
     checker: &C,
 ) -> Result<bool, OutOfMemory>
     ensures { IfOk result (λ good. good ≡ is_frame_signed
-        (C.meaning checker.now) context.now key.now auth.now) }
+        (C.meaning checker.now) context.now key.now frame.now) }
 {
-    let over = signed_context(context, auth.content().sender);
-    let tbs = match content_tbs(alloc, auth, over) {
-        Ok(tbs) => tbs,
-        Err(CodecFault::Wire(_)) => return Ok(false),
-        Err(CodecFault::OutOfMemory) => return Err(OutOfMemory),
-    };
+    let auth = frame.auth();
     let suite = context.cipher_suite;
     let signature = auth.signature().as_slice();
-    Ok(signed(
-        checker,
-        suite,
-        key,
-        CONTENT_LABEL,
-        tbs.as_slice(),
-        signature,
-    ))
+    let label = CONTENT_LABEL;
+    let tbs = frame.tbs();
+    match signed_context(context, auth.content().sender) {
+        Some(context) => {
+            let context = ContextPieces::of(context);
+            let mut pieces = Vec::from_slice(alloc, &[tbs])?;
+            context.add_to(&mut pieces)?;
+            signed_in_pieces(
+                alloc,
+                checker,
+                suite,
+                key,
+                label,
+                pieces.as_slice(),
+                signature,
+            )
+        }
+        None => Ok(signed(checker, suite, key, label, tbs, signature)),
+    }
 }
 
 /// Checks that an AuthenticatedContent is for the group and its epoch, and that the group goes on. What is left are the
 /// rules for its sender.
 #[tactic(auto, unfolding(crate::specs::MessageRulesInternal::frame_refusal, crate::specs::MessageRulesInternal::sender_refusal))]
-pub(crate) fn check_header(group: &Group, auth: &Authenticated) -> Result<(), Refusal>
+pub(crate) fn check_header(group: &Group, frame: &ReceivedFrame<'_>) -> Result<(), Refusal>
     ensures rules_hold { OnOk result ((G : VerifyFn) (required : RequiredCapabilities)
-        → frame_refusal G (group_state group.now) required auth.now
-        ≡ sender_refusal G (group_state group.now) required auth.now auth.now.content.sender) }
+        → frame_refusal G (group_state group.now) required frame.now
+        ≡ sender_refusal G (group_state group.now) required frame.now frame.now.content.sender) }
     ensures refused { IfErr result (λ e. (G : VerifyFn) (required : RequiredCapabilities)
-        → frame_refusal G (group_state group.now) required auth.now ≡ Some e) }
+        → frame_refusal G (group_state group.now) required frame.now ≡ Some e) }
 {
-    let frame = auth.content();
-    if frame.group_id.as_slice() != group.context.group_id.as_slice() {
+    let content = frame.auth().content();
+    if content.group_id.as_slice() != group.context.group_id.as_slice() {
         return Err(Refusal::WrongGroup);
     }
-    if frame.epoch != group.context.epoch {
+    if content.epoch != group.context.epoch {
         return Err(Refusal::WrongEpoch);
     }
     if group.ended {
@@ -137,25 +143,25 @@ pub(crate) fn check_member_frame<C: SignatureCheck>(
     alloc: Global,
     group: &Group,
     checker: &C,
-    auth: &Authenticated,
+    frame: &ReceivedFrame<'_>,
     sender: u32,
 ) -> Result<(), Refusal>
     ensures member { OnOk result (IsSome (leaf_at 0 group.now.tree.tree sender)) }
-    ensures handshake { OnOk result (IsTrue (is_handshake auth.now.content.content)) }
+    ensures handshake { OnOk result (IsTrue (is_handshake frame.now.content.content)) }
     ensures rules_hold { OnOk result
-        (sender_refusal (C.meaning checker.now) (group_state group.now) group.now.required auth.now (Member sender)
-        ≡ handshake_refusal (C.meaning checker.now) (group_state group.now) group.now.required auth.now sender
-        auth.now.content.content) }
+        (sender_refusal (C.meaning checker.now) (group_state group.now) group.now.required frame.now (Member sender)
+        ≡ handshake_refusal (C.meaning checker.now) (group_state group.now) group.now.required frame.now sender
+        frame.now.content.content) }
     ensures refused { IfErr result (FailsWithRule (sender_refusal (C.meaning checker.now) (group_state group.now)
-        group.now.required auth.now (Member sender))) }
+        group.now.required frame.now (Member sender))) }
 {
     let Some(leaf) = group.tree.tree().leaf(sender) else {
         return Err(Refusal::SenderNotMember);
     };
-    if let Content::Application(_) = auth.content().content {
+    if let Content::Application(_) = frame.auth().content().content {
         return Err(Refusal::NotHandshake);
     }
-    if !is_frame_signed(alloc, &group.context, leaf.signature_key(), auth, checker)? {
+    if !is_frame_signed(alloc, &group.context, leaf.signature_key(), frame, checker)? {
         return Err(Refusal::BadSignature);
     }
     Ok(())
@@ -168,32 +174,32 @@ fn check_outside_content<'a, C: SignatureCheck>(
     alloc: Global,
     group: &Group,
     checker: &C,
-    auth: &'a Authenticated,
+    frame: &ReceivedFrame<'a>,
     key: Option<&[u8]>,
 ) -> Result<&'a Proposal, Refusal>
-    ensures proposal { IfOk result (λ p. auth.now.content.content ≡ contents.Proposal p.now) }
+    ensures proposal { IfOk result (λ p. frame.now.content.content ≡ contents.Proposal p.now) }
     ensures rules_hold { let signature_key = option_map (λ k. k.now) key.entry in
         IfOk result (λ p. first_failing (outside_content_rules (C.meaning checker.now)
-        (group_state group.now) auth.now auth.now.content.sender signature_key auth.now.content.content)
-        ≡ proposal_refusal (C.meaning checker.now) (group_state group.now) auth.now
-        auth.now.content.sender p.now) }
+        (group_state group.now) frame.now frame.now.content.sender signature_key frame.now.content.content)
+        ≡ proposal_refusal (C.meaning checker.now) (group_state group.now) frame.now
+        frame.now.content.sender p.now) }
     ensures refused { let signature_key = option_map (λ k. k.now) key.entry in
         IfErr result (FailsWithRule (first_failing (outside_content_rules (C.meaning checker.now)
-        (group_state group.now) auth.now auth.now.content.sender signature_key auth.now.content.content))) }
+        (group_state group.now) frame.now frame.now.content.sender signature_key frame.now.content.content))) }
 {
-    let frame = auth.content();
-    let proposal = match &frame.content {
+    let content = frame.auth().content();
+    let proposal = match &content.content {
         Content::Application(_) => return Err(Refusal::NotHandshake),
         Content::Proposal(proposal) => proposal,
         Content::Commit(_) => return Err(Refusal::SenderContent),
     };
-    if !may_propose(frame.sender, proposal) {
+    if !may_propose(content.sender, proposal) {
         return Err(Refusal::SenderContent);
     }
     let Some(key) = key else {
         return Err(Refusal::SenderContent);
     };
-    if !is_frame_signed(alloc, &group.context, key, auth, checker)? {
+    if !is_frame_signed(alloc, &group.context, key, frame, checker)? {
         return Err(Refusal::BadSignature);
     }
     Ok(proposal)
@@ -218,21 +224,21 @@ pub(crate) fn check_outside_frame<'a, C: SignatureCheck>(
     alloc: Global,
     group: &Group,
     checker: &C,
-    auth: &'a Authenticated,
+    frame: &ReceivedFrame<'a>,
 ) -> Result<&'a Proposal, Refusal>
-    ensures proposal { IfOk result (λ p. auth.now.content.content ≡ contents.Proposal p.now) }
-    ensures rules_hold { IfOk result (λ p. outside_refusal (C.meaning checker.now) (group_state group.now) auth.now
-        auth.now.content.sender
-        ≡ proposal_refusal (C.meaning checker.now) (group_state group.now) auth.now auth.now.content.sender p.now) }
+    ensures proposal { IfOk result (λ p. frame.now.content.content ≡ contents.Proposal p.now) }
+    ensures rules_hold { IfOk result (λ p. outside_refusal (C.meaning checker.now) (group_state group.now) frame.now
+        frame.now.content.sender
+        ≡ proposal_refusal (C.meaning checker.now) (group_state group.now) frame.now frame.now.content.sender p.now) }
     ensures refused { IfErr result (FailsWithRule (outside_refusal (C.meaning checker.now) (group_state group.now)
-        auth.now auth.now.content.sender)) }
+        frame.now frame.now.content.sender)) }
 {
-    let frame = auth.content();
-    let key = outside_key_among(&group.senders, frame.sender, &frame.content);
-    if is_unknown_external(frame.sender, key) {
+    let content = frame.auth().content();
+    let key = outside_key_among(&group.senders, content.sender, &content.content);
+    if is_unknown_external(content.sender, key) {
         return Err(Refusal::UnknownExternal);
     }
-    check_outside_content(alloc, group, checker, auth, key)
+    check_outside_content(alloc, group, checker, frame, key)
 }
 
 /// Returns the commit of a message of a client that joins with it, if it has a path, and is signed under the key of the path's
@@ -242,17 +248,17 @@ pub(crate) fn check_joiner_frame<'a, C: SignatureCheck>(
     alloc: Global,
     group: &Group,
     checker: &C,
-    auth: &'a Authenticated,
+    frame: &ReceivedFrame<'a>,
 ) -> Result<&'a Commit, Refusal>
-    ensures commit { IfOk result (λ c. auth.now.content.content ≡ contents.Commit c.now) }
+    ensures commit { IfOk result (λ c. frame.now.content.content ≡ contents.Commit c.now) }
     ensures path { IfOk result (λ c. IsSome c.now.path) }
     ensures rules_hold { IfOk result (λ c. joiner_refusal (C.meaning checker.now) (group_state group.now)
-        group.now.required auth.now auth.now.content.content
+        group.now.required frame.now frame.now.content.content
         ≡ external_commit_refusal (C.meaning checker.now) (group_state group.now) group.now.required c.now) }
     ensures refused { IfErr result (FailsWithRule (joiner_refusal (C.meaning checker.now) (group_state group.now)
-        group.now.required auth.now auth.now.content.content)) }
+        group.now.required frame.now frame.now.content.content)) }
 {
-    let commit = match &auth.content().content {
+    let commit = match &frame.auth().content().content {
         Content::Application(_) => return Err(Refusal::NotHandshake),
         Content::Proposal(_) => return Err(Refusal::SenderContent),
         Content::Commit(commit) => commit,
@@ -261,7 +267,7 @@ pub(crate) fn check_joiner_frame<'a, C: SignatureCheck>(
         return Err(Refusal::PathMissing);
     };
     let key = path.leaf_node.signature_key();
-    if !is_frame_signed(alloc, &group.context, key, auth, checker)? {
+    if !is_frame_signed(alloc, &group.context, key, frame, checker)? {
         return Err(Refusal::BadSignature);
     }
     Ok(commit)

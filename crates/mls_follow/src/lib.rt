@@ -11,6 +11,7 @@
 
 mod changed_tree_check;
 mod commit_changes;
+mod context_pieces;
 mod follower;
 mod framed_content_rules;
 mod group;
@@ -21,6 +22,7 @@ mod next_extensions;
 mod pending_entries;
 mod proposal_message;
 mod proposals_by_value;
+mod received_frame;
 mod refusal;
 mod resolved;
 mod resume;

@@ -13,16 +13,17 @@ ghost use Rattle.mls_follow.specs.CommitTree.{initial_state_of_tree};
 ghost use Rattle.mls_follow.specs.Start.{UsesTree, UsesNoTree, IsStart, IsStartFault, info_interim, is_info_signed};
 ghost use Rattle.mls_follow.specs.StartInternal.{StartsWith, FailsWith, IsSignedIn, FailsSigned};
 
+use crate::context_pieces::ContextPieces;
 use crate::group_tree::{UnsupportedContext, group_requirements, suite_of};
 use crate::start_fault::StartFault;
 use mls_apply::{StagedTree, interim_hash};
-use mls_check::{OutOfMemory, SignatureCheck, signed};
+use mls_check::{OutOfMemory, SignatureCheck, signed_in_pieces};
 use mls_hash::Suite;
-use mls_msgs::{GROUP_INFO_LABEL, GroupInfo, info_tbs};
+use mls_msgs::{GROUP_INFO_LABEL, GroupInfo};
 use mls_nodes::{EncodedLeaf, ExternalSenders, NodeFault, RequiredCapabilities, find_extension};
 use mls_signatures::senders_of;
 use mls_tree::{HashValue, PublicTree};
-use mls_wire::CodecFault;
+use mls_wire::EncodedLength;
 use std::alloc::Global;
 
 /// The extension type of a ratchet_tree (RFC 9420, 12.4.3.3).
@@ -90,8 +91,8 @@ pub fn tree_in(alloc: Global, info: &GroupInfo) -> Result<PublicTree, StartFault
     }
 }
 
-/// Returns whether the signature of the GroupInfo is good under the key of a leaf.
-#[tactic(auto, unfolding(crate::specs::Start::is_info_signed))]
+/// Returns whether the signature of the GroupInfo is good under the key of a leaf. The checker gets the GroupInfoTBS (RFC
+/// 9420, 12.4.3) in pieces, each from where it is stored.
 fn is_info_signed<C: SignatureCheck>(
     alloc: Global,
     info: &GroupInfo,
@@ -101,22 +102,33 @@ fn is_info_signed<C: SignatureCheck>(
     ensures { IfOk result (λ good. good ≡ is_info_signed
         (C.meaning checker.now) info.now signer.now) }
 {
-    let tbs = match info_tbs(alloc, info) {
-        Ok(tbs) => tbs,
-        Err(CodecFault::Wire(_)) => return Ok(false),
-        Err(CodecFault::OutOfMemory) => return Err(OutOfMemory),
-    };
+    let context = ContextPieces::of(&info.context);
+    let extensions = info.extensions.encoded();
+    let extensions_len = EncodedLength::of(extensions.len());
+    let tag = info.confirmation_tag.as_slice();
+    let tag_len = EncodedLength::of(tag.len());
+    let index = info.signer.to_be_bytes();
+    let mut tbs = Vec::new(alloc);
+    context.add_to(&mut tbs)?;
+    tbs.extend_from_slice(&[
+        extensions_len.as_slice(),
+        extensions,
+        tag_len.as_slice(),
+        tag,
+        &index,
+    ])?;
     let suite = info.context.cipher_suite;
     let key = signer.signature_key();
     let signature = info.signature.as_slice();
-    Ok(signed(
+    signed_in_pieces(
+        alloc,
         checker,
         suite,
         key,
         GROUP_INFO_LABEL,
         tbs.as_slice(),
         signature,
-    ))
+    )
 }
 
 /// Checks that the leaf of a GroupInfo's signer is non-blank and has signed it.

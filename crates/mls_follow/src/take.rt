@@ -1,6 +1,6 @@
 //! How a group processes what its members, external senders and new members have sent.
 
-ghost use Rattle.std.specs.Prelude.{◌≡◌, ◌<◌, ℕ, List, Some, None, IsSome, IsTrue, IfOk, IfErr, OnOk, OnErr, option_and_then, option_map, unwrap_or};
+ghost use Rattle.std.specs.Prelude.{◌≡◌, ◌<◌, Some, None, IsSome, IsTrue, IfOk, IfErr, OnOk, OnErr, option_and_then, option_map, unwrap_or};
 ghost use Rattle.mls_tree.specs.Tree.{leaf_at};
 ghost use Rattle.mls_msgs.specs.Layout.{is_commit};
 ghost use Rattle.mls_msgs.specs.Tbs.{confirmed_input};
@@ -18,7 +18,7 @@ ghost use Rattle.mls_follow.specs.FollowerInvariant.{HasUniqueKeysAndValidLeaves
 ghost use Rattle.mls_follow.specs.MessageRules.{changed_tree, if_full, joiner_rules, applied_tree_rules, outside_rules, required_after, rules_with_requirements, reference_of};
 ghost use Rattle.mls_follow.specs.MessageRulesInternal.{external_commit_refusal, frame_refusal, handshake_refusal, joiner_refusal, outside_refusal, proposal_refusal, sender_refusal};
 ghost use Rattle.mls_follow.specs.NextState.{after_commit, after_content, after_join, after_outside, after_proposal, after_sender, after_tree, with_list};
-ghost use Rattle.mls_follow.specs.State.{HasEncoding, EncodesMessage, last_epoch};
+ghost use Rattle.mls_follow.specs.State.{EncodesMessage, last_epoch};
 ghost use Rattle.mls_follow.specs.AcceptanceInternal.{FailsWithRule};
 ghost use Rattle.mls_follow.specs.Runs.{IsTransition};
 
@@ -30,6 +30,7 @@ use crate::framed_content_rules::{
 use crate::group::Group;
 use crate::next_extensions::{proposed_requirements, required_after};
 use crate::proposal_message::check_proposal_message;
+use crate::received_frame::ReceivedFrame;
 use crate::refusal::Refusal;
 use crate::resolved::{MemberMessage, ReceivedCommit, ResolvedCommit, SentProposal};
 use crate::taken::Taken;
@@ -263,28 +264,30 @@ impl Group {
         &mut self,
         alloc: Global,
         checker: &C,
-        message: &MemberMessage<'_>,
+        frame: &ReceivedFrame<'_>,
+        sender: u32,
     ) -> Result<Taken, Refusal>
-        requires hashed { IsSome (confirmed_input message.now.auth.now) }
-        requires referenced { IsSome (reference_of self.old.context message.now.auth.now) }
+        requires hashed { IsSome (confirmed_input frame.now) }
+        requires referenced { IsSome (reference_of self.old.context frame.now) }
         requires checked { HasUniqueKeysAndValidLeaves (C.meaning checker.now) (group_state self.old) }
         ensures rules_hold { OnOk result (sender_refusal (C.meaning checker.now) (group_state self.old)
-            self.old.required message.now.auth.now (Member message.now.sender) ≡ None) }
-        ensures next { IfOk result (λ taken. after_sender (group_state self.old) message.now.auth.now
-            (Member message.now.sender)
+            self.old.required frame.now (Member sender) ≡ None) }
+        ensures next { IfOk result (λ taken. after_sender (group_state self.old) frame.now
+            (Member sender)
             ≡ Some (record { taken = taken; state = group_state self.new })) }
         ensures refused { IfErr result (FailsWithRule (sender_refusal (C.meaning checker.now) (group_state self.old)
-            self.old.required message.now.auth.now (Member message.now.sender))) }
+            self.old.required frame.now (Member sender))) }
         ensures unchanged_on_error { OnErr result (group_state self.new ≡ group_state self.old) }
     {
-        let auth = message.auth;
-        check_member_frame(alloc, self, checker, auth, message.sender)?;
+        check_member_frame(alloc, self, checker, frame, sender)?;
+        let auth = frame.auth();
+        let message = MemberMessage { auth, sender };
         match &auth.content().content {
             Content::Application(_) => unreachable!(),
             Content::Proposal(proposal) => {
-                self.take_member_proposal(alloc, checker, message, proposal)
+                self.take_member_proposal(alloc, checker, &message, proposal)
             }
-            Content::Commit(commit) => self.take_commit(alloc, checker, message, commit),
+            Content::Commit(commit) => self.take_commit(alloc, checker, &message, commit),
         }
     }
 
@@ -294,20 +297,21 @@ impl Group {
         &mut self,
         alloc: Global,
         checker: &C,
-        auth: &Authenticated,
+        frame: &ReceivedFrame<'_>,
     ) -> Result<Taken, Refusal>
-        requires present { IsTrue (is_present self.old.tree.tree auth.now.content.sender) }
-        requires referenced { IsSome (reference_of self.old.context auth.now) }
+        requires present { IsTrue (is_present self.old.tree.tree frame.now.content.sender) }
+        requires referenced { IsSome (reference_of self.old.context frame.now) }
         ensures rules_hold { OnOk result (outside_refusal (C.meaning checker.now) (group_state self.old)
-            auth.now auth.now.content.sender ≡ None) }
-        ensures next { IfOk result (λ taken. after_outside (group_state self.old) auth.now auth.now.content.sender
-            auth.now.content.content
+            frame.now frame.now.content.sender ≡ None) }
+        ensures next { IfOk result (λ taken. after_outside (group_state self.old) frame.now frame.now.content.sender
+            frame.now.content.content
             ≡ Some (record { taken = taken; state = group_state self.new })) }
         ensures refused { IfErr result (FailsWithRule (outside_refusal (C.meaning checker.now) (group_state self.old)
-            auth.now auth.now.content.sender)) }
+            frame.now frame.now.content.sender)) }
         ensures unchanged_on_error { OnErr result (group_state self.new ≡ group_state self.old) }
     {
-        let proposal = check_outside_frame(alloc, self, checker, auth)?;
+        let proposal = check_outside_frame(alloc, self, checker, frame)?;
+        let auth = frame.auth();
         let sent = SentProposal {
             auth,
             sender: auth.content().sender,
@@ -322,22 +326,22 @@ impl Group {
         &mut self,
         alloc: Global,
         checker: &C,
-        auth: &Authenticated,
+        frame: &ReceivedFrame<'_>,
     ) -> Result<Taken, Refusal>
-        requires present { IsTrue (is_present self.old.tree.tree auth.now.content.sender) }
-        requires referenced { IsSome (reference_of self.old.context auth.now) }
+        requires present { IsTrue (is_present self.old.tree.tree frame.now.content.sender) }
+        requires referenced { IsSome (reference_of self.old.context frame.now) }
         ensures rules_hold { OnOk result (first_failing (if_full self.old.profile (outside_rules
-            (C.meaning checker.now) (group_state self.old) auth.now auth.now.content.sender)) ≡ None) }
-        ensures next { IfOk result (λ taken. after_outside (group_state self.old) auth.now auth.now.content.sender
-            auth.now.content.content
+            (C.meaning checker.now) (group_state self.old) frame.now frame.now.content.sender)) ≡ None) }
+        ensures next { IfOk result (λ taken. after_outside (group_state self.old) frame.now frame.now.content.sender
+            frame.now.content.content
             ≡ Some (record { taken = taken; state = group_state self.new })) }
         ensures refused { IfErr result (FailsWithRule (first_failing (if_full self.old.profile (outside_rules
-            (C.meaning checker.now) (group_state self.old) auth.now auth.now.content.sender)))) }
+            (C.meaning checker.now) (group_state self.old) frame.now frame.now.content.sender)))) }
         ensures unchanged_on_error { OnErr result (group_state self.new ≡ group_state self.old) }
     {
         match self.profile {
             Profile::Members => Err(Refusal::SenderNotMember),
-            Profile::Full => self.take_outside_frame(alloc, checker, auth),
+            Profile::Full => self.take_outside_frame(alloc, checker, frame),
         }
     }
 
@@ -380,20 +384,20 @@ impl Group {
         &mut self,
         alloc: Global,
         checker: &C,
-        auth: &Authenticated,
+        frame: &ReceivedFrame<'_>,
     ) -> Result<Taken, Refusal>
-        requires hashed { IsSome (confirmed_input auth.now) }
+        requires hashed { IsSome (confirmed_input frame.now) }
         requires checked { HasUniqueKeysAndValidLeaves (C.meaning checker.now) (group_state self.old) }
         ensures rules_hold { OnOk result (joiner_refusal (C.meaning checker.now) (group_state self.old)
-            self.old.required auth.now auth.now.content.content ≡ None) }
-        ensures next { IfOk result (λ taken. after_join (group_state self.old) auth.now auth.now.content.content
+            self.old.required frame.now frame.now.content.content ≡ None) }
+        ensures next { IfOk result (λ taken. after_join (group_state self.old) frame.now frame.now.content.content
             ≡ Some (record { taken = taken; state = group_state self.new })) }
         ensures refused { IfErr result (FailsWithRule (joiner_refusal (C.meaning checker.now) (group_state self.old)
-            self.old.required auth.now auth.now.content.content)) }
+            self.old.required frame.now frame.now.content.content)) }
         ensures unchanged_on_error { OnErr result (group_state self.new ≡ group_state self.old) }
     {
-        let commit = check_joiner_frame(alloc, self, checker, auth)?;
-        self.take_external_commit(alloc, checker, auth, commit)
+        let commit = check_joiner_frame(alloc, self, checker, frame)?;
+        self.take_external_commit(alloc, checker, frame.auth(), commit)
     }
 
     /// Processes an AuthenticatedContent of a client that joins with a commit (RFC 9420, 12.4.3.2) in the full profile. The
@@ -403,21 +407,21 @@ impl Group {
         &mut self,
         alloc: Global,
         checker: &C,
-        auth: &Authenticated,
+        frame: &ReceivedFrame<'_>,
     ) -> Result<Taken, Refusal>
-        requires hashed { IsSome (confirmed_input auth.now) }
+        requires hashed { IsSome (confirmed_input frame.now) }
         requires checked { HasUniqueKeysAndValidLeaves (C.meaning checker.now) (group_state self.old) }
         ensures rules_hold { OnOk result (first_failing (if_full self.old.profile (joiner_rules
-            (C.meaning checker.now) (group_state self.old) self.old.required auth.now auth.now.content.content)) ≡ None) }
-        ensures next { IfOk result (λ taken. after_join (group_state self.old) auth.now auth.now.content.content
+            (C.meaning checker.now) (group_state self.old) self.old.required frame.now frame.now.content.content)) ≡ None) }
+        ensures next { IfOk result (λ taken. after_join (group_state self.old) frame.now frame.now.content.content
             ≡ Some (record { taken = taken; state = group_state self.new })) }
         ensures refused { IfErr result (FailsWithRule (first_failing (if_full self.old.profile (joiner_rules
-            (C.meaning checker.now) (group_state self.old) self.old.required auth.now auth.now.content.content)))) }
+            (C.meaning checker.now) (group_state self.old) self.old.required frame.now frame.now.content.content)))) }
         ensures unchanged_on_error { OnErr result (group_state self.new ≡ group_state self.old) }
     {
         match self.profile {
             Profile::Members => Err(Refusal::SenderNotMember),
-            Profile::Full => self.take_joiner_frame(alloc, checker, auth),
+            Profile::Full => self.take_joiner_frame(alloc, checker, frame),
         }
     }
 
@@ -427,49 +431,49 @@ impl Group {
         &mut self,
         alloc: Global,
         checker: &C,
-        auth: &Authenticated,
+        frame: &ReceivedFrame<'_>,
     ) -> Result<Taken, Refusal>
-        requires hashed { IsSome (confirmed_input auth.now) }
-        requires referenced { IsSome (reference_of self.old.context auth.now) }
+        requires hashed { IsSome (confirmed_input frame.now) }
+        requires referenced { IsSome (reference_of self.old.context frame.now) }
         requires checked { HasUniqueKeysAndValidLeaves (C.meaning checker.now) (group_state self.old) }
         ensures rules_hold { OnOk result (frame_refusal (C.meaning checker.now)
             (group_state self.old) self.old.required
-            auth.now ≡ None) }
+            frame.now ≡ None) }
         ensures next { IfOk result (λ taken. after_sender
-            (group_state self.old) auth.now auth.now.content.sender
+            (group_state self.old) frame.now frame.now.content.sender
             ≡ Some (record { taken = taken; state = group_state self.new })) }
         ensures refused { IfErr result (FailsWithRule (frame_refusal (C.meaning checker.now)
             (group_state self.old)
-            self.old.required auth.now)) }
+            self.old.required frame.now)) }
         ensures unchanged_on_error { OnErr result (group_state self.new ≡ group_state self.old) }
     {
-        check_header(self, auth)?;
-        match auth.content().sender {
-            Sender::Member(sender) => {
-                let message = MemberMessage { auth, sender };
-                self.take_member_frame(alloc, checker, &message)
-            }
-            Sender::External(_) => self.take_outside(alloc, checker, auth),
-            Sender::NewMemberProposal => self.take_outside(alloc, checker, auth),
-            Sender::NewMemberCommit => self.take_joiner(alloc, checker, auth),
+        check_header(self, frame)?;
+        match frame.auth().content().sender {
+            Sender::Member(sender) => self.take_member_frame(alloc, checker, frame, sender),
+            Sender::External(_) => self.take_outside(alloc, checker, frame),
+            Sender::NewMemberProposal => self.take_outside(alloc, checker, frame),
+            Sender::NewMemberCommit => self.take_joiner(alloc, checker, frame),
         }
     }
 
-    /// Processes a message that was decoded.
+    /// Processes a message, which `bytes` must encode.
     pub(crate) fn take<C: SignatureCheck>(
         &mut self,
         alloc: Global,
         checker: &C,
         message: &Message,
+        bytes: &[u8],
     ) -> Result<Taken, Refusal>
-        requires input { HasEncoding self.old.profile message.now }
+        requires input { EncodesMessage self.old.profile message.now bytes.now }
         requires checked { HasUniqueKeysAndValidLeaves (C.meaning checker.now) (group_state self.old) }
-        ensures { (bytes : List ℕ) → EncodesMessage self.old.profile message.now bytes
-            → IsTransition (C.meaning checker.now) (group_state self.old) bytes result
+        ensures { IsTransition (C.meaning checker.now) (group_state self.old) bytes.now result
             (group_state self.new) }
     {
         match message {
-            Message::Public(public) => self.take_frame(alloc, checker, public.auth()),
+            Message::Public(public) => {
+                let frame = ReceivedFrame::new(public, bytes);
+                self.take_frame(alloc, checker, &frame)
+            }
             _ => Err(Refusal::NotPublic),
         }
     }

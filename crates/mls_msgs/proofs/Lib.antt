@@ -5,3 +5,4 @@ pub mod Unsigned
 pub mod MessageLemmas
 pub mod Profiles
 pub mod MembersRead
+pub mod ContentTbs

@@ -6,7 +6,7 @@ ghost use Rattle.mls_wire.specs.ReadContracts.{DecodesAll, seen};
 ghost use Rattle.mls_wire.specs.Parsing.{GivesOrFull};
 ghost use Rattle.mls_wire.specs.WriteContracts.{MakesPiece, Puts};
 ghost use Rattle.mls_msgs.specs.Layout.{is_commit};
-ghost use Rattle.mls_msgs.specs.Authenticated.{is_frame_format, tag_fits, is_authenticated, tag_if, signed_frame, authenticated_content};
+ghost use Rattle.mls_msgs.specs.Authenticated.{is_frame_format, tag_fits, is_authenticated, tag_if, frame_auth, signed_frame, authenticated_content};
 ghost use Rattle.mls_wire.specs.Input.{at};
 ghost use Rattle.mls_msgs.specs.MembersReading.{passes};
 ghost use Rattle.mls_msgs.specs.Profile.{is_members_authenticated, authenticated_in};
@@ -242,16 +242,22 @@ impl Decode for Authenticated {
 }
 
 impl Authenticated {
+    /// Returns the encoded length of the authentication of the content: its signature, and the confirmation tag of a commit.
+    #[tactic(auto, using(mls_nodes::specs::TagSizes::tag_sizes), unfolding(crate::specs::Authenticated::frame_auth))]
+    pub(crate) fn size_of_auth(&self) -> Option<usize>
+        ensures { result ≡ size (frame_auth (is_commit self.now.content.content)
+            (self.now.signature, self.now.confirmation_tag)) }
+    {
+        let tag = size_of_tag(&self.parts.confirmation_tag);
+        add_sizes(self.parts.signature.size(), tag)
+    }
+
     /// Returns the encoded length of a FramedContent and its authentication.
-    #[tactic(auto, using(mls_nodes::specs::TagSizes::tag_sizes), unfolding(crate::specs::Authenticated::signed_frame, crate::specs::Authenticated::frame_auth))]
+    #[tactic(auto, using(mls_nodes::specs::TagSizes::tag_sizes), unfolding(crate::specs::Authenticated::signed_frame))]
     pub(crate) fn size_of_signed_frame(&self) -> Option<usize>
         ensures { result ≡ size (signed_frame self.now) }
     {
-        let tag = size_of_tag(&self.parts.confirmation_tag);
-        add_sizes(
-            self.parts.content.size(),
-            add_sizes(self.parts.signature.size(), tag),
-        )
+        add_sizes(self.parts.content.size(), self.size_of_auth())
     }
 
     /// Writes a FramedContent and its authentication.

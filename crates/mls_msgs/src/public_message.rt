@@ -1,8 +1,12 @@
 //! PublicMessage.
 
-ghost use Rattle.std.specs.Prelude.{◌≡◌, Option, option_map, IsTrue, IsOk, IsSome, ◌↔◌, MatchResult};
+ghost use Rattle.std.specs.Prelude.{◌≡◌, Option, Some, None, option_map, IsTrue, IsOk, IsSome, ◌↔◌, MatchResult};
+ghost use Rattle.mls_wire.specs.SaturatingSizes.{size};
 ghost use Rattle.mls_msgs.specs.Layout.{is_member};
-ghost use Rattle.mls_msgs.specs.PublicMessage.{is_public};
+ghost use Rattle.mls_msgs.specs.Message.{message};
+ghost use Rattle.mls_msgs.specs.PublicMessage.{is_public, after_content};
+ghost use Rattle.mls_msgs.specs.Tbs.{content_tbs};
+ghost use Rattle.mls_msgs.specs.declared.message.Message.TheVariants.{Public};
 
 use crate::authenticated::{Authenticated, put_tag, read_signed_frame, read_tag, size_of_tag};
 use mls_wire::{CodecFault, Decode, Draft, Encode, Opaque, Reader, add_sizes};
@@ -65,6 +69,29 @@ impl PublicMessage {
         ensures member { IsSome result ↔ IsTrue (is_member self.now.auth.content.sender) }
     {
         self.parts.membership_tag.as_ref()
+    }
+
+    /// Returns the encoded length of what follows the FramedContent: its authentication, and a member's membership tag.
+    #[tactic(auto, using(mls_nodes::specs::TagSizes::tag_sizes), unfolding(crate::specs::PublicMessage::after_content))]
+    fn size_after_content(&self) -> Option<usize>
+        ensures { result ≡ size (after_content self.now) }
+    {
+        let tag = size_of_tag(&self.parts.membership_tag);
+        add_sizes(self.parts.auth.size_of_auth(), tag)
+    }
+
+    /// Returns the FramedContentTBS without a GroupContext (RFC 9420, 6.1), which is the front of `bytes`: the version, the
+    /// wire format and the FramedContent. Nothing is encoded or copied.
+    ///
+    /// `bytes` must be the encoding of this PublicMessage as an MLSMessage (RFC 9420, 6).
+    pub fn content_tbs_in<'a>(&self, bytes: &'a [u8]) -> &'a [u8]
+        requires encoding { message (Public self.now) ≡ Some bytes.now }
+        ensures { content_tbs self.now.auth None ≡ Some result.now }
+    {
+        let Some(after) = self.size_after_content() else {
+            unreachable!();
+        };
+        &bytes[..bytes.len() - after]
     }
 }
 

@@ -30,6 +30,7 @@ pub(crate) fn call(row: &Row) -> Result<CallResult, RowFault> {
         "changed_leaves" => check_calls::changed_leaves(row),
         "key_in" => check_calls::key_in(row),
         "signed" => check_calls::is_signed(row),
+        "signed_in_pieces" => check_calls::is_signed_in_pieces(row),
         "listed" => check_calls::listed(row),
         _ => codec_call(row),
     }

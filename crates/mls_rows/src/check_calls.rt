@@ -6,7 +6,7 @@ use crate::hash_calls::suite_at;
 use crate::row::{Row, have};
 use mls_check::{
     MemberFault, Receipts, SignatureCheck, SortedRequirements, TreeFault, Trusting,
-    has_distinct_keys, is_leaf_signed, signed, validate_members, validate_tree,
+    has_distinct_keys, is_leaf_signed, signed, signed_in_pieces, validate_members, validate_tree,
 };
 use mls_hash::{Suite, decode_with_leaf_hashes, fill_hashes, parent_hash_of};
 use mls_index::{KeyKind, LeafRule, LeafRules, TreeIndex, first_changed_failing};
@@ -305,6 +305,32 @@ pub(crate) fn is_signed(row: &Row) -> Result<CallResult, RowFault> {
         signed_by(row, &Trusting)
     } else {
         signed_by(row, &row.receipts(1))
+    }
+}
+
+/// Whether a signature of a content in two pieces, the first byte and the rest, is good by a checker.
+fn signed_by_in_pieces<C: SignatureCheck>(row: &Row, checker: &C) -> Result<CallResult, RowFault> {
+    let content = row.bytes(5);
+    let (first, rest) = content.as_slice().split_at(content.len().min(1));
+    let found = signed_in_pieces(
+        row.alloc,
+        checker,
+        row.short_number(2),
+        row.bytes(3).as_slice(),
+        row.text(4).as_str(),
+        &[first, rest],
+        row.bytes(6).as_slice(),
+    );
+    truth(row.alloc, found)
+}
+
+/// `signed_in_pieces | CHECKER | SUITE | KEY | LABEL | CONTENT | SIGNATURE`: as `signed`, of a content in pieces.
+pub(crate) fn is_signed_in_pieces(row: &Row) -> Result<CallResult, RowFault> {
+    row.has(6);
+    if row.is_trusting(1) {
+        signed_by_in_pieces(row, &Trusting)
+    } else {
+        signed_by_in_pieces(row, &row.receipts(1))
     }
 }
 

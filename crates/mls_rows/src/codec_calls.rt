@@ -409,10 +409,22 @@ fn of_info(alloc: Global, input: &[u8]) -> Result<Vec<u8>, CodecFault> {
     made
 }
 
+/// What is signed of a message without a context, found in its bytes.
+fn of_message(alloc: Global, input: &[u8]) -> Result<Vec<u8>, CodecFault> {
+    let message = decode_message_in(alloc, Profile::Full, input)?;
+    let made = match &message {
+        Message::Public(public) => Vec::from_slice(alloc, public.content_tbs_in(input)),
+        _ => Ok(Vec::new(alloc)),
+    };
+    drop(message);
+    Ok(made?)
+}
+
 /// What is signed or hashed of the bytes of a type.
 fn tbs_of(row: &Row, input: &[u8]) -> Result<Vec<u8>, CodecFault> {
     match row.word(1) {
         "content" => of_content(row.alloc, input, None, false),
+        "message" => of_message(row.alloc, input),
         "commit" => of_content(row.alloc, input, None, true),
         "key_package" => of_package(row.alloc, input),
         "info" => of_info(row.alloc, input),
@@ -423,8 +435,8 @@ fn tbs_of(row: &Row, input: &[u8]) -> Result<Vec<u8>, CodecFault> {
     }
 }
 
-/// `tbs | WHAT | BYTES`: what is signed of a content without a context, of a key package, or of a GroupInfo; what is hashed of a
-/// commit for the confirmed transcript hash.
+/// `tbs | WHAT | BYTES`: what is signed of a content or a message without a context, of a key package, or of a GroupInfo; what is
+/// hashed of a commit for the confirmed transcript hash.
 pub(crate) fn tbs(row: &Row) -> Result<CallResult, RowFault> {
     row.has(2);
     bytes_result(row.alloc, tbs_of(row, row.bytes(2).as_slice()))

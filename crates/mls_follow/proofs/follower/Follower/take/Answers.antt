@@ -17,14 +17,14 @@ returns-in_err-message-clause-refused g c =
 pub returns-clause-accepted : goal.returns-clause-accepted
 returns-clause-accepted g c =
     is_accepted (g.C.SignatureCheck.meaning c.args.self.now.checker) (group_state c.args.self.now.group) c.args.bytes.now
-    c.take_message-answer.result (group_state c.take_message-answer.new.self.group) (c.take_message-answer.ensures.takes c.args.bytes.now c.in_ok-message.ensures.read)
+    c.take_message-answer.result (group_state c.take_message-answer.new.self.group) c.take_message-answer.ensures.takes
 
 pub returns-clause-next : goal.returns-clause-next
 returns-clause-next g c =
     is_next (g.C.SignatureCheck.meaning c.args.self.now.checker) (group_state c.args.self.now.group) c.args.bytes.now
-    c.take_message-answer.result (group_state c.take_message-answer.new.self.group) (c.take_message-answer.ensures.takes c.args.bytes.now c.in_ok-message.ensures.read)
+    c.take_message-answer.result (group_state c.take_message-answer.new.self.group) c.take_message-answer.ensures.takes
 
 pub returns-clause-refused : goal.returns-clause-refused
 returns-clause-refused g c =
     is_refused (g.C.SignatureCheck.meaning c.args.self.now.checker) (group_state c.args.self.now.group) c.args.bytes.now
-    c.take_message-answer.result (group_state c.take_message-answer.new.self.group) (c.take_message-answer.ensures.takes c.args.bytes.now c.in_ok-message.ensures.read)
+    c.take_message-answer.result (group_state c.take_message-answer.new.self.group) c.take_message-answer.ensures.takes

@@ -5,8 +5,7 @@ use Rattle.mls_follow.proofs.follower.Follower.take_message.Goals as goal
 -- what was taken was judged
 pub invariant_of-self : goal.invariant_of-self
 invariant_of-self g c =
-    let input = c.requires in
     let old = c.args.self.now in
     record {
-      checked = taken_checked (g.C.SignatureCheck.meaning old.checker) (group_state old.group) input.0 c.take.result (group_state c.take.new.self) (c.take.ensures input.0 input.1) old.checked;
+      checked = taken_checked (g.C.SignatureCheck.meaning old.checker) (group_state old.group) c.args.bytes.now c.take.result (group_state c.take.new.self) c.take.ensures old.checked;
     }

@@ -9,7 +9,7 @@ returns-in-External-clause-rules_hold g c =
     let G = g.C.SignatureCheck.meaning c.args.checker.now in
     let s = group_state c.args.self.now in
     let required = c.args.self.now.required in
-    let a = c.args.auth.now in
+    let a = c.args.frame.now in
     let sender = a.content.sender in
     let header = c.in_ok-check_header.ensures.rules_hold G required in
     outside_kept G s required a sender (frame_refusal G s required a) header (by_external G s required a sender c.in-External.field-0 (search rules)) c.take_outside.result c.take_outside.ensures.rules_hold
@@ -19,7 +19,7 @@ returns-in-External-clause-refused g c =
     let G = g.C.SignatureCheck.meaning c.args.checker.now in
     let s = group_state c.args.self.now in
     let required = c.args.self.now.required in
-    let a = c.args.auth.now in
+    let a = c.args.frame.now in
     let sender = a.content.sender in
     let header = c.in_ok-check_header.ensures.rules_hold G required in
     outside_refused G s required a sender (frame_refusal G s required a) header (by_external G s required a sender c.in-External.field-0 (search rules)) c.take_outside.result c.take_outside.ensures.refused
@@ -29,7 +29,7 @@ returns-in-NewMemberProposal-clause-rules_hold g c =
     let G = g.C.SignatureCheck.meaning c.args.checker.now in
     let s = group_state c.args.self.now in
     let required = c.args.self.now.required in
-    let a = c.args.auth.now in
+    let a = c.args.frame.now in
     let sender = a.content.sender in
     let header = c.in_ok-check_header.ensures.rules_hold G required in
     outside_kept G s required a sender (frame_refusal G s required a) header (by_joiner G s required a sender (search rules)) c.take_outside-in-NewMemberProposal.result c.take_outside-in-NewMemberProposal.ensures.rules_hold
@@ -39,7 +39,7 @@ returns-in-NewMemberProposal-clause-refused g c =
     let G = g.C.SignatureCheck.meaning c.args.checker.now in
     let s = group_state c.args.self.now in
     let required = c.args.self.now.required in
-    let a = c.args.auth.now in
+    let a = c.args.frame.now in
     let sender = a.content.sender in
     let header = c.in_ok-check_header.ensures.rules_hold G required in
     outside_refused G s required a sender (frame_refusal G s required a) header (by_joiner G s required a sender (search rules)) c.take_outside-in-NewMemberProposal.result c.take_outside-in-NewMemberProposal.ensures.refused
@@ -49,7 +49,7 @@ returns-in-NewMemberCommit-clause-rules_hold g c =
     let G = g.C.SignatureCheck.meaning c.args.checker.now in
     let s = group_state c.args.self.now in
     let required = c.args.self.now.required in
-    let a = c.args.auth.now in
+    let a = c.args.frame.now in
     let sender = a.content.sender in
     let header = c.in_ok-check_header.ensures.rules_hold G required in
     joiner_kept G s required a sender (frame_refusal G s required a) header (by_committer G s required a sender (search rules)) c.take_joiner.result c.take_joiner.ensures.rules_hold
@@ -59,7 +59,7 @@ returns-in-NewMemberCommit-clause-refused g c =
     let G = g.C.SignatureCheck.meaning c.args.checker.now in
     let s = group_state c.args.self.now in
     let required = c.args.self.now.required in
-    let a = c.args.auth.now in
+    let a = c.args.frame.now in
     let sender = a.content.sender in
     let header = c.in_ok-check_header.ensures.rules_hold G required in
     joiner_refused G s required a sender (frame_refusal G s required a) header (by_committer G s required a sender (search rules)) c.take_joiner.result c.take_joiner.ensures.refused

@@ -4,8 +4,10 @@
     build.py WORDS
     build.py --drop    removes what earlier builds kept and the program doesn't need
 
-The crates and what each stands on are those of crates.txt. Crates that don't rest on each other are built side by side,
-if there are processors and memory for it. A build that was interrupted goes on from what is kept in crates/*/out.
+For the command `show` the program is mlscheck_show, which has this command alone and stands on fewer crates, unless all
+libraries of mlscheck are built. The crates and what each stands on are those of crates.txt. Crates that don't rest on each
+other are built side by side, if there are processors and memory for it. A build that was interrupted goes on from what is
+kept in crates/*/out.
 """
 import fcntl
 import os
@@ -17,10 +19,15 @@ import sys
 import tempfile
 import time
 
-from crates import CRATES, MEASURED, OUT, PROGRAM, TOP, chain, free_memory, processors, read_crates, seconds_of
+from crates import (CRATES, DISK, MINUTES, OUT, PROGRAM, SHOW_PROGRAM, TOP, chain, free_memory, processors, read_crates,
+                    seconds_of)
 
-# The crates.txt lines that the program was built by; the file's time is when that build began.
-BUILT = os.path.join(OUT, "built")
+PROGRAMS = (PROGRAM, SHOW_PROGRAM)
+
+# Beside a program: the crates.txt lines that it was built by, a file whose time is when that build began; and what the
+# build took by crate, and in memory and disk.
+BUILT = "built"
+MEASURED = "measured"
 
 # Crates that are built beside another one are built in a folder of their own, below this one.
 BESIDE = os.path.join(OUT, "beside")
@@ -31,8 +38,7 @@ RT = os.path.join(TOP, "tools", "rt_once.py")
 # The logic that the sources are proved in: the second part of what `rt version` prints.
 LOGIC = "dac8208d650f15bf"
 
-# What a build from nothing keeps, and the memory that it needs, in bytes.
-DISK = 3 * 10**9
+# The memory that a build from nothing needs, in bytes.
 MEMORY = 4 * 10**9
 
 # What a check holds without its jobs, and each of its jobs, in bytes.
@@ -66,8 +72,8 @@ class Step:
         if is_beside:
             self.go_beside()
         self.said = tempfile.TemporaryFile("w+", errors="replace")
-        command = [sys.executable, RT, "run" if name == PROGRAM else "lib", "--jobs", str(jobs)]
-        command += ["--", "--help"] if name == PROGRAM else []
+        command = [sys.executable, RT, "run" if name in PROGRAMS else "lib", "--jobs", str(jobs)]
+        command += ["--", "--help"] if name in PROGRAMS else []
         if is_beside:
             command = ["nice", "-n", "10", *command]
         folder = os.path.join(self.top, "crates", name)
@@ -136,7 +142,8 @@ def can_link():
 
 
 class Build:
-    def __init__(self, below):
+    def __init__(self, program, below):
+        self.program = program
         self.below = below
         self.done = []
         self.running = []
@@ -192,7 +199,7 @@ class Build:
     def write_measured(self):
         """Writes what the build took. The memory is right on a machine that does nothing else meanwhile."""
         disk = sum(size_of(os.path.join(CRATES, name, "out")) for name in self.below)
-        with open(MEASURED, "w", encoding="utf-8") as file:
+        with open(out_path(self.program, MEASURED), "w", encoding="utf-8") as file:
             for name, seconds in self.seconds.items():
                 print(f"{name} {seconds:.0f} s", file=file)
             print(f"memory {(self.first_free - self.least_free) / 10**9:.1f} GB", file=file)
@@ -207,6 +214,26 @@ class Build:
 
 
 # ---- the commands
+
+
+def out_path(name, file):
+    return os.path.join(CRATES, name, "out", file)
+
+
+def is_kept(name):
+    """Returns whether a library is built, and no source of it is newer."""
+    stamp = out_path(name, os.path.join("rlib", "stamp"))
+    if not os.path.exists(stamp):
+        return False
+    parts = [os.path.join(CRATES, name, part) for part in ("src", "specs", "proofs")]
+    files = [os.path.join(folder, file) for part in parts for folder, _, found in os.walk(part) for file in found]
+    return all(os.path.getmtime(file) <= os.path.getmtime(stamp) for file in files)
+
+
+def program_for(words):
+    """Returns the program to build for these words."""
+    libraries = [name for name in read_crates(PROGRAM)[1] if name != PROGRAM]
+    return SHOW_PROGRAM if words[:1] == ["show"] and not all(map(is_kept, libraries)) else PROGRAM
 
 
 def check_kit():
@@ -234,29 +261,40 @@ def lock():
 
 
 def gigabytes(count):
-    return f"{count / 10**9:.0f} GB"
+    return f"{count / 10**9:.0f} GB" if count % 10**9 == 0 or count > 10**10 else f"{count / 10**9:.1f} GB"
 
 
-def announce(below):
-    if os.path.exists(os.path.join(OUT, PROGRAM)):
+def announce(program, below):
+    if os.path.exists(out_path(program, program)):
         say("a source has changed since the program was built: proving and building what rests on it")
         return
-    kept = [name for name in below if os.path.exists(os.path.join(CRATES, name, "out", "rlib", "stamp"))]
+    part = "what show needs" if program == SHOW_PROGRAM else "it"
+    kept = [name for name in below if os.path.exists(out_path(name, os.path.join("rlib", "stamp")))]
     if kept:
         say(f"not built yet: going on from what is kept of {len(kept)} of {len(below)} crates")
-    minutes = max(chain(below, name) for name in below) // 60
-    say(f"{'all of it' if kept else 'not built yet: proving and building it'} takes some {minutes} minutes on four "
-        f"cores, {gigabytes(DISK)} of disk ({gigabytes(shutil.disk_usage(TOP).free)} are free) "
+    say(f"{'all of it' if kept else f'not built yet: proving and building {part}'} takes some {MINUTES[program]} minutes "
+        f"on four cores, {gigabytes(DISK[program])} of disk ({gigabytes(shutil.disk_usage(TOP).free)} are free) "
         f"and at least {gigabytes(MEMORY)} of memory ({gigabytes(free_memory())} are free)")
 
 
-def build_all():
-    lines, below = read_crates()
+def link_as_program(program):
+    """Gives the program the name mlscheck too: it prints the name by which it was called."""
+    link = out_path(program, PROGRAM)
+    if os.path.exists(link):
+        os.remove(link)
+    try:
+        os.link(out_path(program, program), link)
+    except OSError:
+        shutil.copy2(out_path(program, program), link)
+
+
+def build_all(program):
+    lines, below = read_crates(program)
     begun = time.time()
     for name in os.listdir(BESIDE) if os.path.isdir(BESIDE) else []:
         take_back(name)
-    announce(below)
-    build = Build(below)
+    announce(program, below)
+    build = Build(program, below)
     try:
         failed = build.run()
     except BaseException:
@@ -265,12 +303,15 @@ def build_all():
     if failed:
         build.stop()
         print(failed.output(), file=sys.stderr)
-        fail(f"mlscheck could not be built: {failed.name} failed")
+        fail(f"{program} could not be built: {failed.name} failed")
     shutil.rmtree(BESIDE, ignore_errors=True)
+    if program != PROGRAM:
+        link_as_program(program)
     build.write_measured()
-    with open(BUILT, "w", encoding="utf-8") as file:
+    built = out_path(program, BUILT)
+    with open(built, "w", encoding="utf-8") as file:
         file.write("\n".join(lines) + "\n")
-    os.utime(BUILT, (begun, begun))
+    os.utime(built, (begun, begun))
     say(f"100 % built in {(time.time() - begun) / 60:.1f} minutes")
 
 
@@ -281,14 +322,14 @@ def size_of(path):
 
 
 def drop():
-    """Removes what is kept of the crates, but the program and what tells how it was built."""
-    stays = [PROGRAM, PROGRAM + ".stamp", os.path.basename(BUILT), os.path.basename(MEASURED), "launcher.lock"]
+    """Removes what is kept of the crates, but the programs and what tells how they were built."""
+    stays = [*PROGRAMS, *[program + ".stamp" for program in PROGRAMS], BUILT, MEASURED, "launcher.lock"]
     freed = 0
-    for name in read_crates()[1]:
+    for name in {name for program in PROGRAMS for name in read_crates(program)[1]}:
         out = os.path.join(CRATES, name, "out")
         for file in os.listdir(out) if os.path.isdir(out) else []:
             path = os.path.join(out, file)
-            if name == PROGRAM and file in stays:
+            if name in PROGRAMS and file in stays:
                 continue
             freed += size_of(path)
             if os.path.isdir(path):
@@ -310,10 +351,11 @@ def main():
         return drop()
     check_kit()
     held, was_held = lock()
+    name = program_for(sys.argv[1:])
     if not was_held:
-        build_all()
+        build_all(name)
     held.close()
-    program = os.path.join(TOP, "mlscheck") if was_held else os.path.join(OUT, PROGRAM)
+    program = os.path.join(TOP, "mlscheck") if was_held else out_path(name, PROGRAM)
     os.execv(program, [program, *sys.argv[1:]])
 
 

@@ -1,4 +1,4 @@
-"""The crates that the program mlscheck is built of, by crates.txt, and the machine that they are built on."""
+"""The crates that the programs are built of, by crates.txt, and the machine that they are built on."""
 import os
 import re
 
@@ -7,12 +7,17 @@ CRATES = os.path.join(TOP, "crates")
 PROGRAM = "mlscheck"
 OUT = os.path.join(CRATES, PROGRAM, "out")
 
-# What the last build took by crate, and in memory and disk.
-MEASURED = os.path.join(OUT, "measured")
+# The program that has the command `show` alone, and is built first for it.
+SHOW_PROGRAM = "mlscheck_show"
+
+# About how many minutes the build of a program takes from nothing on four cores, fast and slow ones, and what it keeps, in
+# bytes.
+MINUTES = {PROGRAM: "20 to 40", SHOW_PROGRAM: "9 to 18"}
+DISK = {PROGRAM: 3 * 10**9, SHOW_PROGRAM: 10**9}
 
 # About how long each crate takes to prove and build on four cores, in seconds, and what is taken for another one. Crates
 # beside the longest chain have a lower priority, and take longer than alone. A build from nothing writes what it
-# measured into MEASURED.
+# measured into the file `measured` beside the program.
 SECONDS = {
     "mls_wire": 77,
     "mls_nodes": 75,
@@ -31,8 +36,10 @@ SECONDS = {
     "mls_vectors": 246,
     "mls_gate": 84,
     "mls_commands": 258,
+    "mls_program": 29,
     "mls_cli": 66,
     "mlscheck": 115,
+    "mlscheck_show": 44,
 }
 OTHER_SECONDS = 120
 

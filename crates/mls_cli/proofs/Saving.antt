@@ -2,7 +2,7 @@
 use Rattle.std.proofs.Common.{◌≡◌, Bool, true, false, Ok, Err, Result, refl}
 use Rattle.std.specs.Prelude.{◌↔◌, ◌≢◌, IfErr}
 use Rattle.mls_cli.specs.Execution.{MeansWrite}
-use Rattle.mls_cli.specs.ReportResult.{ReportResult}
+use Rattle.mls_program.specs.ReportResult.{ReportResult}
 use Rattle.mls_show.specs.declared.verdict.RunFault.{RunFault}
 use Rattle.mls_show.specs.declared.verdict.RunFault.TheVariants.{Read, Write}
 

@@ -1,5 +1,5 @@
 -- Why there is no checker for a report. Internal: no public contract uses this.
-use Rattle.mls_cli.specs.Files.{Opener}
+use Rattle.mls_program.specs.Files.{Opener}
 use Rattle.mls_cli.specs.ProgramCheckers.{CannotReadReceipts, RefusesReceipts}
 use Rattle.mls_commands.specs.declared.order.CheckerChoice.{CheckerChoice}
 use Rattle.mls_cli.specs.declared.program_checker.CheckerFault.{CheckerFault}

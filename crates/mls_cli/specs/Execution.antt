@@ -4,9 +4,10 @@
 use Rattle.std.specs.Prelude.{ℕ, List, [], codes, Bool, true, false, Option, Some, None, is_some, option_map, Ok, Err, IfOk, IfErr, OnErr, ◌≡◌, ◌↔◌, ◌⊎◌}
 use Rattle.std.specs.Io.KnownBytes.{Appends}
 use Rattle.mls_check.specs.Signatures.{VerifyFn}
-use Rattle.mls_cli.specs.Files.{Opener, Opens, OpensNamed, IsOpened, CannotOpen, CannotOpenNamed}
+use Rattle.mls_program.specs.Files.{Opener, Opens, OpensNamed, IsOpened, CannotOpen, CannotOpenNamed}
 use Rattle.mls_cli.specs.ProgramCheckers.{RunsWithCheckerOrEnds}
-use Rattle.mls_cli.specs.ReportResult.{ReportResult}
+use Rattle.mls_program.specs.ReportResult.{ReportResult}
+use Rattle.mls_program.specs.ShowExecution.{ExecutesShow}
 use Rattle.mls_commands.specs.declared.order.GroupReport.{GroupReport}
 use Rattle.mls_commands.specs.declared.order.GroupReport.TheVariants.{ValidateTree, Validate, Replay, Signatures, Gate}
 use Rattle.mls_commands.specs.declared.order.GroupFiles.{GroupFiles}
@@ -19,7 +20,6 @@ use Rattle.mls_follow.specs.State as follower
 use Rattle.mls_follow.specs.StoredState.{EncodesState, HasNoFile}
 use Rattle.mls_msgs.specs.declared.profile.Profile.{Profile}
 use Rattle.mls_report.specs.Replay.{ReplaysGroupTo, ReplaysPart, ReplaysStateTo, ReplaysStatePart}
-use Rattle.mls_show.specs.Show.{Shows, ShowsPart}
 use Rattle.mls_report.specs.SignaturesReport.{SignaturesPart, SignaturesState, SignaturesStatePart}
 use Rattle.mls_report.specs.SignaturesReport as signatures
 use Rattle.mls_report.specs.StartInputs.{has_failed}
@@ -28,7 +28,6 @@ use Rattle.mls_report.specs.ValidateTree.{ValidatesTree, ValidatesTreePart}
 use Rattle.mls_show.specs.declared.verdict.RunFault.{RunFault}
 use Rattle.mls_show.specs.declared.verdict.RunFault.TheVariants.{Read, Write, Memory}
 use Rattle.mls_show.specs.declared.verdict.Verdict.{Verdict}
-use Rattle.mls_show.specs.declared.show.ShowKind.{ShowKind}
 use Rattle.mls_vectors.specs.CheckReport.{Checks, ChecksPart}
 use Rattle.mls_show.specs.declared.check_kind.CheckKind.{CheckKind}
 
@@ -37,22 +36,6 @@ abbrev pub stdin : List ℕ
 stdin = codes "-"
 
 module _ {File : Type 0} (F : Opener File) where
-  -- `RunsShow profile k name written0 written1 outcome`: the report `show` of a file of this name.
-  pub record RunsShow (profile : Profile) (k : ShowKind) (name : List ℕ) (written0 written1 : Option (List ℕ))
-      (outcome : ReportResult) : Type 0 where
-    pub opened : File
-    pub ended : File
-    pub given : F.gives name opened
-    pub shown : IfOk outcome (Shows profile k (F.left opened) (F.left ended) written0 written1)
-    pub part : OnErr outcome (ShowsPart profile k (F.left opened) (F.left ended) written0 written1)
-    pub memory : outcome ≡ Err Memory → Appends written0 written1 []
-    pub failed : (outcome ≡ Err Read) ↔ (F.is_failed ended ≡ true)
-
-  -- `ExecutesShow profile k name written0 written1 outcome`: the order `show`.
-  abbrev pub ExecutesShow : Profile → ShowKind → List ℕ → Option (List ℕ) → Option (List ℕ) → ReportResult → Type 0
-  ExecutesShow profile k name written0 written1 outcome =
-      CannotOpen F name written0 written1 outcome ⊎ RunsShow profile k name written0 written1 outcome
-
   -- `RunsValidateTree G context tree ..`: the report `validate-tree` of files with these names.
   pub record RunsValidateTree (G : VerifyFn) (context tree : List ℕ)
       (written0 written1 : Option (List ℕ)) (outcome : ReportResult) : Type 0 where
@@ -361,7 +344,7 @@ module _ {File : Type 0} (F : Opener File) where
   -- `ExecutesOrder order ..`: a command was executed.
   abbrev pub ExecutesOrder : Order → Option (List ℕ) → Option (List ℕ) → Bool → ReportResult → Type 0
   ExecutesOrder (Show profile k name) written0 written1 is_failed outcome =
-      ExecutesShow profile k name written0 written1 outcome
+      ExecutesShow F profile k name written0 written1 outcome
   ExecutesOrder (Group report c) written0 written1 is_failed outcome =
       RunsWithCheckerOrEnds F c (λ G. ExecutesReport G report written0 written1 is_failed outcome)
       written0 written1 is_failed outcome

@@ -5,8 +5,8 @@ use Rattle.mls_wire.specs.Devices.{AppendsPrefix}
 use Rattle.mls_check.specs.Receipts.{listed, IsReceipts, IsReceiptsFault}
 use Rattle.mls_check.specs.Signatures.{VerifyFn}
 use Rattle.mls_check.specs.declared.receipts.ReceiptsFault.{ReceiptsFault}
-use Rattle.mls_cli.specs.Files.{Opener, ReadsFile, CannotReadFile}
-use Rattle.mls_cli.specs.ReportResult.{ReportResult}
+use Rattle.mls_program.specs.Files.{Opener, ReadsFile, CannotReadFile}
+use Rattle.mls_program.specs.ReportResult.{ReportResult}
 use Rattle.mls_commands.specs.declared.order.CheckerChoice.{CheckerChoice}
 use Rattle.mls_commands.specs.declared.order.CheckerChoice.TheVariants as checker
 use Rattle.mls_audit.specs.UnreadableReceipts.{ReportsReceipts, receipts_line}

@@ -4,14 +4,13 @@ ghost use Rattle.std.specs.Prelude.{◌≡◌, ◌≢◌, ◌↔◌, ◌⊎◌, 
 ghost use Rattle.mls_follow.specs.FollowerModel.{state_of};
 ghost use Rattle.mls_follow.specs.State.{State};
 ghost use Rattle.mls_follow.specs.StoredState.{EncodesState};
-ghost use Rattle.mls_cli.specs.Execution.{ExecutesOrder, EndsStoring, EndsSaved, MeansWrite, report_stores, stores_state, ExecutesReport, ExecutesShow, ExecutesValidateTree, ExecutesValidate, ExecutesReplay, ExecutesSignatures, ExecutesGate, ExecutesCheck};
-ghost use Rattle.mls_cli.specs.Files.{opener, IsOpened, NamedFileIsMissing};
+ghost use Rattle.mls_cli.specs.Execution.{ExecutesOrder, EndsStoring, EndsSaved, MeansWrite, report_stores, stores_state, ExecutesReport, ExecutesValidateTree, ExecutesValidate, ExecutesReplay, ExecutesSignatures, ExecutesGate, ExecutesCheck};
+ghost use Rattle.mls_program.specs.Files.{opener, IsOpened, NamedFileIsMissing};
 ghost use Rattle.mls_cli.specs.ProgramCheckers.{RunsWithCheckerOrEnds, EndsUnread, EndsRefused};
 ghost use Rattle.mls_cli.specs.ProgramCheckersInternal.{checker_verify};
 ghost use Rattle.mls_report.specs.StartInputs.{has_failed};
 ghost use Rattle.mls_cli.specs.CheckerFaults.{IsCheckerFault};
 
-use crate::files::Files;
 use crate::load_checker::read_judge;
 use crate::program_checker::{CheckerFault, ProgramChecker};
 use mls_audit::{
@@ -22,32 +21,11 @@ use mls_commands::{CheckerChoice, FileName, GroupFiles, GroupReport, Order, Repl
 use mls_follow::Follower;
 use mls_gate::{run_gate_in, run_gate_state};
 use mls_msgs::Profile;
-use mls_report::{RunFault, ShowKind, Verdict, run_show_in};
+use mls_program::{Files, execute_show};
+use mls_report::{RunFault, Verdict};
 use mls_vectors::{CheckKind, run_check};
 use mls_wire::{CodecFault, Sink};
 use std::alloc::Global;
-
-/// Shows a file. A message is decoded in a profile.
-fn show<F: Files, K: Sink>(
-    alloc: Global,
-    profile: Profile,
-    kind: ShowKind,
-    file: &FileName,
-    files: &F,
-    out: &mut K,
-) -> Result<Verdict, RunFault>
-    requires { K.is_failed out.old ≡ false }
-    ensures executed { ExecutesShow
-        (opener (F.gives files.now) (F.lacks files.now) (F.stores files.now) (F.refuses files.now)
-        F.File.left F.File.is_failed)
-        profile kind file.now (K.written out.old) (K.written out.new) result }
-    ensures write { (result ≡ Err RunFault.Write) ↔ (K.is_failed out.new ≡ true) }
-{
-    let Some(mut input) = files.open(file.as_str()) else {
-        return Err(RunFault::Read);
-    };
-    run_show_in(alloc, profile, kind, &mut input, out)
-}
 
 /// Says which test vectors of a file agree with this library.
 fn check<F: Files, K: Sink>(
@@ -639,7 +617,7 @@ pub fn execute_order<F: Files, K: Sink>(
             profile,
             kind,
             file,
-        } => show(alloc, *profile, *kind, file, files, out),
+        } => execute_show(alloc, *profile, *kind, file, files, out),
         Order::Group { report, checker } => group_report(alloc, report, checker, files, out),
         Order::Check { kind, file } => check(alloc, *kind, file, files, out),
     }

@@ -1,16 +1,16 @@
 //! Reading a receipts file.
 
 ghost use Rattle.std.specs.Prelude.{IfOk, IfErr};
-ghost use Rattle.mls_cli.specs.Files.{opener, ReadsFile, CannotReadFile};
+ghost use Rattle.mls_program.specs.Files.{opener, ReadsFile, CannotReadFile};
 ghost use Rattle.mls_cli.specs.ProgramCheckers.{IsMeaning};
 ghost use Rattle.mls_cli.specs.ProgramCheckersInternal.{checker_verify};
 ghost use Rattle.mls_cli.specs.CheckerFaults.{IsCheckerFault};
 ghost use Rattle.mls_commands.specs.declared.order.CheckerChoice.TheVariants as choices;
 
-use crate::files::Files;
 use crate::program_checker::{CheckerFault, ProgramChecker};
 use mls_check::Receipts;
 use mls_commands::{CheckerChoice, FileName};
+use mls_program::Files;
 use mls_report::{RunFault, read_all};
 use std::alloc::Global;
 

@@ -7,6 +7,7 @@ use mls_cli::{
     CheckKind, Files, RunFault, ShowKind, Verdict, read_all, run_check, run_program, run_show,
     run_signatures, run_unreadable_receipts, run_validate_tree, status_of,
 };
+use mls_program::run_show_program;
 use mls_wire::{LogStep, MemorySink, MemorySource, Records};
 use std::alloc::Global;
 use std::process::Abort;
@@ -281,6 +282,42 @@ fn outputs_fail(rt: HostRuntime) {
     ];
     for (line, expected) in ROWS {
         expect_text(&rt, run_over_tree(&rt, alloc, line), expected);
+    }
+}
+
+/// Returns the exit status of a line over the file `tree`, of the program that has `show` alone; what is written to the
+/// output; and what is noted.
+fn run_show_over_tree(rt: &impl Abort, alloc: Global, line: &str) -> String {
+    let tree = bytes(rt, alloc, TREE);
+    let files = OneFile {
+        name: "tree",
+        bytes: tree.as_slice(),
+    };
+    let words = words(rt, alloc, line);
+    let mut out = sink(rt, alloc, 2000, 30, None);
+    let mut notes = sink(rt, alloc, 100, 30, None);
+    let status = run_show_program(alloc, words.as_slice(), &files, &mut out, &mut notes);
+    let out = held_text(rt, alloc, &out);
+    let notes = held_text(rt, alloc, &notes);
+    have(rt, format!(in alloc; "{status} {out}| {notes}"))
+}
+
+/// A tree is shown, and another command is refused.
+#[test]
+fn show_program_only_shows(rt: HostRuntime) {
+    let alloc = rt.alloc();
+    const ROWS: &[(&str, &str)] = &[
+        (
+            "show tree tree",
+            "0 0 leaf 0 a0 b0 key_package 0 18446744073709551615\nleaves 1 members 1\n| ",
+        ),
+        (
+            "check tree-math tree",
+            "2 | usage: this program has the command show alone\n",
+        ),
+    ];
+    for (line, expected) in ROWS {
+        expect_text(&rt, run_show_over_tree(&rt, alloc, line), expected);
     }
 }
 

@@ -1,7 +1,7 @@
 -- Files that are opened by name and read, or stored. Used by contracts.
 use Rattle.std.specs.Prelude.{ℕ, List, [], Bool, true, Option, Some, None, Err, ◌≡◌, ◌≢◌, ◌↔◌, ◌⊎◌}
 use Rattle.std.specs.Io.KnownBytes.{Appends}
-use Rattle.mls_cli.specs.ReportResult.{ReportResult}
+use Rattle.mls_program.specs.ReportResult.{ReportResult}
 use Rattle.mls_show.specs.ReadAll.{ReadsAll, ReadsSome}
 use Rattle.mls_show.specs.declared.verdict.RunFault.{RunFault}
 use Rattle.mls_show.specs.declared.verdict.RunFault.TheVariants.{Read, Write}

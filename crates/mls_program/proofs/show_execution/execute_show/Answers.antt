@@ -1,5 +1,5 @@
 use Rattle.std.proofs.Common.{inr, rules}
-use Rattle.mls_cli.proofs.execution.show.Goals as goal
+use Rattle.mls_program.proofs.show_execution.execute_show.Goals as goal
 
 pub returns-clause-executed : goal.returns-clause-executed
 returns-clause-executed g c =

@@ -1,0 +1,5 @@
+pub mod Endings
+pub mod Files
+pub mod ReportResult
+pub mod ShowExecution
+pub mod ShowProgram

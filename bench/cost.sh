@@ -21,7 +21,7 @@ folder=$(mktemp -d)
 trap 'rm -rf -- "$folder"' EXIT
 trap 'exit 130' INT TERM
 program=${PROGRAM:-$here/../mlscheck}
-[ -n "$PROGRAM" ] || "$program" --help >/dev/null || exit
+[ -n "$PROGRAM" ] || "$program" --build || exit
 
 # Prints the least seconds of the processor and the most kilobytes of the runs with these arguments, and whether one ended
 # with a fault.

@@ -31,7 +31,7 @@ compare() {
 }
 
 program=${PROGRAM:-$here/../mlscheck}
-[ -n "$PROGRAM" ] || "$program" --help >/dev/null
+[ -n "$PROGRAM" ] || "$program" --build
 for members in 1000 100000; do
     for kind in ${KINDS:-paths mixed adds joins}; do
         profile=

@@ -52,7 +52,7 @@ with open(sys.argv[1], "wb") as file:
     file.write(vector(b"".join(entries)))
 PYTHON
 
-"$here/../mlscheck" --help >/dev/null
+"$here/../mlscheck" --build
 ls -l "$folder/large.tree"
 time "$here/../mlscheck" show tree "$folder/large.tree" >"$folder/report"
 tail -n 1 "$folder/report"

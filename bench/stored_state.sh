@@ -9,7 +9,7 @@ here=$(dirname -- "$(readlink -f -- "$0")")
 folder=$(mktemp -d)
 trap 'rm -rf -- "$folder"' EXIT
 program=${PROGRAM:-$here/../mlscheck}
-[ -n "$PROGRAM" ] || "$program" --help >/dev/null
+[ -n "$PROGRAM" ] || "$program" --build
 
 # Prints the seconds of the processor that the program takes with these arguments, and stores its report and the most
 # memory that it held, in megabytes.

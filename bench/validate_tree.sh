@@ -10,7 +10,7 @@ folder=$(mktemp -d)
 trap 'rm -rf -- "$folder"' EXIT
 
 python3 "$here/group.py" "$folder" --members 100000 --commits "${1:-1000}" --unmerged "${2:-100}"
-"$here/../mlscheck" --help >/dev/null
+"$here/../mlscheck" --build
 ls -l "$folder/tree"
 python3 - "$here/../mlscheck" "$folder" <<'PYTHON'
 import os

@@ -1,10 +1,10 @@
 """Faults of a message's bytes, of its framed content and of its proposals, for faults.py."""
-import model_tree as trees
+import tree as trees
 from layouts import (ADD, BY_VALUE, BYTES, COMMIT, Extension, EXTENSIONS_CHANGE, EXTERNAL, EXTERNAL_INIT,
                      EXTERNAL_PSK, ExternalPsk, FramedContent, GroupContext, IS_APPLICATION, IS_COMMIT, IS_PROPOSAL,
                      KEY_PACKAGE, Lifetime, MEMBER, Message, NEW_COMMITTER, NEW_PROPOSER, NO_BODY, PACKAGE, PRIVATE,
                      PSK, PUBLIC, REINIT, ReInit, REMOVE, REPLACE, RESUMPTION_PSK, ResumptionPsk, U16, UPDATE, whole)
-from model_follower import framed_content
+from follower import framed_content
 from faults import fault, FAULTS, has_remove, inserted, with_entries
 
 

@@ -1,4 +1,4 @@
-"""Ratchet trees by the text of RFC 9420, for model_follower.py.
+"""Ratchet trees by the text of RFC 9420, for follower.py.
 
 A tree is a tuple of nodes by their node indices (Appendix C). A node is a LeafNode, a ParentNode, or None for a blank
 one. Each function answers a new tree, and makes every hash again: these trees are small.

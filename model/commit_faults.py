@@ -1,5 +1,5 @@
 """Faults of a commit's proposal list and of its path, for faults.py."""
-import model_tree as trees
+import tree as trees
 from layouts import (BY_REFERENCE, BY_VALUE, Ciphertext, COMMIT, Extension, EXTENSIONS_CHANGE, EXTERNAL_INIT,
                      IS_COMMIT, KEY_PACKAGE, Lifetime, MEMBER, NEW_COMMITTER, NO_BODY, PathNode, REINIT, REMOVE,
                      REPLACE, UPDATE)

@@ -97,5 +97,5 @@ got=0
 ./mlscheck replay --state "$made/group.state" --log "$made/back.log" --receipts "$receipts" \
     --save "$made/missing/group.state" >"$made/found" 2>"$made/notes" || got=$?
 cmp -s "$made/back" "$made/found" || fail "no folder: the report is not whole"
-[ "$got" -eq 3 ] && [ "$(cat "$made/notes")" = 'fault: write' ] || fail "no folder: status $got"
+[ "$got" -eq 3 ] && [ "$(head -1 "$made/notes")" = 'fault: write' ] || fail "no folder: status $got"
 echo "no folder: status 3, the report is whole"

@@ -1,7 +1,7 @@
 #!/usr/bin/env python3
-"""Compares model_follower.py with the stories in crates/mls_rows/data, whose results were worked out by hand.
+"""Compares follower.py with the stories in crates/mls_rows/data, whose results were worked out by hand.
 
-    model_rows.py [FILE ...]
+    rows.py [FILE ...]
 
 Without a FILE it reads all of them, by docs/TESTING.md. It prints each story that has another result, and how many have
 the one that is written there.
@@ -12,9 +12,9 @@ import os
 import re
 import sys
 
-import model_tree as trees
+import tree as trees
 from layouts import BYTES, GroupContext, Message, TREE, whole
-from model_follower import MEMBER_NAMES, NAMES, Follower, Refused, first_of
+from follower import MEMBER_NAMES, NAMES, Follower, Refused, first_of
 
 DATA = os.path.join(os.path.dirname(os.path.abspath(__file__)), "..", "crates", "mls_rows", "data")
 WORDS = re.compile(r'\s*("[^"]*"|\'[^\']*\'|\$[A-Z0-9_]+|H384\(|H512\(|H\(|hex\(|x[0-9]+\(|[<>()]|[0-9a-f]{2})')

@@ -6,14 +6,14 @@ can be computed, and receipts of all that are made are kept.
 import collections
 import hashlib
 
-import model_tree as trees
+import tree as trees
 from layouts import (ADD, APPLICATION_USE, BRANCH_USE, BY_REFERENCE, BY_VALUE, BYTES, Capabilities, Ciphertext,
                      COMMIT, Commit, Extension, EXTENSIONS_CHANGE, EXTERNAL, EXTERNAL_INIT, EXTERNAL_PSK,
                      EXTERNAL_SENDERS, ExternalPsk, ExternalSender, FramedContent, GROUP_INFO, GroupInfo, IS_COMMIT,
                      IS_PROPOSAL, KEY_PACKAGE, KeyPackage, LeafNode, Lifetime, MEMBER, Message, NEW_COMMITTER,
                      NEW_PROPOSER, NO_BODY, PathNode, PSK, PUBLIC, PublicMessage, REINIT, ReInit, REINIT_USE, REMOVE,
                      REPLACE, Requirements, RESUMPTION_PSK, ResumptionPsk, U16, UPDATE, UpdatePath)
-from model_follower import Item, applied, external_senders, framed_content, info_content, leaf_content, package_content
+from follower import Item, applied, external_senders, framed_content, info_content, leaf_content, package_content
 
 # A message that is not signed: who sends it, what, and the key that signs. Of a commit also the tree after its list, the
 # leaf of its path, and the leaves that it adds.

@@ -6,7 +6,7 @@ again.
 """
 import collections
 
-import model_tree as trees
+import tree as trees
 from layouts import (ADD, APPLICATION_USE, BY_REFERENCE, BYTES, COMMIT, CREDENTIAL, EXTENSIONS_CHANGE, EXTERNAL,
                      EXTERNAL_INIT, EXTERNAL_SENDERS, FramedContent, GroupContext, GroupInfo, IS_APPLICATION,
                      IS_COMMIT, IS_PROPOSAL, KEY_PACKAGE, KeyPackage, LeafNode, MEMBER, Message, NEW_COMMITTER,

@@ -3,9 +3,9 @@ random_groups.py.
 
 A signature is its key, its SignContent and itself. None depends on whether others are good.
 """
-import model_tree as trees
+import tree as trees
 from layouts import ADD, BY_REFERENCE, IS_PROPOSAL, MEMBER, REPLACE
-from model_follower import Follower, Item, Refused, applied, info_content, is_join_list, leaf_content, package_content
+from follower import Follower, Item, Refused, applied, info_content, is_join_list, leaf_content, package_content
 
 
 def without_repeats(signatures):

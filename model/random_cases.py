@@ -5,12 +5,12 @@ import random
 # These two put their faults into FAULTS.
 import commit_faults
 import message_faults
-import model_tree as trees
+import tree as trees
 from faults import FAULTS
 from layouts import (ADD, BY_VALUE, EXTENSIONS_CHANGE, EXTERNAL, EXTERNAL_INIT, GroupContext, IS_COMMIT, IS_PROPOSAL,
                      MEMBER, Message, NEW_COMMITTER, NEW_PROPOSER, PSK, PUBLIC, REINIT, REMOVE, REPLACE, Unreadable,
                      whole)
-from model_follower import Follower, Item, Refused, line_of, reference_of, refusal_line
+from follower import Follower, Item, Refused, line_of, reference_of, refusal_line
 from random_messages import Maker
 
 SENDERS = {MEMBER: "member", EXTERNAL: "external sender", NEW_PROPOSER: "new member", NEW_COMMITTER: "joining client"}

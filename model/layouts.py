@@ -1,4 +1,4 @@
-"""The layouts of RFC 9420 that a follower reads, for model_follower.py: each reads and writes its values.
+"""The layouts of RFC 9420 that a follower reads, for follower.py: each reads and writes its values.
 
 A structure is a named tuple. A choice is a pair of its tag and the value after the tag. A vector `<V>` is bytes, a
 list in a vector a tuple. What cannot be read raises Unreadable.

@@ -13,7 +13,7 @@ signature, the others have receipts of the good ones. A log has messages of memb
 propose to join, and clients that join, or come back, with a commit. Many of the messages are made wrong in one
 way or in two (faults.py), or in one bit.
 
-For each group the program must print what model_follower.py and model_signatures.py give:
+For each group the program must print what follower.py and signatures.py give:
 
 - `replay`, also of the log in two parts, the second from the state that the first stores
 - `gate`, which is sent the receipts of the good signatures that it lists, message by message
@@ -32,10 +32,10 @@ import subprocess
 import sys
 import tempfile
 
-import model_signatures
-import model_tree as trees
+import signatures
+import tree as trees
 from layouts import BYTES, Message, U16, whole
-from model_follower import Follower, Refused, short
+from follower import Follower, Refused, short
 from random_cases import Mismatch, answer, kind_of, make_case
 
 
@@ -106,7 +106,7 @@ class Runs:
             known.update(learnt)
             sent.append(b"r" + bytes.fromhex("".join(learnt)))
 
-        queried(model_signatures.of_start(whole(Message, case.info).body[1], case.state.tree))
+        queried(signatures.of_start(whole(Message, case.info).body[1], case.state.tree))
         context, members = case.state.context, len(trees.members(case.state.tree))
         sent.append(b"b")
         lines.append(f"ready epoch {context.epoch} members {members} tree {context.tree_hash.hex()}")
@@ -121,7 +121,7 @@ class Runs:
     def signatures(self):
         """Those of the start and of the log, in the states to which the messages lead if each signature is good."""
         case, suite = self.case, self.case.maker.suite
-        start = model_signatures.of_start(whole(Message, case.info).body[1], case.state.tree)
+        start = signatures.of_start(whole(Message, case.info).body[1], case.state.tree)
         lines = [signature_line(suite, each) for each in start]
         follower, state = Follower(lambda *_: True, case.follower.full), case.state
         for number, step in enumerate(case.steps, 1):
@@ -155,7 +155,7 @@ def replay_lines(steps):
 def signatures_of(state, full, message):
     """Those of a message; None if it cannot be read."""
     try:
-        return model_signatures.of_message(state, full, message)
+        return signatures.of_message(state, full, message)
     except Refused as refused:
         return None if refused.rule == 1 else []
 

@@ -160,7 +160,7 @@ enum mls_refusal {
     MLS_REFUSED_MEMBER = 25,                /* inner is an mls_member_fault, leaf the leaf index */
     MLS_REFUSED_TWO_CONTEXT_EXTENSIONS = 26,
     MLS_REFUSED_CONTEXT_EXTENSIONS_INVALID = 27,
-    MLS_REFUSED_GROUP_OVER = 28,            /* from 28 on: in the full profile alone */
+    MLS_REFUSED_GROUP_OVER = 28,            /* 28 to 37: in the full profile alone */
     MLS_REFUSED_UNKNOWN_EXTERNAL = 29,
     MLS_REFUSED_SENDER_CONTENT = 30,
     MLS_REFUSED_PSK_INVALID = 31,
@@ -225,10 +225,12 @@ mls_verdict mls_validate_tree(const uint8_t *context, size_t context_len, const 
 
 /*
  * Lists the signatures of a start (RFC 9420, 12.4.3.1) that have no receipt: that of the GroupInfo and of each leaf node.
- * They are listed if a follower starts once each of them is good. Otherwise the verdict is that of such a start.
+ * They are listed if a follower starts once each of them is good. Otherwise the verdict is that of such a start in the
+ * members' profile: an MLSMessage without a GroupInfo that the full profile alone can read is MLS_INFO_UNREADABLE here and
+ * MLS_NOT_GROUP_INFO for a start in the full profile. All else of a start is the same in each profile.
  *
  * `tree` of length 0 is none: the tree is then the one in the GroupInfo. Before the first query there are no receipts:
- * MLS_EMPTY. The signatures of a start are the same in each profile.
+ * MLS_EMPTY.
  *
  * The buffer `records` takes a record for each signature, a variable-size vector (2.1.2): the receipt (32 bytes), the cipher
  * suite (uint16), and as vectors the public key, the SignContent (5.1.2) and the signature. The caller verifies the

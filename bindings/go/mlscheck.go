@@ -162,7 +162,7 @@ type Profile uint32
 const (
 	// Members: Add, Update, Remove, GroupContextExtensions and Commit of members.
 	Members Profile = C.MLS_PROFILE_MEMBERS
-	// Full: also PreSharedKey and ReInit, and proposals from outside (12.1.8).
+	// Full: also PreSharedKey and ReInit, proposals from outside and external commits (12.1.8, 12.4.3.2).
 	Full Profile = C.MLS_PROFILE_FULL
 )
 

@@ -67,6 +67,22 @@ pub struct Fault {
     pub number: u32,
 }
 
+impl std::fmt::Display for Refused {
+    fn fmt(&self, f: &mut std::fmt::Formatter<'_>) -> std::fmt::Result {
+        write!(f, "refused {} {} {}", self.number, self.inner, self.place)
+    }
+}
+
+impl std::fmt::Display for Fault {
+    fn fmt(&self, f: &mut std::fmt::Formatter<'_>) -> std::fmt::Result {
+        write!(f, "fault {}", self.number)
+    }
+}
+
+impl std::error::Error for Refused {}
+
+impl std::error::Error for Fault {}
+
 mod sys {
     #[repr(C)]
     pub struct Handle {

@@ -1,5 +1,5 @@
 -- To any arguments there is an answer that is no want of memory.
-use Rattle.std.proofs.Common.{◌≡◌, ℕ, List, [], ◌∷◌, length, Bool, true, false, Option, Some, None, IsSome, refl, ap, ◌∙◌, inl, inr, arith}
+use Rattle.std.proofs.Common.{◌≡◌, ◌⊎◌, ℕ, List, [], ◌∷◌, length, Bool, true, false, Option, Some, None, IsSome, refl, ap, ◌∙◌, inl, inr, arith}
 use Rattle.std.specs.Prelude.{◌==◌, nat_lt, All, reverse}
 use Rattle.std.proofs.lemmas.Bool.Decides.{nat_tests}
 use Rattle.std.proofs.lemmas.List.{length-reverse}
@@ -9,8 +9,10 @@ use Rattle.mls_msgs.specs.declared.commit.UpdatePath.{UpdatePath}
 use Rattle.mls_tree.specs.Tree.{Tree, leaf_count}
 use Rattle.mls_tree.specs.TreeHash.{tree_hash}
 use Rattle.mls_apply.specs.declared.fault.ApplyFault.{ApplyFault}
-use Rattle.mls_apply.specs.declared.fault.ApplyFault.TheVariants.{UnknownReference, TooManyLeaves, NoSuchLeaf, PathLength, OutOfMemory}
+use Rattle.mls_apply.specs.declared.fault.ApplyFault.TheVariants.{TooManyLeaves, NoSuchLeaf}
 use Rattle.mls_apply.specs.declared.list_item.ListItem.{ListItem}
+use Rattle.mls_apply.specs.declared.refusal.Refusal.{Refusal}
+use Rattle.mls_apply.specs.declared.refusal.Refusal.TheVariants.{UnknownReference, SenderNotMember, PathLength, OutOfMemory}
 use Rattle.mls_apply.specs.ResultsExist.{HasResult, ItemsExists, ListAnswerExists, ProposalAnswerExists, FailsList, OutcomeExists, HashesExists, MergeExists}
 use Rattle.mls_apply.specs.ResolvedList.{resolved}
 use Rattle.mls_apply.specs.ListRules.{list_rules, list_refusal}
@@ -26,13 +28,13 @@ use Rattle.mls_apply.proofs.RuleLists.{AreKept, passed, AreOthers, no_rules, one
 use Rattle.mls_apply.proofs.Encodings.{taken_out, put_back}
 
 -- an answer by rules of which none is named want of memory
-checked : {A : Type 0} (Right : A → Type 0) (rs : List (Rule ApplyFault)) → AreOthers OutOfMemory rs → (first_failing rs ≡ None → (x : A) × Right x)
+checked : {A : Type 0} (Right : A → Type 0) (rs : List (Rule Refusal)) → AreOthers OutOfMemory rs → (first_failing rs ≡ None → (x : A) × Right x)
     → HasResult Right (λ e. first_failing rs ≡ Some e)
 checked {A} Right rs others right = go (first_failing rs) refl
   where
-    go : (o : Option ApplyFault) → first_failing rs ≡ o → HasResult Right (λ e. first_failing rs ≡ Some e)
+    go : (o : Option Refusal) → first_failing rs ≡ o → HasResult Right (λ e. first_failing rs ≡ Some e)
     go None e = inl (right e)
-    go (Some fault) e = inr (fault, λ memory. others.never (e ∙ ap Some memory), e)
+    go (Some refusal) e = inr (refusal, λ memory. others.never (e ∙ ap Some memory), e)
 
 pub some_items : ItemsExists
 some_items committer known entries = go (resolved committer known entries) refl
@@ -59,10 +61,11 @@ some_proposal_answer G context t sender p =
 pub some_outcome : OutcomeExists
 some_outcome items t = go (without_adds items t) refl (outcome items t) refl
   where
-    go : (o : Option Tree) → without_adds items t ≡ o → (p : Option AppliedTree) → outcome items t ≡ p → HasResult (λ g. outcome items t ≡ Some g) (FailsList items t)
+    go : (o : Option Tree) → without_adds items t ≡ o → (p : Option AppliedTree) → outcome items t ≡ p
+        → ((g : AppliedTree) × (outcome items t ≡ Some g)) ⊎ ((e : ApplyFault) × FailsList items t e)
     go o e (Some g) f = inl (g, f)
-    go None e None f = inr (NoSuchLeaf, λ h. absurd cc, inl (refl, e))
-    go (Some u) e None f = inr (TooManyLeaves, λ h. absurd cc, inr (refl, put_back (without_adds items t) u e, f))
+    go None e None f = inr (NoSuchLeaf, inl (refl, e))
+    go (Some u) e None f = inr (TooManyLeaves, inr (refl, put_back (without_adds items t) u e, f))
 
 -- ---- paths
 
@@ -74,7 +77,7 @@ module _ (H : List ℕ → List ℕ) (t : Tree) (committer : ℕ) (keys : List (
 
   hashes : (b : Bool) → nat_lt committer (leaf_count t) ≡ b → (c : Bool) → (length keys == path_length t committer) ≡ c
       → HasResult (λ hashes. (keys_refusal t committer keys ≡ None) × (expected_hashes H t committer keys ≡ Some hashes)) (λ e. keys_refusal t committer keys ≡ Some e)
-  hashes false e c f = inr (NoSuchLeaf, λ h. absurd cc, keys-no_leaf t committer keys (outside committer (leaf_count t) e))
+  hashes false e c f = inr (SenderNotMember, λ h. absurd cc, keys-no_leaf t committer keys (outside committer (leaf_count t) e))
   hashes true e false f =
       inr (PathLength, λ h. absurd cc, keys-other_length t committer keys e (λ (same : length keys ≡ path_length t committer). absurd (grind (arith, nat_tests))))
   hashes true e true f =
@@ -90,7 +93,7 @@ path_merge : (H : List ℕ → List ℕ) (g : AppliedTree) (committer : ℕ) (pa
     → IsSome (merged H g.tree committer path.leaf_node (node_keys path))
 unfolding path_refusal
 path_merge H g committer path kept =
-    let a : AreKept (rule NoSuchLeaf (nat_lt committer (leaf_count g.tree)) ∷ path_rules H g committer path) = record { none = kept } in
+    let a : AreKept (rule SenderNotMember (nat_lt committer (leaf_count g.tree)) ∷ path_rules H g committer path) = record { none = kept } in
     let b = passed a in
     let c = passed b.1 in
     let d = passed c.1 in
@@ -103,6 +106,6 @@ pub some_merge : MergeExists
 unfolding path_refusal
 some_merge H g committer path =
     checked (λ new. (path_refusal H g committer path ≡ None) × (merged H g.tree committer path.leaf_node (node_keys path) ≡ Some new))
-    (rule NoSuchLeaf (nat_lt committer (leaf_count g.tree)) ∷ path_rules H g committer path)
+    (rule SenderNotMember (nat_lt committer (leaf_count g.tree)) ∷ path_rules H g committer path)
     (one_more (λ e. cc) (one_more (λ e. cc) (one_more (λ e. cc) (one_more (λ e. cc) (one_more (λ e. cc) (one_more (λ e. cc) no_rules))))))
     (λ kept. let new = taken_out (merged H g.tree committer path.leaf_node (node_keys path)) (path_merge H g committer path kept) in (new.0, (kept, new.1)))

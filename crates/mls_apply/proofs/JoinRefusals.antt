@@ -8,7 +8,7 @@ use Rattle.mls_tree.specs.Tree.{Tree}
 use Rattle.mls_msgs.specs.declared.commit.Commit.{Commit}
 use Rattle.mls_msgs.specs.declared.commit.UpdatePath.{UpdatePath}
 use Rattle.mls_msgs.specs.declared.proposal.ProposalOrRef.{ProposalOrRef}
-use Rattle.mls_apply.specs.declared.fault.ApplyFault.TheVariants.{PathMissing, JoinList}
+use Rattle.mls_apply.specs.declared.refusal.Refusal.TheVariants.{PathMissing, JoinList}
 use Rattle.mls_apply.specs.declared.list_item.ListItem.{ListItem}
 use Rattle.mls_apply.specs.JoinRules.{is_join_list, join_items, join_item_rules, join_list_rules, path_of_join, join_refusal}
 use Rattle.mls_apply.specs.RuleLists.{rule, first_failing}

@@ -9,8 +9,8 @@ use Rattle.mls_msgs.specs.declared.commit.UpdatePath.{UpdatePath}
 use Rattle.mls_tree.specs.Tree.{Tree, leaf_count}
 use Rattle.mls_tree.specs.Paths.{filtered_direct_path}
 use Rattle.mls_tree.proofs.Choices.{not_less}
-use Rattle.mls_apply.specs.declared.fault.ApplyFault.{ApplyFault}
-use Rattle.mls_apply.specs.declared.fault.ApplyFault.TheVariants.{NoSuchLeaf, PathLength, PathSource, PathKeyUsed, CiphertextCount, PathParentHash}
+use Rattle.mls_apply.specs.declared.refusal.Refusal.{Refusal}
+use Rattle.mls_apply.specs.declared.refusal.Refusal.TheVariants.{SenderNotMember, PathLength, PathSource, PathKeyUsed, CiphertextCount, PathParentHash}
 use Rattle.mls_apply.specs.AppliedList.{AppliedTree}
 use Rattle.mls_apply.specs.RuleLists.{rule}
 use Rattle.mls_apply.specs.PathRules.{keys_refusal, path_refusal, path_rules, path_length, has_path_length, has_new_keys, has_ciphertexts, has_expected_hash, has_first_parent_hash, node_keys}
@@ -35,18 +35,18 @@ pub outside : (i n : ℕ) → nat_lt i n ≡ false → n ≤ i
 outside i n e = grind (arith, nat_tests)
 
 -- an error of one call is that of another
-same_error : {A B : Type 0} (e f g : ApplyFault) → e ≡ f → ◌≡◌ {A = Result A ApplyFault} (Err e) (Err g) → ◌≡◌ {A = Result B ApplyFault} (Err f) (Err g)
+same_error : {A B : Type 0} (e f g : Refusal) → e ≡ f → ◌≡◌ {A = Result A Refusal} (Err e) (Err g) → ◌≡◌ {A = Result B Refusal} (Err f) (Err g)
 same_error e f g same h = let h' : e ≡ g = cc in ap Err (sym same ∙ h')
 
 module _ (t : Tree) (i : ℕ) (keys : List (List ℕ)) where
   -- of these refusals only the first rule's is named so
-  pub keys-mapped : keys_refusal t i keys ≡ Some NoSuchLeaf → leaf_count t ≤ i
+  pub keys-mapped : keys_refusal t i keys ≡ Some SenderNotMember → leaf_count t ≤ i
   unfolding keys_refusal
   keys-mapped h =
       outside i (leaf_count t)
-      (it_fails NoSuchLeaf (nat_lt i (leaf_count t)) (rule PathLength (length keys == path_length t i) ∷ []) (one_more (λ e. cc) no_rules) h)
+      (it_fails SenderNotMember (nat_lt i (leaf_count t)) (rule PathLength (length keys == path_length t i) ∷ []) (one_more (λ e. cc) no_rules) h)
 
-  pub keys-no_leaf : leaf_count t ≤ i → keys_refusal t i keys ≡ Some NoSuchLeaf
+  pub keys-no_leaf : leaf_count t ≤ i → keys_refusal t i keys ≡ Some SenderNotMember
   unfolding keys_refusal
   keys-no_leaf e = rw (not_less i (leaf_count t) e) refl
 
@@ -59,58 +59,58 @@ module _ (t : Tree) (i : ℕ) (keys : List (List ℕ)) where
   keys-kept set same = let e = same_number (length keys) (path_length t i) same in rw (set, e) refl
 
   -- a leaf of the tree isn't refused so
-  pub keys-set : {A : Type 0} (r : Result A ApplyFault) → (r ≡ Err NoSuchLeaf → ⊥) → nat_lt i (leaf_count t) ≡ true
-      → (r ≡ Err NoSuchLeaf) ↔ (keys_refusal t i keys ≡ Some NoSuchLeaf)
+  pub keys-set : {A : Type 0} (r : Result A Refusal) → (r ≡ Err SenderNotMember → ⊥) → nat_lt i (leaf_count t) ≡ true
+      → (r ≡ Err SenderNotMember) ↔ (keys_refusal t i keys ≡ Some SenderNotMember)
   keys-set r other set =
       (λ h. absurd (other h), λ h. absurd (false≢true (sym (not_less i (leaf_count t) (keys-mapped h)) ∙ set)))
 
   -- what a call said of the leaf is said of the keys
-  pub keys-by_leaf : {A B : Type 0} (e f : ApplyFault) → f ≡ e → ◌≡◌ {A = Result A ApplyFault} (Err e) (Err NoSuchLeaf) ↔ (leaf_count t ≤ i)
-      → ◌≡◌ {A = Result B ApplyFault} (Err f) (Err NoSuchLeaf) ↔ (keys_refusal t i keys ≡ Some NoSuchLeaf)
+  pub keys-by_leaf : {A B : Type 0} (e f : Refusal) → f ≡ e → ◌≡◌ {A = Result A Refusal} (Err e) (Err SenderNotMember) ↔ (leaf_count t ≤ i)
+      → ◌≡◌ {A = Result B Refusal} (Err f) (Err SenderNotMember) ↔ (keys_refusal t i keys ≡ Some SenderNotMember)
   keys-by_leaf {A} {B} e f same of_leaf =
-      (λ h. keys-no_leaf (of_leaf.0 (same_error {A = B} {B = A} f e NoSuchLeaf same h)), λ h. same_error {A = A} {B = B} e f NoSuchLeaf (sym same) (of_leaf.1 (keys-mapped h)))
+      (λ h. keys-no_leaf (of_leaf.0 (same_error {A = B} {B = A} f e SenderNotMember same h)), λ h. same_error {A = A} {B = B} e f SenderNotMember (sym same) (of_leaf.1 (keys-mapped h)))
 
 -- of two faults with what they hand back
-pub same_fault : {A C : Type 0} (e f : ApplyFault) (b c : C) → ◌≡◌ {A = Result A (ApplyFault × C)} (Err (e, b)) (Err (f, c)) → e ≡ f
-same_fault {C = C} e f b c h = let both : ◌≡◌ {A = ApplyFault × C} (e, b) (f, c) = cc in ap (λ (x : ApplyFault × C). x.0) both
+pub same_fault : {A C : Type 0} (e f : Refusal) (b c : C) → ◌≡◌ {A = Result A (Refusal × C)} (Err (e, b)) (Err (f, c)) → e ≡ f
+same_fault {C = C} e f b c h = let both : ◌≡◌ {A = Refusal × C} (e, b) (f, c) = cc in ap (λ (x : Refusal × C). x.0) both
 
 module _ (g : AppliedTree) (i : ℕ) (path : UpdatePath) (H : List ℕ → List ℕ) where
   -- of these refusals only the first rule's is named so
-  pub path-mapped : path_refusal H g i path ≡ Some NoSuchLeaf → leaf_count g.tree ≤ i
+  pub path-mapped : path_refusal H g i path ≡ Some SenderNotMember → leaf_count g.tree ≤ i
   unfolding path_refusal
   path-mapped h =
       outside i (leaf_count g.tree)
-      (it_fails NoSuchLeaf (nat_lt i (leaf_count g.tree)) (path_rules H g i path)
+      (it_fails SenderNotMember (nat_lt i (leaf_count g.tree)) (path_rules H g i path)
       (one_more (λ e. cc) (one_more (λ e. cc) (one_more (λ e. cc) (one_more (λ e. cc) (one_more (λ e. cc) no_rules))))) h)
 
-  pub path-no_leaf : leaf_count g.tree ≤ i → path_refusal H g i path ≡ Some NoSuchLeaf
+  pub path-no_leaf : leaf_count g.tree ≤ i → path_refusal H g i path ≡ Some SenderNotMember
   unfolding path_refusal
   path-no_leaf e = rw (not_less i (leaf_count g.tree) e) refl
 
   -- what a call said of the leaf is said of the path, with what it hands back
-  pub path-by_leaf : {A B C : Type 0} (e : ApplyFault) (back : C) → ◌≡◌ {A = Result A ApplyFault} (Err e) (Err NoSuchLeaf) ↔ (leaf_count g.tree ≤ i)
-      → ◌≡◌ {A = Result B (ApplyFault × C)} (Err (e, back)) (Err (NoSuchLeaf, back)) ↔ (path_refusal H g i path ≡ Some NoSuchLeaf)
+  pub path-by_leaf : {A B C : Type 0} (e : Refusal) (back : C) → ◌≡◌ {A = Result A Refusal} (Err e) (Err SenderNotMember) ↔ (leaf_count g.tree ≤ i)
+      → ◌≡◌ {A = Result B (Refusal × C)} (Err (e, back)) (Err (SenderNotMember, back)) ↔ (path_refusal H g i path ≡ Some SenderNotMember)
   path-by_leaf {C = C} e back of_leaf =
-      (λ h. let both : ◌≡◌ {A = ApplyFault × C} (e, back) (NoSuchLeaf, back) = cc in path-no_leaf (of_leaf.0 (λ i. Err (both i).0)), λ h. let mapped = of_leaf.1 (path-mapped h) in let same : e ≡ NoSuchLeaf = cc in ap (λ f. Err (f, back)) same)
+      (λ h. let both : ◌≡◌ {A = Refusal × C} (e, back) (SenderNotMember, back) = cc in path-no_leaf (of_leaf.0 (λ i. Err (both i).0)), λ h. let mapped = of_leaf.1 (path-mapped h) in let same : e ≡ SenderNotMember = cc in ap (λ f. Err (f, back)) same)
 
   -- the same, where nothing is handed back
-  pub path-by_fault : {A B : Type 0} (e f : ApplyFault) → f ≡ e → ◌≡◌ {A = Result A ApplyFault} (Err e) (Err NoSuchLeaf) ↔ (leaf_count g.tree ≤ i)
-      → ◌≡◌ {A = Result B ApplyFault} (Err f) (Err NoSuchLeaf) ↔ (path_refusal H g i path ≡ Some NoSuchLeaf)
+  pub path-by_fault : {A B : Type 0} (e f : Refusal) → f ≡ e → ◌≡◌ {A = Result A Refusal} (Err e) (Err SenderNotMember) ↔ (leaf_count g.tree ≤ i)
+      → ◌≡◌ {A = Result B Refusal} (Err f) (Err SenderNotMember) ↔ (path_refusal H g i path ≡ Some SenderNotMember)
   path-by_fault {A} {B} e f same of_leaf =
-      (λ h. path-no_leaf (of_leaf.0 (same_error {A = B} {B = A} f e NoSuchLeaf same h)), λ h. same_error {A = A} {B = B} e f NoSuchLeaf (sym same) (of_leaf.1 (path-mapped h)))
+      (λ h. path-no_leaf (of_leaf.0 (same_error {A = B} {B = A} f e SenderNotMember same h)), λ h. same_error {A = A} {B = B} e f SenderNotMember (sym same) (of_leaf.1 (path-mapped h)))
 
   -- where the tree has the leaf neither is said
-  pub path-set : {P : Type 0} → (P → leaf_count g.tree ≤ i) → nat_lt i (leaf_count g.tree) ≡ true → P ↔ (path_refusal H g i path ≡ Some NoSuchLeaf)
+  pub path-set : {P : Type 0} → (P → leaf_count g.tree ≤ i) → nat_lt i (leaf_count g.tree) ≡ true → P ↔ (path_refusal H g i path ≡ Some SenderNotMember)
   path-set none set =
       let there : leaf_count g.tree ≤ i → ⊥ = λ e. false≢true (sym (not_less i (leaf_count g.tree) e) ∙ set) in
       (λ h. absurd (there (none h)), λ h. absurd (there (path-mapped h)))
 
   -- a path that keeps the rules isn't refused so
-  pub path-kept : {A : Type 0} (r : Result A ApplyFault) → (r ≡ Err NoSuchLeaf → ⊥) → path_refusal H g i path ≡ None
-      → (r ≡ Err NoSuchLeaf) ↔ (path_refusal H g i path ≡ Some NoSuchLeaf)
-  path-kept r other kept = (λ h. absurd (other h), λ h. absurd (none-some NoSuchLeaf (sym kept ∙ h)))
+  pub path-kept : {A : Type 0} (r : Result A Refusal) → (r ≡ Err SenderNotMember → ⊥) → path_refusal H g i path ≡ None
+      → (r ≡ Err SenderNotMember) ↔ (path_refusal H g i path ≡ Some SenderNotMember)
+  path-kept r other kept = (λ h. absurd (other h), λ h. absurd (none-some SenderNotMember (sym kept ∙ h)))
 
-  pub path-done : {A : Type 0} (x : A) → path_refusal H g i path ≡ None → ◌≡◌ {A = Result A ApplyFault} (Ok x) (Err NoSuchLeaf) ↔ (path_refusal H g i path ≡ Some NoSuchLeaf)
+  pub path-done : {A : Type 0} (x : A) → path_refusal H g i path ≡ None → ◌≡◌ {A = Result A Refusal} (Ok x) (Err SenderNotMember) ↔ (path_refusal H g i path ≡ Some SenderNotMember)
   path-done {A} x kept = path-kept {A = A} (Ok x) (λ e. cc) kept
 
   module _ (set : nat_lt i (leaf_count g.tree) ≡ true) where

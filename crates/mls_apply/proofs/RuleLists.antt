@@ -1,8 +1,8 @@
--- Rules of two lists, one after the other, and under other names; and what the names of rules tell.
+-- Rules of two lists, one after the other, and what the names of rules tell.
 use Rattle.std.proofs.Common.{◌≡◌, ◌⊎◌, List, [], ◌∷◌, ◌++◌, Bool, Some, None, true, false, refl, sym, inl, inr}
-use Rattle.std.specs.Prelude.{if◌then◌else◌, option_map}
+use Rattle.std.specs.Prelude.{if◌then◌else◌}
 use Rattle.std.proofs.lemmas.Option.{none-some, same_Some}
-use Rattle.mls_apply.specs.RuleLists.{Rule, rule, first_failing, map_refusals}
+use Rattle.mls_apply.specs.RuleLists.{Rule, rule, first_failing}
 
 -- a rule that fails in the first list is the first one of both
 pub first_failing-left : {E : Type 0} (rs qs : List (Rule E)) (e : E) → first_failing rs ≡ Some e → first_failing (rs ++ qs) ≡ Some e
@@ -21,15 +21,6 @@ first_failing-right (r ∷ rs) qs h =
       | true ↦ λ h. first_failing-right rs qs h
       | false ↦ λ h. absurd (none-some r.refusal (sym h))
     ] h
-
--- the same rules under other names
-pub first_failing-map_refusals : {E F : Type 0} (f : E → F) (rs : List (Rule E)) → first_failing (map_refusals f rs) ≡ option_map f (first_failing rs)
-first_failing-map_refusals f [] = refl
-first_failing-map_refusals f (r ∷ rs) =
-    elim r.holds as (λ b. (if b then first_failing (map_refusals f rs) else Some (f r.refusal)) ≡ option_map f (if b then first_failing rs else Some r.refusal)) [
-      | true ↦ first_failing-map_refusals f rs
-      | false ↦ refl
-    ]
 
 -- ---- rules that hold
 

@@ -6,10 +6,10 @@ use Rattle.mls_apply.specs.AppliedList.{applied_tree}
 use Rattle.mls_apply.specs.MergePath.{merged}
 use Rattle.mls_apply.specs.PathRules.{node_keys, path_refusal}
 use Rattle.mls_apply.specs.declared.committer_path.CommitterPath.{CommitterPath}
-use Rattle.mls_apply.specs.declared.fault.ApplyFault.{ApplyFault}
+use Rattle.mls_apply.specs.declared.refusal.Refusal.{Refusal}
 
 -- `committer_path_refusal H t p` is the refusal of the path p, if there is one
-abbrev pub committer_path_refusal : (List ℕ → List ℕ) → Tree → CommitterPath → Option ApplyFault
+abbrev pub committer_path_refusal : (List ℕ → List ℕ) → Tree → CommitterPath → Option Refusal
 committer_path_refusal H t p = path_refusal H (applied_tree t p.added.now) p.leaf p.path.now
 
 -- `merged_by H t p` is the tree with the path p merged into it, if the path has a key for each of its nodes

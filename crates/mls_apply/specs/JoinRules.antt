@@ -15,8 +15,8 @@ use Rattle.mls_msgs.specs.declared.proposal.Proposal.{Proposal}
 use Rattle.mls_msgs.specs.declared.proposal.Proposal.TheVariants.{Add, Update, Remove, ContextExtensions, PreSharedKey, ReInit, ExternalInit}
 use Rattle.mls_msgs.specs.declared.proposal.ProposalOrRef.{ProposalOrRef}
 use Rattle.mls_msgs.specs.declared.proposal.ProposalOrRef.TheVariants as entries
-use Rattle.mls_apply.specs.declared.fault.ApplyFault.{ApplyFault}
-use Rattle.mls_apply.specs.declared.fault.ApplyFault.TheVariants.{PathMissing, JoinList, RemoveInvalid, PskInvalid, PskTwice, ResyncInvalid}
+use Rattle.mls_apply.specs.declared.refusal.Refusal.{Refusal}
+use Rattle.mls_apply.specs.declared.refusal.Refusal.TheVariants.{PathMissing, JoinList, RemoveInvalid, PskInvalid, PskTwice, ResyncInvalid}
 use Rattle.mls_apply.specs.declared.list_item.ListItem.{ListItem}
 use Rattle.mls_apply.specs.ProposalRules.{valid_if_remove, valid_if_psk}
 use Rattle.mls_apply.specs.PskProposals.{have_distinct_psks}
@@ -129,7 +129,7 @@ abbrev pub all_items : (Proposal → Bool) → List ListItem → Bool
 all_items f items = list_all (λ x. f x.proposal) items
 
 -- `join_item_rules context t x items` is the rules for the proposals by value, in their order.
-abbrev pub join_item_rules : GroupContext → Tree → LeafNode → List ListItem → List (Rule ApplyFault)
+abbrev pub join_item_rules : GroupContext → Tree → LeafNode → List ListItem → List (Rule Refusal)
 join_item_rules context t x items =
     rule RemoveInvalid (all_items (valid_if_remove t) items) ∷
     rule PskInvalid (all_items (valid_if_psk context NewMemberCommit) items) ∷
@@ -137,20 +137,20 @@ join_item_rules context t x items =
     rule ResyncInvalid (all_items (valid_if_resync t x) items) ∷ []
 
 -- `join_list_rules context t x es` is the rules for the list, in their order.
-abbrev pub join_list_rules : GroupContext → Tree → LeafNode → List ProposalOrRef → List (Rule ApplyFault)
+abbrev pub join_list_rules : GroupContext → Tree → LeafNode → List ProposalOrRef → List (Rule Refusal)
 join_list_rules context t x es = rule JoinList (is_join_list es) ∷ join_item_rules context t x (join_items es)
 
 -- `path_of_join context t es path` is the rules for the list if there is a path.
-abbrev pub path_of_join : GroupContext → Tree → List ProposalOrRef → Option UpdatePath → List (Rule ApplyFault)
+abbrev pub path_of_join : GroupContext → Tree → List ProposalOrRef → Option UpdatePath → List (Rule Refusal)
 path_of_join context t es None = []
 path_of_join context t es (Some path) = join_list_rules context t path.leaf_node es
 
 -- `join_rules context t c` is the rules for an external commit before its list is applied: there is a path, and the list
 -- satisfies its rules.
-abbrev pub join_rules : GroupContext → Tree → Commit → List (Rule ApplyFault)
+abbrev pub join_rules : GroupContext → Tree → Commit → List (Rule Refusal)
 join_rules context t c =
     rule PathMissing (is_some c.path) ∷ path_of_join context t c.proposals c.path
 
 -- `join_refusal context t c` is the refusal of the first of them that fails.
-unfoldable pub join_refusal : GroupContext → Tree → Commit → Option ApplyFault
+unfoldable pub join_refusal : GroupContext → Tree → Commit → Option Refusal
 join_refusal context t c = first_failing (join_rules context t c)

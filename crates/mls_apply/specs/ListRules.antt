@@ -7,8 +7,8 @@ use Rattle.mls_msgs.specs.declared.framed_content.Sender.TheVariants.{Member, Ex
 use Rattle.mls_msgs.specs.declared.proposal.Proposal.{Proposal}
 use Rattle.mls_msgs.specs.declared.proposal.Proposal.TheVariants.{Add, Update, Remove, ContextExtensions, PreSharedKey, ReInit, ExternalInit}
 use Rattle.mls_apply.specs.RuleLists.{Rule, rule, first_failing}
-use Rattle.mls_apply.specs.declared.fault.ApplyFault.{ApplyFault}
-use Rattle.mls_apply.specs.declared.fault.ApplyFault.TheVariants.{UpdateByCommitter, RemovesCommitter, SameLeafTwice, TwoContextExtensions, PskTwice, ReInitNotAlone, PathMissing}
+use Rattle.mls_apply.specs.declared.refusal.Refusal.{Refusal}
+use Rattle.mls_apply.specs.declared.refusal.Refusal.TheVariants.{UpdateByCommitter, RemovesCommitter, SameLeafTwice, TwoContextExtensions, PskTwice, ReInitNotAlone, PathMissing}
 use Rattle.mls_apply.specs.declared.list_item.ListItem.{ListItem}
 use Rattle.mls_apply.specs.ContextExtensions.{has_one_context_extensions}
 use Rattle.mls_apply.specs.PskProposals.{have_distinct_psks}
@@ -127,7 +127,7 @@ unfoldable pub is_reinit_alone : List ListItem → Bool
 is_reinit_alone items = not (has_reinit items) || length items == 1
 
 -- `list_rules committer items has_path` is the rules for the list, in their order (RFC 9420, 12.2 and 12.4).
-abbrev pub list_rules : Sender → List ListItem → Bool → List (Rule ApplyFault)
+abbrev pub list_rules : Sender → List ListItem → Bool → List (Rule Refusal)
 list_rules committer items has_path =
     rule UpdateByCommitter (has_no_update_by committer items) ∷
     rule RemovesCommitter (has_no_remove_of committer items) ∷
@@ -138,5 +138,5 @@ list_rules committer items has_path =
     rule PathMissing (has_path || not (needs_path items)) ∷ []
 
 -- `list_refusal committer items has_path` is the refusal of the first of them that fails.
-unfoldable pub list_refusal : Sender → List ListItem → Bool → Option ApplyFault
+unfoldable pub list_refusal : Sender → List ListItem → Bool → Option Refusal
 list_refusal committer items has_path = first_failing (list_rules committer items has_path)

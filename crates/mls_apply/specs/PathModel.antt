@@ -5,8 +5,8 @@ use Rattle.mls_msgs.specs.declared.commit.UpdatePath.{UpdatePath}
 use Rattle.mls_apply.specs.RuleLists.{rule, first_failing}
 use Rattle.mls_apply.specs.PathRules.{has_expected_hash}
 use Rattle.mls_apply.specs.PathParents.{Change, PathParents}
-use Rattle.mls_apply.specs.declared.fault.ApplyFault.{ApplyFault}
-use Rattle.mls_apply.specs.declared.fault.ApplyFault.TheVariants.{PathParentHash}
+use Rattle.mls_apply.specs.declared.refusal.Refusal.{Refusal}
+use Rattle.mls_apply.specs.declared.refusal.Refusal.TheVariants.{PathParentHash}
 use Rattle.mls_apply.specs.declared.new_parents.NewParent.{NewParent}
 use Rattle.mls_apply.specs.declared.new_parents.NewParents.{NewParents}
 
@@ -19,5 +19,5 @@ abbrev pub path_parents_model : NewParents → PathParents
 path_parents_model p = record { changes = map change_of p.parents.items; hash = p.hash }
 
 -- `hash_refusal H path t i` is the refusal by the last rule for paths.
-abbrev pub hash_refusal : (List ℕ → List ℕ) → UpdatePath → Tree → ℕ → Option ApplyFault
+abbrev pub hash_refusal : (List ℕ → List ℕ) → UpdatePath → Tree → ℕ → Option Refusal
 hash_refusal H path t i = first_failing (rule PathParentHash (has_expected_hash H path t i) ∷ [])

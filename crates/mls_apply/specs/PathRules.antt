@@ -15,8 +15,8 @@ use Rattle.mls_apply.specs.RuleLists.{Rule, rule, first_failing}
 use Rattle.mls_apply.specs.ProposalRules.{is_from_commit}
 use Rattle.mls_apply.specs.AppliedList.{AppliedTree}
 use Rattle.mls_apply.specs.MergePath.{expected_hashes}
-use Rattle.mls_apply.specs.declared.fault.ApplyFault.{ApplyFault}
-use Rattle.mls_apply.specs.declared.fault.ApplyFault.TheVariants.{NoSuchLeaf, PathLength, PathSource, PathKeyUsed, CiphertextCount, PathParentHash}
+use Rattle.mls_apply.specs.declared.refusal.Refusal.{Refusal}
+use Rattle.mls_apply.specs.declared.refusal.Refusal.TheVariants.{SenderNotMember, PathLength, PathSource, PathKeyUsed, CiphertextCount, PathParentHash}
 
 -- `node_keys path` is the keys of a path's nodes, the lowest first.
 abbrev pub node_keys : UpdatePath → List (List ℕ)
@@ -82,7 +82,7 @@ unfoldable pub has_path_length : UpdatePath → Tree → ℕ → Bool
 has_path_length path t i = length path.nodes == path_length t i
 
 -- `path_rules H g i path` is the rules for a path, in their order.
-abbrev pub path_rules : (List ℕ → List ℕ) → AppliedTree → ℕ → UpdatePath → List (Rule ApplyFault)
+abbrev pub path_rules : (List ℕ → List ℕ) → AppliedTree → ℕ → UpdatePath → List (Rule Refusal)
 path_rules H g i path =
     rule PathLength (has_path_length path g.tree i) ∷
     rule PathSource (is_from_commit path.leaf_node.source) ∷
@@ -90,13 +90,13 @@ path_rules H g i path =
     rule CiphertextCount (has_ciphertexts path g i) ∷
     rule PathParentHash (has_expected_hash H path g.tree i) ∷ []
 
--- `path_refusal H g i path` is the refusal of the first of them that fails, or NoSuchLeaf if the tree has no leaf i. The leaf
+-- `path_refusal H g i path` is the refusal of the first of them that fails, or SenderNotMember if the tree has no leaf i. The leaf
 -- of a client that joins with a path is blank (12.4.3.2).
-unfoldable pub path_refusal : (List ℕ → List ℕ) → AppliedTree → ℕ → UpdatePath → Option ApplyFault
-path_refusal H g i path = first_failing (rule NoSuchLeaf (nat_lt i (leaf_count g.tree)) ∷ path_rules H g i path)
+unfoldable pub path_refusal : (List ℕ → List ℕ) → AppliedTree → ℕ → UpdatePath → Option Refusal
+path_refusal H g i path = first_failing (rule SenderNotMember (nat_lt i (leaf_count g.tree)) ∷ path_rules H g i path)
 
--- `keys_refusal t i keys` is the refusal of keys for a path of leaf i: NoSuchLeaf if the tree has no leaf i, PathLength if
+-- `keys_refusal t i keys` is the refusal of keys for a path of leaf i: SenderNotMember if the tree has no leaf i, PathLength if
 -- their number is wrong.
-unfoldable pub keys_refusal : Tree → ℕ → List (List ℕ) → Option ApplyFault
+unfoldable pub keys_refusal : Tree → ℕ → List (List ℕ) → Option Refusal
 keys_refusal t i keys =
-    first_failing (rule NoSuchLeaf (nat_lt i (leaf_count t)) ∷ rule PathLength (length keys == path_length t i) ∷ [])
+    first_failing (rule SenderNotMember (nat_lt i (leaf_count t)) ∷ rule PathLength (length keys == path_length t i) ∷ [])

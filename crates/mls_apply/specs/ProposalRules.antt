@@ -24,8 +24,8 @@ use Rattle.mls_check.specs.LeafValidation.{is_leaf_signed}
 use Rattle.mls_apply.specs.PskProposals.{is_valid_psk}
 use Rattle.mls_apply.specs.RuleLists.{Rule, rule, first_failing}
 use Rattle.mls_apply.specs.Senders.{is_present}
-use Rattle.mls_apply.specs.declared.fault.ApplyFault.{ApplyFault}
-use Rattle.mls_apply.specs.declared.fault.ApplyFault.TheVariants.{NoSuchLeaf, AddInvalid, UpdateInvalid, RemoveInvalid, ContextExtensionsInvalid, PskInvalid, ReInitInvalid, ExternalInitMisplaced}
+use Rattle.mls_apply.specs.declared.refusal.Refusal.{Refusal}
+use Rattle.mls_apply.specs.declared.refusal.Refusal.TheVariants.{SenderNotMember, AddInvalid, UpdateInvalid, RemoveInvalid, ContextExtensionsInvalid, PskInvalid, ReInitInvalid, ExternalInitMisplaced}
 
 -- `is_from_key_package s`: the source of a leaf node is key_package (RFC 9420, 7.2).
 abbrev pub is_from_key_package : LeafSource → Bool
@@ -181,7 +181,7 @@ is_no_external_init (ReInit r) = true
 is_no_external_init (ExternalInit output) = false
 
 -- `proposal_rules G context t sender p` is the rules for a proposal of any sender, in their order (RFC 9420, 12.1).
-abbrev pub proposal_rules : VerifyFn → GroupContext → Tree → Sender → Proposal → List (Rule ApplyFault)
+abbrev pub proposal_rules : VerifyFn → GroupContext → Tree → Sender → Proposal → List (Rule Refusal)
 proposal_rules G context t sender p =
     rule AddInvalid (valid_if_add G context p) ∷
     rule UpdateInvalid (valid_if_update G context t sender p) ∷
@@ -193,12 +193,12 @@ proposal_rules G context t sender p =
 
 -- `checked_rules G context t sender p` is `proposal_rules`, after the rule that the sender's leaf is non-blank, if the sender
 -- is a member.
-abbrev pub checked_rules : VerifyFn → GroupContext → Tree → Sender → Proposal → List (Rule ApplyFault)
+abbrev pub checked_rules : VerifyFn → GroupContext → Tree → Sender → Proposal → List (Rule Refusal)
 checked_rules G context t sender p =
-    rule NoSuchLeaf (is_present t sender) ∷ proposal_rules G context t sender p
+    rule SenderNotMember (is_present t sender) ∷ proposal_rules G context t sender p
 
 -- `checked_refusal G context t sender p` is the refusal of the first of `checked_rules` that fails.
-unfoldable pub checked_refusal : VerifyFn → GroupContext → Tree → Sender → Proposal → Option ApplyFault
+unfoldable pub checked_refusal : VerifyFn → GroupContext → Tree → Sender → Proposal → Option Refusal
 checked_refusal G context t sender p = first_failing (checked_rules G context t sender p)
 
 -- `holds_if_by_value test e`: if a commit includes the proposal by value, `test` holds of it (RFC 9420, 12.4).

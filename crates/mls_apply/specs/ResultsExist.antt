@@ -11,9 +11,11 @@ use Rattle.mls_msgs.specs.declared.framed_content.Sender.{Sender}
 use Rattle.mls_msgs.specs.declared.proposal.Proposal.{Proposal}
 use Rattle.mls_msgs.specs.declared.proposal.ProposalOrRef.{ProposalOrRef}
 use Rattle.mls_apply.specs.declared.fault.ApplyFault.{ApplyFault}
-use Rattle.mls_apply.specs.declared.fault.ApplyFault.TheVariants.{UnknownReference, TooManyLeaves, NoSuchLeaf, OutOfMemory}
+use Rattle.mls_apply.specs.declared.fault.ApplyFault.TheVariants.{TooManyLeaves, NoSuchLeaf}
 use Rattle.mls_apply.specs.declared.list_item.ListItem.{ListItem}
 use Rattle.mls_apply.specs.declared.list_item.KnownProposal.{KnownProposal}
+use Rattle.mls_apply.specs.declared.refusal.Refusal.{Refusal}
+use Rattle.mls_apply.specs.declared.refusal.Refusal.TheVariants.{UnknownReference, OutOfMemory}
 use Rattle.mls_apply.specs.ResolvedList.{resolved}
 use Rattle.mls_apply.specs.ListRules.{list_refusal}
 use Rattle.mls_apply.specs.ProposalRules.{checked_refusal}
@@ -21,9 +23,9 @@ use Rattle.mls_apply.specs.AppliedList.{AppliedTree, without_adds, outcome}
 use Rattle.mls_apply.specs.PathRules.{keys_refusal, path_refusal, node_keys}
 use Rattle.mls_apply.specs.MergePath.{expected_hashes, merged}
 
--- `HasResult Right Wrong`: there is a right value, or a right fault that is not OutOfMemory.
-abbrev pub HasResult : {A : Type 0} → (A → Type 0) → (ApplyFault → Type 0) → Type 0
-HasResult {A} Right Wrong = ((x : A) × Right x) ⊎ ((e : ApplyFault) × (e ≢ OutOfMemory) × Wrong e)
+-- `HasResult Right Wrong`: there is a right value, or a right refusal that is not OutOfMemory.
+abbrev pub HasResult : {A : Type 0} → (A → Type 0) → (Refusal → Type 0) → Type 0
+HasResult {A} Right Wrong = ((x : A) × Right x) ⊎ ((e : Refusal) × (e ≢ OutOfMemory) × Wrong e)
 
 -- The entries of a commit are resolved, or a reference is unknown (RFC 9420, 12.4).
 abbrev pub ItemsExists : Type 0
@@ -57,7 +59,7 @@ FailsList items t e =
 abbrev pub OutcomeExists : Type 0
 OutcomeExists =
     (items : List ListItem) (t : Tree)
-    → HasResult (λ g. outcome items t ≡ Some g) (FailsList items t)
+    → ((g : AppliedTree) × (outcome items t ≡ Some g)) ⊎ ((e : ApplyFault) × FailsList items t e)
 
 -- If the hashes of H have encodings and the tree has a tree hash, then keys that have encodings and the right number
 -- have expected parent hashes (RFC 9420, 7.9).

@@ -14,8 +14,3 @@ rule e b = record { refusal = e; holds = b }
 abbrev pub first_failing : {E : Type 0} → List (Rule E) → Option E
 first_failing [] = None
 first_failing (r ∷ rs) = if r.holds then first_failing rs else Some r.refusal
-
--- `map_refusals f rules` is the same rules with other refusals.
-abbrev pub map_refusals : {E F : Type 0} → (E → F) → List (Rule E) → List (Rule F)
-map_refusals f [] = []
-map_refusals f (r ∷ rs) = rule (f r.refusal) r.holds ∷ map_refusals f rs

@@ -19,7 +19,7 @@ use mls_msgs::Proposal;
 use mls_nodes::EncodedLeaf;
 use mls_tree::{Journal, PublicTree, TreeError, split_leaves};
 use mls_wire::Shared;
-use std::alloc::Global;
+use std::alloc::{AllocError, Global};
 
 /// Returns the leaf of a new member: the leftmost blank one, otherwise the first one by which the tree is extended. The
 /// leaves before `start` must be non-blank.
@@ -27,14 +27,13 @@ pub(crate) fn leaf_for_member(
     tree: &mut PublicTree,
     journal: &mut Journal,
     start: u32,
-) -> Result<u32, ApplyFault>
+) -> Result<u32, AllocError>
     requires set { AreNonBlankBelow tree.old.tree start }
     requires capacity { member_count tree.old.tree < leaf_limit }
     ensures index { IfOk result (λ j. j ≡ added_leaf tree.old.tree) }
     ensures inside { IfOk result (λ j. j < leaf_count tree.new.tree) }
     ensures tree { OnOk result
         (tree.new.tree ≡ extended_if_full (first_blank_leaf 0 tree.old.tree) tree.old.tree) }
-    ensures memory { IfErr result (λ e. e ≡ ApplyFault.OutOfMemory) }
     ensures before { before journal.new tree.new.tree ≡ before journal.old tree.old.tree }
 {
     if let Some(index) = tree.next_blank_leaf(start) {
@@ -43,7 +42,7 @@ pub(crate) fn leaf_for_member(
     let index = tree.leaf_count();
     match journal.extend(tree) {
         Ok(()) => Ok(index),
-        Err(TreeError::OutOfMemory) => Err(ApplyFault::OutOfMemory),
+        Err(TreeError::OutOfMemory) => Err(AllocError),
         Err(_) => unreachable!(),
     }
 }
@@ -56,11 +55,10 @@ fn put_member(
     journal: &mut Journal,
     start: u32,
     leaf: &Shared<EncodedLeaf>,
-) -> Result<u32, ApplyFault>
+) -> Result<u32, AllocError>
     requires set { AreNonBlankBelow tree.old.tree start }
     requires capacity { member_count tree.old.tree < leaf_limit }
     ensures put { IfOk result (λ j. PutsMember tree.old.tree leaf.now j tree.new.tree) }
-    ensures memory { IfErr result (λ e. e ≡ ApplyFault.OutOfMemory) }
     ensures before { before journal.new tree.new.tree ≡ before journal.old tree.old.tree }
 {
     let index = leaf_for_member(tree, journal, start)?;

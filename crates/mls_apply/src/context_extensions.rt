@@ -1,14 +1,13 @@
 //! GroupContextExtensions proposals in a proposal list (RFC 9420, 12.1.7).
 
-ghost use Rattle.std.specs.Prelude.{◌≡◌, IfOk, IfErr, option_map};
+ghost use Rattle.std.specs.Prelude.{◌≡◌, IfOk, option_map};
 ghost use Rattle.mls_apply.specs.ContextExtensions.{has_one_context_extensions, proposed_extensions, new_extensions};
 
-use crate::fault::ApplyFault;
 use crate::list_item::ListItem;
 use mls_msgs::Proposal;
 use mls_nodes::{Extensions, GroupContext};
 use mls_wire::{CodecFault, TryClone};
-use std::alloc::Global;
+use std::alloc::{AllocError, Global};
 
 /// Returns whether at most one item is a GroupContextExtensions proposal (RFC 9420, 12.2).
 pub(crate) fn has_one_context_extensions(items: &[ListItem<'_>]) -> bool
@@ -39,15 +38,14 @@ fn proposed_extensions<'a>(items: &[ListItem<'a>]) -> Option<&'a Extensions>
 }
 
 /// Returns the extensions of the GroupContext after a proposal list (RFC 9420, 12.1.7): those of its first
-/// GroupContextExtensions proposal, else the current ones. The only error is `OutOfMemory`.
+/// GroupContextExtensions proposal, else the current ones.
 pub fn new_extensions(
     alloc: Global,
     context: &GroupContext,
     items: &[ListItem<'_>],
-) -> Result<Extensions, ApplyFault>
-    ensures extensions { IfOk result (λ extensions.
+) -> Result<Extensions, AllocError>
+    ensures { IfOk result (λ extensions.
         extensions ≡ new_extensions context.now.extensions items.now) }
-    ensures memory { IfErr result (λ e. e ≡ ApplyFault.OutOfMemory) }
 {
     let extensions = match proposed_extensions(items) {
         Some(extensions) => extensions,
@@ -55,7 +53,7 @@ pub fn new_extensions(
     };
     match extensions.try_clone(alloc) {
         Ok(copy) => Ok(copy),
-        Err(CodecFault::OutOfMemory) => Err(ApplyFault::OutOfMemory),
+        Err(CodecFault::OutOfMemory) => Err(AllocError),
         Err(CodecFault::Wire(_)) => unreachable!(),
     }
 }

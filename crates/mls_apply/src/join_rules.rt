@@ -6,10 +6,10 @@ ghost use Rattle.mls_msgs.specs.declared.framed_content.Sender.TheVariants.{NewM
 ghost use Rattle.mls_apply.specs.JoinRules.{all_items, are_same_certificates, is_external_init, is_join_list, is_join_proposal, is_remove, is_same_credential, is_successor, is_successor_if_non_blank, is_value, join_items, join_refusal, valid_if_resync, value_count};
 ghost use Rattle.mls_apply.specs.ProposalRules.{valid_if_psk, valid_if_remove};
 
-use crate::fault::ApplyFault;
 use crate::list_item::ListItem;
 use crate::proposal_rules::EpochState;
 use crate::psk_list::{have_distinct_psks, is_valid_psk};
+use crate::refusal::Refusal;
 use mls_msgs::{Commit, Proposal, ProposalOrRef, Sender};
 use mls_nodes::{CredentialBody, CredentialRef, EncodedLeaf, GroupContext};
 use mls_tree::PublicTree;
@@ -32,35 +32,35 @@ use std::alloc::{AllocError, Global};
 /// 6. `ResyncInvalid`: the leaf of the Remove has another encryption key than the path's leaf, and its credential or its
 ///    signature key.
 #[tactic(auto, unfolding(crate::specs::JoinRules::join_refusal), using(crate::proofs::JoinRefusals::not_path_missing, crate::proofs::JoinRefusals::not_join_list))]
-pub fn check_join(alloc: Global, epoch: &EpochState<'_>, commit: &Commit) -> Result<(), ApplyFault>
+pub fn check_join(alloc: Global, epoch: &EpochState<'_>, commit: &Commit) -> Result<(), Refusal>
     ensures rules_hold { OnOk result
         (join_refusal epoch.now.context.now epoch.now.tree.now.tree commit.now ≡ None) }
-    ensures refused { IfErr result (λ e. e ≢ ApplyFault.OutOfMemory
+    ensures refused { IfErr result (λ e. e ≢ Refusal.OutOfMemory
         → join_refusal epoch.now.context.now epoch.now.tree.now.tree commit.now ≡ Some e) }
-    ensures path_missing { (result ≡ Err ApplyFault.PathMissing)
-        ↔ (join_refusal epoch.now.context.now epoch.now.tree.now.tree commit.now ≡ Some ApplyFault.PathMissing) }
-    ensures join_list { (result ≡ Err ApplyFault.JoinList)
-        ↔ (join_refusal epoch.now.context.now epoch.now.tree.now.tree commit.now ≡ Some ApplyFault.JoinList) }
+    ensures path_missing { (result ≡ Err Refusal.PathMissing)
+        ↔ (join_refusal epoch.now.context.now epoch.now.tree.now.tree commit.now ≡ Some Refusal.PathMissing) }
+    ensures join_list { (result ≡ Err Refusal.JoinList)
+        ↔ (join_refusal epoch.now.context.now epoch.now.tree.now.tree commit.now ≡ Some Refusal.JoinList) }
 {
     let Some(path) = &commit.path else {
-        return Err(ApplyFault::PathMissing);
+        return Err(Refusal::PathMissing);
     };
     let entries = commit.proposals.as_slice();
     if !is_join_list(entries) {
-        return Err(ApplyFault::JoinList);
+        return Err(Refusal::JoinList);
     }
     let items = join_items(alloc, entries)?;
     if !are_valid_removes(epoch.tree, items.as_slice()) {
-        return Err(ApplyFault::RemoveInvalid);
+        return Err(Refusal::RemoveInvalid);
     }
     if !are_valid_psks(epoch.context, items.as_slice()) {
-        return Err(ApplyFault::PskInvalid);
+        return Err(Refusal::PskInvalid);
     }
     if !have_distinct_psks(alloc, items.as_slice())? {
-        return Err(ApplyFault::PskTwice);
+        return Err(Refusal::PskTwice);
     }
     if !are_valid_resyncs(epoch.tree, &path.leaf_node, items.as_slice()) {
-        return Err(ApplyFault::ResyncInvalid);
+        return Err(Refusal::ResyncInvalid);
     }
     Ok(())
 }

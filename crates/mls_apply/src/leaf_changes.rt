@@ -1,11 +1,10 @@
 //! Changes of single leaves, for the three kinds of proposals.
 
-ghost use Rattle.std.specs.Prelude.{◌≡◌, ◌<◌, Some, None, IfOk, IfErr, OnOk};
+ghost use Rattle.std.specs.Prelude.{◌≡◌, ◌<◌, Some, None, IfOk, OnOk};
 ghost use Rattle.mls_tree.specs.Tree.{leaf_count};
 ghost use Rattle.mls_tree.specs.TreeOperations.{put_leaf, blank_path};
 ghost use Rattle.mls_tree.specs.Journals.{before};
 
-use crate::fault::ApplyFault;
 use mls_nodes::EncodedLeaf;
 use mls_tree::{Journal, PublicTree};
 use mls_wire::{Shared, copy_of};
@@ -28,10 +27,9 @@ pub(crate) fn put_shared(
     journal: &mut Journal,
     index: u32,
     leaf: &Shared<EncodedLeaf>,
-) -> Result<(), ApplyFault>
+) -> Result<(), AllocError>
     requires { index < leaf_count tree.old.tree }
     ensures put { OnOk result (tree.new.tree ≡ put_leaf 0 tree.old.tree index (Some leaf.now)) }
-    ensures memory { IfErr result (λ e. e ≡ ApplyFault.OutOfMemory) }
     ensures before { before journal.new tree.new.tree ≡ before journal.old tree.old.tree }
 {
     let leaf = leaf_of(alloc, leaf)?;

@@ -1,6 +1,6 @@
 //! The tree after the proposals of a commit (RFC 9420, 12.3).
 
-ghost use Rattle.std.specs.Prelude.{◌≡◌, ◌⊎◌, Err, Some, None, IfOk, IfErr, IsSome};
+ghost use Rattle.std.specs.Prelude.{◌≡◌, Err, Some, None, IfOk, IsSome};
 ghost use Rattle.mls_tree.specs.Journals.{before};
 ghost use Rattle.mls_apply.specs.AppliedList.{outcome, without_adds, applied_tree, ExceedsCapacity};
 
@@ -40,9 +40,6 @@ fn apply_items(
         → without_adds items.now tree.old.tree ≡ None }
     ensures too_many_leaves { result ≡ Err ApplyFault.TooManyLeaves
         → IsSome (without_adds items.now tree.old.tree) × (outcome items.now tree.old.tree ≡ None) }
-    ensures possible_errors { IfErr result (λ e.
-        (e ≡ ApplyFault.NoSuchLeaf) ⊎ (e ≡ ApplyFault.TooManyLeaves)
-        ⊎ (e ≡ ApplyFault.OutOfMemory)) }
     ensures before { before journal.new tree.new.tree ≡ before journal.old tree.old.tree }
 {
     apply_updates(alloc, tree, journal, items)?;
@@ -65,9 +62,6 @@ pub fn apply_list_in_place(
     ensures too_many_leaves { result ≡ Err ApplyFault.TooManyLeaves
         → IsSome (without_adds items.now tree.old.tree) × (outcome items.now tree.old.tree ≡ None) }
     ensures no_room { ExceedsCapacity items.now tree.old.tree → result ≡ Err ApplyFault.TooManyLeaves }
-    ensures possible_errors { IfErr result (λ e.
-        (e ≡ ApplyFault.NoSuchLeaf) ⊎ (e ≡ ApplyFault.TooManyLeaves)
-        ⊎ (e ≡ ApplyFault.OutOfMemory)) }
     ensures before { before journal.new tree.new.tree ≡ before journal.old tree.old.tree }
 {
     if exceeds_capacity(tree, items) {
@@ -96,9 +90,6 @@ pub fn apply_list(
     ensures too_many_leaves { result ≡ Err ApplyFault.TooManyLeaves
         → IsSome (without_adds items.now tree.now.tree) × (outcome items.now tree.now.tree ≡ None) }
     ensures no_room { ExceedsCapacity items.now tree.now.tree → result ≡ Err ApplyFault.TooManyLeaves }
-    ensures possible_errors { IfErr result (λ e.
-        (e ≡ ApplyFault.NoSuchLeaf) ⊎ (e ≡ ApplyFault.TooManyLeaves)
-        ⊎ (e ≡ ApplyFault.OutOfMemory)) }
 {
     if exceeds_capacity(tree, items) {
         return Err(ApplyFault::TooManyLeaves);

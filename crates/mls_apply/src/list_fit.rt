@@ -1,6 +1,6 @@
 //! Whether and where a proposal list can be applied to a tree (RFC 9420, 12.3).
 
-ghost use Rattle.std.specs.Prelude.{◌≡◌, ◌⊎◌, Err, None, IfErr, IfOk, IsSome, OnOk};
+ghost use Rattle.std.specs.Prelude.{◌≡◌, Err, None, IfOk, IsSome, OnOk};
 ghost use Rattle.mls_tree.specs.Journals.{before};
 ghost use Rattle.mls_apply.specs.AppliedList.{outcome, without_adds, ExceedsCapacity};
 ghost use Rattle.mls_apply.specs.Outline.{IsOutline};
@@ -30,9 +30,6 @@ fn fit_items(
         → without_adds items.now tree.old.tree ≡ None }
     ensures too_many_leaves { result ≡ Err ApplyFault.TooManyLeaves
         → IsSome (without_adds items.now tree.old.tree) × (outcome items.now tree.old.tree ≡ None) }
-    ensures possible_errors { IfErr result (λ e.
-        (e ≡ ApplyFault.NoSuchLeaf) ⊎ (e ≡ ApplyFault.TooManyLeaves)
-        ⊎ (e ≡ ApplyFault.OutOfMemory)) }
     ensures before { before journal.new tree.new.tree ≡ before journal.old tree.old.tree }
 {
     apply_updates(alloc, tree, journal, items)?;
@@ -56,9 +53,6 @@ pub(crate) fn check_list_fits(
         → without_adds items.now tree.old.tree ≡ None }
     ensures too_many_leaves { result ≡ Err ApplyFault.TooManyLeaves
         → IsSome (without_adds items.now tree.old.tree) × (outcome items.now tree.old.tree ≡ None) }
-    ensures possible_errors { IfErr result (λ e.
-        (e ≡ ApplyFault.NoSuchLeaf) ⊎ (e ≡ ApplyFault.TooManyLeaves)
-        ⊎ (e ≡ ApplyFault.OutOfMemory)) }
     ensures before { before journal.new tree.new.tree ≡ before journal.old tree.old.tree }
 {
     if exceeds_capacity(tree, items) {

@@ -3,9 +3,9 @@
 ghost use Rattle.std.specs.Prelude.{◌≡◌, ◌⊎◌, None, Some, IfOk, IfErr, Err};
 ghost use Rattle.mls_apply.specs.ResolvedList.{entry_item, item_of, resolved};
 
-use crate::fault::ApplyFault;
 use crate::pending_proposals::PendingProposals;
 use crate::psk_fingerprint::psk_fingerprint;
+use crate::refusal::Refusal;
 use mls_msgs::{Commit, Proposal, ProposalOrRef, Sender};
 use mls_tree::HashValue;
 use std::alloc::Global;
@@ -129,19 +129,19 @@ pub fn resolve_list<'a>(
     commit: &'a Commit,
     committer: Sender,
     known: &'a PendingProposals,
-) -> Result<Vec<ListItem<'a>>, ApplyFault>
+) -> Result<Vec<ListItem<'a>>, Refusal>
     ensures items { IfOk result (λ v.
         resolved committer known.now commit.now.proposals ≡ Some v.items) }
-    ensures unknown { result ≡ Err ApplyFault.UnknownReference
+    ensures unknown { result ≡ Err Refusal.UnknownReference
         → resolved committer known.now commit.now.proposals ≡ None }
     ensures possible_errors { IfErr result (λ e.
-        (e ≡ ApplyFault.UnknownReference) ⊎ (e ≡ ApplyFault.OutOfMemory)) }
+        (e ≡ Refusal.UnknownReference) ⊎ (e ≡ Refusal.OutOfMemory)) }
 {
     let mut items = Vec::with_capacity(alloc, commit.proposals.as_slice().len())?;
     let mut rest = commit.proposals.as_slice();
     while let Some((entry, tail)) = rest.split_first() {
         let Some(item) = entry_item(committer, known, entry) else {
-            return Err(ApplyFault::UnknownReference);
+            return Err(Refusal::UnknownReference);
         };
         items.push(item)?;
         rest = tail;

@@ -7,9 +7,9 @@ ghost use Rattle.mls_apply.specs.TargetLeaves.{removed_by};
 ghost use Rattle.mls_apply.specs.ListRules.{have_distinct_targets, needs_path, is_reinit_alone, list_refusal};
 
 use crate::context_extensions::has_one_context_extensions;
-use crate::fault::ApplyFault;
 use crate::list_item::ListItem;
 use crate::psk_list::have_distinct_psks;
+use crate::refusal::Refusal;
 use crate::senders::{is_same_sender, member_index};
 use mls_msgs::{Proposal, Sender};
 use std::alloc::{AllocError, Global};
@@ -34,35 +34,35 @@ pub fn check_list(
     committer: Sender,
     items: &[ListItem<'_>],
     has_path: bool,
-) -> Result<(), ApplyFault>
+) -> Result<(), Refusal>
     ensures rules_hold { OnOk result (list_refusal committer items.now has_path ≡ None) }
-    ensures refused { IfErr result (λ e. e ≢ ApplyFault.OutOfMemory
+    ensures refused { IfErr result (λ e. e ≢ Refusal.OutOfMemory
         → list_refusal committer items.now has_path ≡ Some e) }
-    ensures update_by_committer { (result ≡ Err ApplyFault.UpdateByCommitter)
-        ↔ (list_refusal committer items.now has_path ≡ Some ApplyFault.UpdateByCommitter) }
-    ensures removes_committer { (result ≡ Err ApplyFault.RemovesCommitter)
-        ↔ (list_refusal committer items.now has_path ≡ Some ApplyFault.RemovesCommitter) }
+    ensures update_by_committer { (result ≡ Err Refusal.UpdateByCommitter)
+        ↔ (list_refusal committer items.now has_path ≡ Some Refusal.UpdateByCommitter) }
+    ensures removes_committer { (result ≡ Err Refusal.RemovesCommitter)
+        ↔ (list_refusal committer items.now has_path ≡ Some Refusal.RemovesCommitter) }
 {
     if has_update_by(committer, items) {
-        return Err(ApplyFault::UpdateByCommitter);
+        return Err(Refusal::UpdateByCommitter);
     }
     if has_remove_of(committer, items) {
-        return Err(ApplyFault::RemovesCommitter);
+        return Err(Refusal::RemovesCommitter);
     }
     if !have_distinct_targets(alloc, items)? {
-        return Err(ApplyFault::SameLeafTwice);
+        return Err(Refusal::SameLeafTwice);
     }
     if !has_one_context_extensions(items) {
-        return Err(ApplyFault::TwoContextExtensions);
+        return Err(Refusal::TwoContextExtensions);
     }
     if !have_distinct_psks(alloc, items)? {
-        return Err(ApplyFault::PskTwice);
+        return Err(Refusal::PskTwice);
     }
     if !is_reinit_alone(items) {
-        return Err(ApplyFault::ReInitNotAlone);
+        return Err(Refusal::ReInitNotAlone);
     }
     if !has_path && needs_path(items) {
-        return Err(ApplyFault::PathMissing);
+        return Err(Refusal::PathMissing);
     }
     Ok(())
 }

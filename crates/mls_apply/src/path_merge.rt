@@ -15,13 +15,13 @@ ghost use Rattle.mls_apply.specs.CommitterPath.{committer_path_refusal};
 ghost use Rattle.mls_apply.specs.CommitterPathInternal.{AreNewNodes};
 
 use crate::committer_path::CommitterPath;
-use crate::fault::ApplyFault;
 use crate::leaf_changes::leaf_of;
 use crate::list_application::Applied;
 use crate::new_parents::{
     NewNodes, NewParents, PathNodeIndices, fill_copath, new_parents, put_path,
 };
 use crate::path_rules::{has_new_keys, have_counts};
+use crate::refusal::Refusal;
 use mls_hash::Suite;
 use mls_index::TreeIndex;
 use mls_msgs::{PathNode, UpdatePath};
@@ -34,22 +34,22 @@ use std::alloc::{AllocError, Global};
 ///
 /// # Errors
 ///
-/// `NoSuchLeaf` if and only if the leaf is outside the tree, or `OutOfMemory`.
-fn path_node_indices(alloc: Global, tree: &PublicTree, leaf: u32) -> Result<Vec<u32>, ApplyFault>
+/// `SenderNotMember` if and only if the leaf is outside the tree, or `OutOfMemory`.
+fn path_node_indices(alloc: Global, tree: &PublicTree, leaf: u32) -> Result<Vec<u32>, Refusal>
     ensures node_indices { IfOk result (λ node_indices. let t = tree.now.tree in
         node_indices.items ≡ filtered_direct_path (leaf_count t) 0 t leaf) }
     ensures inside { OnOk result (leaf < leaf_count tree.now.tree) }
-    ensures outside { (result ≡ Err ApplyFault.NoSuchLeaf)
+    ensures outside { (result ≡ Err Refusal.SenderNotMember)
         ↔ (leaf_count tree.now.tree ≤ leaf) }
     ensures possible_errors { IfErr result (λ e.
-        (e ≡ ApplyFault.NoSuchLeaf) ⊎ (e ≡ ApplyFault.OutOfMemory)) }
+        (e ≡ Refusal.SenderNotMember) ⊎ (e ≡ Refusal.OutOfMemory)) }
 {
     if leaf >= tree.leaf_count() {
-        return Err(ApplyFault::NoSuchLeaf);
+        return Err(Refusal::SenderNotMember);
     }
     match tree.filtered_direct_path(alloc, leaf) {
         Ok(node_indices) => Ok(node_indices),
-        Err(TreeError::OutOfMemory) => Err(ApplyFault::OutOfMemory),
+        Err(TreeError::OutOfMemory) => Err(Refusal::OutOfMemory),
         Err(_) => unreachable!(),
     }
 }
@@ -97,7 +97,7 @@ fn carried(alloc: Global, new: NewParents) -> Result<Vec<Opaque>, AllocError>
 ///
 /// # Errors
 ///
-/// `NoSuchLeaf` if the tree has no leaf of this index, which is checked before anything is allocated; else `PathLength` if
+/// `SenderNotMember` if the tree has no leaf of this index, which is checked before anything is allocated; else `PathLength` if
 /// the number of keys is not that of the filtered direct path; or `OutOfMemory`.
 pub fn expected_parent_hashes(
     alloc: Global,
@@ -105,18 +105,18 @@ pub fn expected_parent_hashes(
     tree: &PublicTree,
     committer: u32,
     keys: &[Opaque],
-) -> Result<Vec<Opaque>, ApplyFault>
+) -> Result<Vec<Opaque>, Refusal>
     ensures hashes { IfOk result (λ hashes.
         expected_hashes (hash_of suite) tree.now.tree committer keys.now ≡ Some hashes.items) }
     ensures rules_hold { OnOk result (keys_refusal tree.now.tree committer keys.now ≡ None) }
-    ensures refused { IfErr result (λ e. e ≢ ApplyFault.OutOfMemory
+    ensures refused { IfErr result (λ e. e ≢ Refusal.OutOfMemory
         → keys_refusal tree.now.tree committer keys.now ≡ Some e) }
-    ensures no_such_leaf { (result ≡ Err ApplyFault.NoSuchLeaf)
-        ↔ (keys_refusal tree.now.tree committer keys.now ≡ Some ApplyFault.NoSuchLeaf) }
+    ensures sender_not_member { (result ≡ Err Refusal.SenderNotMember)
+        ↔ (keys_refusal tree.now.tree committer keys.now ≡ Some Refusal.SenderNotMember) }
 {
     let node_indices = path_node_indices(alloc, tree, committer)?;
     if keys.len() != node_indices.len() {
-        return Err(ApplyFault::PathLength);
+        return Err(Refusal::PathLength);
     }
     let keys = copies_of(alloc, keys)?;
     let above = PathNodeIndices {
@@ -150,30 +150,30 @@ fn carries(source: &LeafSource<'_>, hash: &HashValue) -> bool
 ///
 /// # Errors
 ///
-/// `NoSuchLeaf` if the tree has no such leaf, before any allocation; else `PathLength` or `PathSource`, the first that
+/// `SenderNotMember` if the tree has no such leaf, before any allocation; else `PathLength` or `PathSource`, the first that
 /// applies; or `OutOfMemory`.
 pub(crate) fn fitting_node_indices(
     alloc: Global,
     tree: &PublicTree,
     path: &CommitterPath<'_>,
-) -> Result<Vec<u32>, ApplyFault>
+) -> Result<Vec<u32>, Refusal>
     ensures node_indices { IfOk result (λ node_indices. let t = tree.now.tree in
         node_indices.items ≡ filtered_direct_path (leaf_count t) 0 t path.now.leaf) }
     ensures paired { IfOk result (λ node_indices. length path.now.path.now.nodes ≡ length node_indices.items) }
     ensures inside { OnOk result (path.now.leaf < leaf_count tree.now.tree) }
     ensures commit { OnOk result (is_from_commit path.now.path.now.leaf_node.source ≡ true) }
-    ensures refused { IfErr result (λ e. e ≢ ApplyFault.OutOfMemory → (H : List ℕ → List ℕ)
+    ensures refused { IfErr result (λ e. e ≢ Refusal.OutOfMemory → (H : List ℕ → List ℕ)
         → committer_path_refusal H tree.now.tree path.now ≡ Some e) }
-    ensures outside { (result ≡ Err ApplyFault.NoSuchLeaf)
+    ensures outside { (result ≡ Err Refusal.SenderNotMember)
         ↔ (leaf_count tree.now.tree ≤ path.now.leaf) }
 {
     let nodes = path.path.nodes.as_slice();
     let node_indices = path_node_indices(alloc, tree, path.leaf)?;
     if nodes.len() != node_indices.len() {
-        return Err(ApplyFault::PathLength);
+        return Err(Refusal::PathLength);
     }
     if !is_from_commit(&path.path.leaf_node.source()) {
-        return Err(ApplyFault::PathSource);
+        return Err(Refusal::PathSource);
     }
     Ok(node_indices)
 }
@@ -190,7 +190,7 @@ pub(crate) fn check_keys_and_counts(
     index: &TreeIndex,
     node_indices: &[u32],
     path: &CommitterPath<'_>,
-) -> Result<(), ApplyFault>
+) -> Result<(), Refusal>
     requires index_contains_keys { ContainsKeysOf tree.now.tree index.now }
     requires node_indices { let t = tree.now.tree in
         node_indices.now ≡ filtered_direct_path (leaf_count t) 0 t path.now.leaf }
@@ -200,12 +200,12 @@ pub(crate) fn check_keys_and_counts(
     ensures rules_hold { OnOk result ((H : List ℕ → List ℕ)
         → committer_path_refusal H tree.now.tree path.now
         ≡ hash_refusal H path.now.path.now tree.now.tree path.now.leaf) }
-    ensures refused { IfErr result (λ e. e ≢ ApplyFault.OutOfMemory → (H : List ℕ → List ℕ)
+    ensures refused { IfErr result (λ e. e ≢ Refusal.OutOfMemory → (H : List ℕ → List ℕ)
         → committer_path_refusal H tree.now.tree path.now ≡ Some e) }
 {
     let nodes = path.path.nodes.as_slice();
     if !has_new_keys(alloc, path.path, tree, index)? {
-        return Err(ApplyFault::PathKeyUsed);
+        return Err(Refusal::PathKeyUsed);
     }
     let added = path.added.as_slice();
     let above = PathNodeIndices {
@@ -213,7 +213,7 @@ pub(crate) fn check_keys_and_counts(
         node_indices,
     };
     if !have_counts(alloc, tree, &above, added, nodes)? {
-        return Err(ApplyFault::CiphertextCount);
+        return Err(Refusal::CiphertextCount);
     }
     Ok(())
 }
@@ -226,7 +226,7 @@ fn new_nodes(
     tree: &PublicTree,
     node_indices: &[u32],
     path: &CommitterPath<'_>,
-) -> Result<NewNodes, ApplyFault>
+) -> Result<NewNodes, Refusal>
     requires node_indices { let t = tree.now.tree in
         node_indices.now ≡ filtered_direct_path (leaf_count t) 0 t path.now.leaf }
     requires paired { length path.now.path.now.nodes ≡ length node_indices.now }
@@ -234,10 +234,10 @@ fn new_nodes(
     ensures made { IfOk result (AreNewNodes (hash_of suite) tree.now.tree path.now) }
     ensures rules_hold { OnOk result
         (hash_refusal (hash_of suite) path.now.path.now tree.now.tree path.now.leaf ≡ None) }
-    ensures refused { IfErr result (λ e. e ≢ ApplyFault.OutOfMemory
+    ensures refused { IfErr result (λ e. e ≢ Refusal.OutOfMemory
         → hash_refusal (hash_of suite) path.now.path.now tree.now.tree path.now.leaf ≡ Some e) }
     ensures possible_errors { IfErr result (λ e.
-        (e ≡ ApplyFault.PathParentHash) ⊎ (e ≡ ApplyFault.OutOfMemory)) }
+        (e ≡ Refusal.PathParentHash) ⊎ (e ≡ Refusal.OutOfMemory)) }
 {
     let keys = node_keys(alloc, path.path.nodes.as_slice())?;
     let above = PathNodeIndices {
@@ -246,7 +246,7 @@ fn new_nodes(
     };
     let new = new_parents(alloc, suite, tree, &above, keys)?;
     if !carries(&path.path.leaf_node.source(), &new.hash) {
-        return Err(ApplyFault::PathParentHash);
+        return Err(Refusal::PathParentHash);
     }
     let leaf = leaf_of(alloc, &path.path.leaf_node)?;
     Ok(NewNodes {
@@ -268,7 +268,7 @@ pub(crate) fn filled_nodes(
     tree: &mut PublicTree,
     node_indices: &[u32],
     path: &CommitterPath<'_>,
-) -> Result<NewNodes, ApplyFault>
+) -> Result<NewNodes, Refusal>
     requires node_indices { let t = tree.old.tree in
         node_indices.now ≡ filtered_direct_path (leaf_count t) 0 t path.now.leaf }
     requires paired { length path.now.path.now.nodes ≡ length node_indices.now }
@@ -278,7 +278,7 @@ pub(crate) fn filled_nodes(
     ensures tree { tree.new.tree ≡ tree.old.tree }
     ensures made { IfOk result (AreNewNodes (hash_of suite) tree.old.tree path.now) }
     ensures rules_hold { OnOk result (committer_path_refusal (hash_of suite) tree.old.tree path.now ≡ None) }
-    ensures refused { IfErr result (λ e. e ≢ ApplyFault.OutOfMemory
+    ensures refused { IfErr result (λ e. e ≢ Refusal.OutOfMemory
         → committer_path_refusal (hash_of suite) tree.old.tree path.now ≡ Some e) }
 {
     let above = PathNodeIndices {
@@ -294,7 +294,7 @@ pub(crate) fn filled_nodes(
 ///
 /// # Errors
 ///
-/// `NoSuchLeaf` if the tree has no such leaf, before any allocation; else the first of `PathLength`, `PathSource`,
+/// `SenderNotMember` if the tree has no such leaf, before any allocation; else the first of `PathLength`, `PathSource`,
 /// `PathKeyUsed`, `CiphertextCount` and `PathParentHash` that applies; or `OutOfMemory`. The tree is unchanged, except
 /// for hashes that are filled.
 fn checked_nodes(
@@ -302,11 +302,11 @@ fn checked_nodes(
     suite: Suite,
     tree: &mut PublicTree,
     path: &CommitterPath<'_>,
-) -> Result<NewNodes, ApplyFault>
+) -> Result<NewNodes, Refusal>
     ensures tree { tree.new.tree ≡ tree.old.tree }
     ensures made { IfOk result (AreNewNodes (hash_of suite) tree.old.tree path.now) }
     ensures rules_hold { OnOk result (committer_path_refusal (hash_of suite) tree.old.tree path.now ≡ None) }
-    ensures refused { IfErr result (λ e. e ≢ ApplyFault.OutOfMemory
+    ensures refused { IfErr result (λ e. e ≢ Refusal.OutOfMemory
         → committer_path_refusal (hash_of suite) tree.old.tree path.now ≡ Some e) }
 {
     let node_indices = fitting_node_indices(alloc, tree, path)?;
@@ -324,7 +324,7 @@ fn checked_nodes(
 ///
 /// # Errors
 ///
-/// `NoSuchLeaf` if the tree has no leaf of this index, which is checked before anything is allocated; else the first of
+/// `SenderNotMember` if the tree has no leaf of this index, which is checked before anything is allocated; else the first of
 /// `PathLength`, `PathSource`, `PathKeyUsed`, `CiphertextCount` and `PathParentHash` that applies; or `OutOfMemory`.
 /// The arguments are returned as they were, except that slots of the tree's hash cache may have been filled.
 pub fn merge_path(
@@ -333,23 +333,23 @@ pub fn merge_path(
     applied: Applied,
     committer: u32,
     path: &UpdatePath,
-) -> Result<PublicTree, (ApplyFault, Applied)>
+) -> Result<PublicTree, (Refusal, Applied)>
     ensures merged { IfOk result (λ tree. let keys = node_keys path.now in
         merged (hash_of suite) applied.tree.tree committer path.now.leaf_node keys
         ≡ Some tree.tree) }
     ensures rules_hold { let g = applied_tree applied.tree.tree applied.added in
         OnOk result (path_refusal (hash_of suite) g committer path.now ≡ None) }
     ensures refused { let g = applied_tree applied.tree.tree applied.added in
-        IfErr result (λ e. e.0 ≢ ApplyFault.OutOfMemory
+        IfErr result (λ e. e.0 ≢ Refusal.OutOfMemory
         → path_refusal (hash_of suite) g committer path.now ≡ Some e.0) }
-    ensures no_such_leaf { let g = applied_tree applied.tree.tree applied.added in
-        (result ≡ Err (ApplyFault.NoSuchLeaf, applied))
-        ↔ (path_refusal (hash_of suite) g committer path.now ≡ Some ApplyFault.NoSuchLeaf) }
+    ensures sender_not_member { let g = applied_tree applied.tree.tree applied.added in
+        (result ≡ Err (Refusal.SenderNotMember, applied))
+        ↔ (path_refusal (hash_of suite) g committer path.now ≡ Some Refusal.SenderNotMember) }
     ensures returned_arguments { IfErr result (λ e.
         (e.1.tree.tree ≡ applied.tree.tree) × (e.1.added ≡ applied.added)) }
 {
     if committer >= applied.tree.leaf_count() {
-        return Err((ApplyFault::NoSuchLeaf, applied));
+        return Err((Refusal::SenderNotMember, applied));
     }
     let Applied { mut tree, added } = applied;
     let of_committer = CommitterPath {
@@ -363,6 +363,6 @@ pub fn merge_path(
             put_path(&mut tree, committer, new);
             Ok(tree)
         }
-        Err(fault) => Err((fault, Applied { tree, added })),
+        Err(refusal) => Err((refusal, Applied { tree, added })),
     }
 }

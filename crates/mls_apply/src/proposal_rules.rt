@@ -7,8 +7,8 @@ ghost use Rattle.mls_apply.specs.ProposalRules.{fits_group, fits_leaf, fits_if_a
 ghost use Rattle.mls_apply.specs.ProposalRules.{is_valid_add, is_valid_update, is_valid_update_by, are_valid_extensions, is_valid_reinit, checked_refusal};
 ghost use Rattle.mls_apply.specs.Senders.{is_present};
 
-use crate::fault::ApplyFault;
 use crate::psk_list::is_valid_psk;
+use crate::refusal::Refusal;
 use crate::senders::is_present;
 use mls_check::{OutOfMemory, SignatureCheck, is_leaf_signed, signed_in_pieces};
 use mls_msgs::{KEY_PACKAGE_LABEL, KeyPackage, Proposal, ReInit, Sender};
@@ -34,7 +34,7 @@ pub struct EpochState<'a> {
 /// The first of these rules that fails, or `OutOfMemory`. Only the signature of a KeyPackage, which is checked last, and
 /// required capabilities need allocations.
 ///
-/// 1. `NoSuchLeaf`: the leaf of a sender that is a member is non-blank.
+/// 1. `SenderNotMember`: the leaf of a sender that is a member is non-blank.
 /// 2. `AddInvalid`: a KeyPackage is of the group's version and cipher suite, the source of its leaf node is
 ///    key_package, its init key is not the leaf's encryption key, and the signatures of the leaf node and of the
 ///    KeyPackage are good under the leaf's signature key.
@@ -55,70 +55,70 @@ pub fn check_proposal<C: SignatureCheck>(
     sender: Sender,
     proposal: &Proposal,
     checker: &C,
-) -> Result<(), ApplyFault>
+) -> Result<(), Refusal>
     ensures valid { OnOk result
         (checked_refusal (C.meaning checker.now) epoch.now.context.now epoch.now.tree.now.tree sender
         proposal.now ≡ None) }
-    ensures refused { IfErr result (λ e. e ≢ ApplyFault.OutOfMemory
+    ensures refused { IfErr result (λ e. e ≢ Refusal.OutOfMemory
         → checked_refusal (C.meaning checker.now) epoch.now.context.now epoch.now.tree.now.tree sender
         proposal.now ≡ Some e) }
-    ensures no_such_leaf { (result ≡ Err ApplyFault.NoSuchLeaf)
+    ensures sender_not_member { (result ≡ Err Refusal.SenderNotMember)
         ↔ (checked_refusal (C.meaning checker.now) epoch.now.context.now epoch.now.tree.now.tree sender
-        proposal.now ≡ Some ApplyFault.NoSuchLeaf) }
+        proposal.now ≡ Some Refusal.SenderNotMember) }
     ensures unfit_add { IsTrue (is_present epoch.now.tree.now.tree sender)
         → fits_if_add epoch.now.context.now proposal.now ≡ false
-        → result ≡ Err ApplyFault.AddInvalid }
-    ensures update_invalid { (result ≡ Err ApplyFault.UpdateInvalid)
+        → result ≡ Err Refusal.AddInvalid }
+    ensures update_invalid { (result ≡ Err Refusal.UpdateInvalid)
         ↔ (checked_refusal (C.meaning checker.now) epoch.now.context.now epoch.now.tree.now.tree sender
-        proposal.now ≡ Some ApplyFault.UpdateInvalid) }
-    ensures remove_invalid { (result ≡ Err ApplyFault.RemoveInvalid)
+        proposal.now ≡ Some Refusal.UpdateInvalid) }
+    ensures remove_invalid { (result ≡ Err Refusal.RemoveInvalid)
         ↔ (checked_refusal (C.meaning checker.now) epoch.now.context.now epoch.now.tree.now.tree sender
-        proposal.now ≡ Some ApplyFault.RemoveInvalid) }
-    ensures psk_invalid { (result ≡ Err ApplyFault.PskInvalid)
+        proposal.now ≡ Some Refusal.RemoveInvalid) }
+    ensures psk_invalid { (result ≡ Err Refusal.PskInvalid)
         ↔ (checked_refusal (C.meaning checker.now) epoch.now.context.now epoch.now.tree.now.tree sender
-        proposal.now ≡ Some ApplyFault.PskInvalid) }
-    ensures reinit_invalid { (result ≡ Err ApplyFault.ReInitInvalid)
+        proposal.now ≡ Some Refusal.PskInvalid) }
+    ensures reinit_invalid { (result ≡ Err Refusal.ReInitInvalid)
         ↔ (checked_refusal (C.meaning checker.now) epoch.now.context.now epoch.now.tree.now.tree sender
-        proposal.now ≡ Some ApplyFault.ReInitInvalid) }
-    ensures external_init_misplaced { (result ≡ Err ApplyFault.ExternalInitMisplaced)
+        proposal.now ≡ Some Refusal.ReInitInvalid) }
+    ensures external_init_misplaced { (result ≡ Err Refusal.ExternalInitMisplaced)
         ↔ (checked_refusal (C.meaning checker.now) epoch.now.context.now epoch.now.tree.now.tree sender
-        proposal.now ≡ Some ApplyFault.ExternalInitMisplaced) }
+        proposal.now ≡ Some Refusal.ExternalInitMisplaced) }
 {
     if !is_present(epoch.tree, sender) {
-        return Err(ApplyFault::NoSuchLeaf);
+        return Err(Refusal::SenderNotMember);
     }
     match proposal {
         Proposal::Add(key_package) => {
             if !is_valid_add(alloc, epoch.context, key_package, checker)? {
-                return Err(ApplyFault::AddInvalid);
+                return Err(Refusal::AddInvalid);
             }
         }
         Proposal::Update(leaf) => {
             if !is_valid_update_by(epoch, sender, leaf, checker) {
-                return Err(ApplyFault::UpdateInvalid);
+                return Err(Refusal::UpdateInvalid);
             }
         }
         Proposal::Remove(index) => {
             if epoch.tree.leaf(*index).is_none() {
-                return Err(ApplyFault::RemoveInvalid);
+                return Err(Refusal::RemoveInvalid);
             }
         }
         Proposal::ContextExtensions(extensions) => {
             if !are_valid_extensions(alloc, extensions)? {
-                return Err(ApplyFault::ContextExtensionsInvalid);
+                return Err(Refusal::ContextExtensionsInvalid);
             }
         }
         Proposal::PreSharedKey(id) => {
             if !is_valid_psk(epoch.context, sender, id) {
-                return Err(ApplyFault::PskInvalid);
+                return Err(Refusal::PskInvalid);
             }
         }
         Proposal::ReInit(reinit) => {
             if !is_valid_reinit(epoch.context, reinit) {
-                return Err(ApplyFault::ReInitInvalid);
+                return Err(Refusal::ReInitInvalid);
             }
         }
-        Proposal::ExternalInit(_) => return Err(ApplyFault::ExternalInitMisplaced),
+        Proposal::ExternalInit(_) => return Err(Refusal::ExternalInitMisplaced),
     }
     Ok(())
 }

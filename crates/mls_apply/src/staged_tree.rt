@@ -28,6 +28,7 @@ use crate::list_fit::check_list_fits;
 use crate::list_item::ListItem;
 use crate::new_parents::{fill, put_path_in_place};
 use crate::path_merge::{check_keys_and_counts, filled_nodes, fitting_node_indices};
+use crate::refusal::Refusal;
 use crate::requirements::same_requirements;
 use mls_check::{MemberFault, OutOfMemory, SignatureCheck, first_unmet_requirement};
 use mls_hash::{Suite, tree_hash};
@@ -132,9 +133,6 @@ impl StagedTree {
         ensures too_many_leaves { result ≡ Err ApplyFault.TooManyLeaves
             → IsSome (without_adds items.now self.old.tree) × (outcome items.now self.old.tree ≡ None) }
         ensures no_room { ExceedsCapacity items.now self.old.tree → result ≡ Err ApplyFault.TooManyLeaves }
-        ensures possible_errors { IfErr result (λ e.
-            (e ≡ ApplyFault.NoSuchLeaf) ⊎ (e ≡ ApplyFault.TooManyLeaves)
-            ⊎ (e ≡ ApplyFault.OutOfMemory)) }
         ensures base { self.new.base ≡ self.old.base }
     {
         self.staged_nodes = None;
@@ -159,9 +157,6 @@ impl StagedTree {
             → without_adds items.now self.old.tree ≡ None }
         ensures too_many_leaves { result ≡ Err ApplyFault.TooManyLeaves
             → IsSome (without_adds items.now self.old.tree) × (outcome items.now self.old.tree ≡ None) }
-        ensures possible_errors { IfErr result (λ e.
-            (e ≡ ApplyFault.NoSuchLeaf) ⊎ (e ≡ ApplyFault.TooManyLeaves)
-            ⊎ (e ≡ ApplyFault.OutOfMemory)) }
         ensures base { self.new.base ≡ self.old.base }
     {
         self.staged_nodes = None;
@@ -174,20 +169,20 @@ impl StagedTree {
     /// # Errors
     ///
     /// `TooManyLeaves` if and only if the tree has 1,048,576 members: then nothing changes. Or `OutOfMemory`.
-    pub fn seat(&mut self) -> Result<u32, ApplyFault>
+    pub fn seat(&mut self) -> Result<u32, Refusal>
         ensures leaf { IfOk result (λ j. j ≡ (seat self.old.tree).leaf) }
         ensures tree { OnOk result (self.new.tree ≡ (seat self.old.tree).tree) }
         ensures inside { IfOk result (λ j. j < leaf_count self.new.tree) }
         ensures capacity { OnOk result (member_count self.old.tree < leaf_limit) }
-        ensures too_many_leaves { (result ≡ Err ApplyFault.TooManyLeaves) ↔ (leaf_limit ≤ member_count self.old.tree) }
-        ensures possible_errors { IfErr result (λ e. (e ≡ ApplyFault.TooManyLeaves) ⊎ (e ≡ ApplyFault.OutOfMemory)) }
+        ensures too_many_leaves { (result ≡ Err Refusal.TooManyLeaves) ↔ (leaf_limit ≤ member_count self.old.tree) }
+        ensures possible_errors { IfErr result (λ e. (e ≡ Refusal.TooManyLeaves) ⊎ (e ≡ Refusal.OutOfMemory)) }
         ensures base { self.new.base ≡ self.old.base }
     {
         if self.tree.member_count() >= 1_048_576 {
-            return Err(ApplyFault::TooManyLeaves);
+            return Err(Refusal::TooManyLeaves);
         }
         self.staged_nodes = None;
-        leaf_for_member(&mut self.tree, &mut self.journal, 0)
+        Ok(leaf_for_member(&mut self.tree, &mut self.journal, 0)?)
     }
 
     /// Merges an update path (RFC 9420, 7.5). The changes are added to the index, and the path's keys are looked up in it.
@@ -195,7 +190,7 @@ impl StagedTree {
     /// # Errors
     ///
     /// Those of [`merge_path`](crate::merge_path), in its order. The tree is unchanged, except after `OutOfMemory`,
-    /// when a part of the path may have been merged. `NoSuchLeaf`, `PathLength` and `PathSource` are checked before the
+    /// when a part of the path may have been merged. `SenderNotMember`, `PathLength` and `PathSource` are checked before the
     /// changes are added to the index: no key is hashed for a path that is refused as one of them. No tree hash is
     /// computed for a path that is refused by a rule before `PathParentHash`.
     pub fn merge_path(
@@ -203,14 +198,14 @@ impl StagedTree {
         alloc: Global,
         suite: Suite,
         path: &CommitterPath<'_>,
-    ) -> Result<(), ApplyFault>
+    ) -> Result<(), Refusal>
         ensures merged { OnOk result
             (merged_by (hash_of suite) self.old.tree path.now ≡ Some self.new.tree) }
         ensures rules_hold { OnOk result (committer_path_refusal (hash_of suite) self.old.tree path.now ≡ None) }
-        ensures refused { IfErr result (λ e. e ≢ ApplyFault.OutOfMemory
+        ensures refused { IfErr result (λ e. e ≢ Refusal.OutOfMemory
             → committer_path_refusal (hash_of suite) self.old.tree path.now ≡ Some e) }
         ensures unchanged { IfErr result
-            (λ e. e ≢ ApplyFault.OutOfMemory → self.new.tree ≡ self.old.tree) }
+            (λ e. e ≢ Refusal.OutOfMemory → self.new.tree ≡ self.old.tree) }
         ensures base { self.new.base ≡ self.old.base }
     {
         let node_indices = fitting_node_indices(alloc, &self.tree, path)?;

@@ -16,7 +16,7 @@ use mls_msgs::Proposal;
 use mls_nodes::EncodedLeaf;
 use mls_tree::{Journal, PublicTree};
 use mls_wire::Shared;
-use std::alloc::Global;
+use std::alloc::{AllocError, Global};
 use std::collections::BTreeSet;
 
 /// Replaces a non-blank leaf by a leaf node, which is shared, and makes the parents above it blank.
@@ -26,10 +26,9 @@ fn replace_leaf(
     journal: &mut Journal,
     index: u32,
     leaf: &Shared<EncodedLeaf>,
-) -> Result<(), ApplyFault>
+) -> Result<(), AllocError>
     requires { IsSome (leaf_at 0 tree.old.tree index) }
     ensures updated { OnOk result (tree.new.tree ≡ update tree.old.tree index leaf.now) }
-    ensures memory { IfErr result (λ e. e ≡ ApplyFault.OutOfMemory) }
     ensures before { before journal.new tree.new.tree ≡ before journal.old tree.old.tree }
 {
     put_shared(alloc, tree, journal, index, leaf)?;

@@ -5,8 +5,8 @@ use Rattle.mls_check.specs.Signatures.{VerifyFn}
 use Rattle.mls_follow.specs.Acceptance.{IsAcceptable, IsNext, IsFirstRefusal}
 use Rattle.mls_follow.specs.Runs.{IsTransition}
 use Rattle.mls_follow.specs.State.{State}
-use Rattle.mls_follow.specs.declared.refusal.Refusal.{Refusal}
-use Rattle.mls_follow.specs.declared.refusal.Refusal.TheVariants.{OutOfMemory}
+use Rattle.mls_apply.specs.declared.refusal.Refusal.{Refusal}
+use Rattle.mls_apply.specs.declared.refusal.Refusal.TheVariants.{OutOfMemory}
 use Rattle.mls_follow.specs.declared.taken.Taken.{Taken}
 
 pub takes : (G : VerifyFn) (s : State) (bytes : List ℕ) (answer : Result Taken Refusal) (new : State)

@@ -1,7 +1,3 @@
 mod HandleValues
 mod Moving
-mod Learning
-mod Starting
 mod Judging
-mod Records
-mod Verdicts

@@ -4,7 +4,7 @@ use Rattle.mls_check.specs.Receipts.{listed}
 use Rattle.mls_check.specs.Signatures.{VerifyFn}
 use Rattle.mls_follow.specs.FollowerModel.{state_of, checker_of}
 use Rattle.mls_follow.specs.State.{State}
-use Rattle.mls_gate.specs.Requests.{receipt_size, having_learnt}
+use Rattle.mls_start.specs.ReceiptBytes.{receipt_size, having_learnt}
 use Rattle.mls_c.specs.declared.group_follower.GroupFollower.{GroupFollower}
 
 -- `state_in f` is the state of a follower.

@@ -5,4 +5,3 @@ pub mod Buffers
 pub mod Queries
 pub mod Starts
 pub mod Messages
-pub mod StartSteps

@@ -8,11 +8,11 @@ use Rattle.mls_follow.specs.MessageHeader.{HasNoHeader, IsUnreadMessage}
 use Rattle.mls_follow.specs.MessageSignatures.{AreSignaturesOf}
 use Rattle.mls_follow.specs.Runs.{IsTransition}
 use Rattle.mls_follow.specs.StoredState.{EncodesState, HasNoFile}
-use Rattle.mls_follow.specs.declared.refusal.Refusal.{Refusal}
-use Rattle.mls_follow.specs.declared.refusal.Refusal.TheVariants as refusals
+use Rattle.mls_apply.specs.declared.refusal.Refusal.{Refusal}
+use Rattle.mls_apply.specs.declared.refusal.Refusal.TheVariants as refusals
 use Rattle.mls_follow.specs.declared.taken.Taken.{Taken}
 use Rattle.mls_follow.specs.declared.taken.Taken.TheVariants.{Proposal, Commit}
-use Rattle.mls_gate.specs.Requests.{with_receipts, having_learnt}
+use Rattle.mls_start.specs.ReceiptBytes.{with_receipts, having_learnt}
 use Rattle.mls_c.specs.declared.group_follower.GroupFollower.{GroupFollower}
 use Rattle.mls_c.specs.declared.judgement.Judgement.{Judgement}
 use Rattle.mls_c.specs.Buffers.{put, IsPut}

@@ -1,6 +1,6 @@
 -- The numbers by which the calls for C name what came of a call: 0 for success, up to 99 those of the reports
 -- (docs/FORMATS.md), from 100 on their own. Used by contracts.
-use Rattle.std.specs.Prelude.{ℕ, ◌==◌, if◌then◌else◌, Option, Some, None, Result, Ok, Err}
+use Rattle.std.specs.Prelude.{ℕ, Bool, true, false, ◌==◌, if◌then◌else◌, Option, Some, None, Result, Ok, Err}
 use Rattle.mls_wire.specs.declared.fault.WireFault.{WireFault}
 use Rattle.mls_wire.specs.declared.fault.WireFaultKind.{WireFaultKind}
 use Rattle.mls_wire.specs.declared.fault.WireFaultKind.TheVariants as kinds
@@ -12,18 +12,18 @@ use Rattle.mls_check.specs.declared.tree_validation.TreeFault.{TreeFault}
 use Rattle.mls_check.specs.declared.tree_validation.TreeFault.TheVariants as trees
 use Rattle.mls_msgs.specs.declared.profile.Profile.{Profile}
 use Rattle.mls_msgs.specs.declared.profile.Profile.TheVariants.{Members, Full}
-use Rattle.mls_follow.specs.RefusalNumbers.{number_of, start_number_of}
-use Rattle.mls_follow.specs.declared.refusal.Refusal.{Refusal}
-use Rattle.mls_follow.specs.declared.refusal.Refusal.TheVariants as refusals
+use Rattle.mls_apply.specs.Refusals.{number_of}
+use Rattle.mls_follow.specs.StartNumbers.{start_number_of}
+use Rattle.mls_apply.specs.declared.refusal.Refusal.{Refusal}
+use Rattle.mls_apply.specs.declared.refusal.Refusal.TheVariants as refusals
 use Rattle.mls_follow.specs.declared.resume_fault.ResumeFault.{ResumeFault}
 use Rattle.mls_follow.specs.declared.resume_fault.ResumeFault.TheVariants as resumes
 use Rattle.mls_follow.specs.declared.start_fault.StartFault.{StartFault}
 use Rattle.mls_follow.specs.declared.start_fault.StartFault.TheVariants as starts
 use Rattle.mls_follow.specs.declared.taken.Taken.{Taken}
 use Rattle.mls_follow.specs.declared.taken.Taken.TheVariants.{Proposal, Commit}
-use Rattle.mls_report.specs.FaultText.{member_number}
-use Rattle.mls_report.specs.declared.finding.Finding.{Finding}
-use Rattle.mls_report.specs.declared.finding.Finding.TheVariants as findings
+use Rattle.mls_start.specs.declared.finding.Finding.{Finding}
+use Rattle.mls_start.specs.declared.finding.Finding.TheVariants as findings
 use Rattle.mls_c.specs.declared.input_verdict.InputVerdict.{InputVerdict}
 use Rattle.mls_c.specs.declared.judgement.Judgement.{Judgement}
 
@@ -73,21 +73,16 @@ context_unreadable = 109
 abbrev pub other_profile : ℕ
 other_profile = 110
 
+-- `one_if b` is 1 if `b` is true, else 0.
+abbrev pub one_if : Bool → ℕ
+one_if false = 0
+one_if true = 1
+
 -- ---- profiles
 
--- the number of the members' profile
-abbrev pub members_profile : ℕ
-members_profile = 1
-
--- the number of the full profile
-abbrev pub full_profile : ℕ
-full_profile = 2
-
--- `profile_with_number number` is the profile with this number.
+-- `profile_with_number number` is the profile with this number: 1 the members' profile, 2 the full profile.
 abbrev pub profile_with_number : ℕ → Option Profile
-profile_with_number number =
-    if number == members_profile then Some Members
-    else (if number == full_profile then Some Full else None)
+profile_with_number number = if number == 1 then Some Members else (if number == 2 then Some Full else None)
 
 -- ---- verdicts
 
@@ -132,6 +127,15 @@ tree_verdict number (trees.UnmergedUnsound place) = verdict number 3 place
 tree_verdict number (trees.KeyRepeated place) = verdict number 4 place
 tree_verdict number (trees.ParentHashInvalid place) = verdict number 5 place
 tree_verdict number trees.OutOfMemory = plain_verdict out_of_memory
+
+-- `member_number fault` is the number of a fault of a leaf node; 0 for OutOfMemory.
+abbrev pub member_number : MemberFault → ℕ
+member_number (members.ExtensionUnlisted leaf) = 1
+member_number (members.RequirementUnmet leaf) = 2
+member_number (members.CredentialUnsupported leaf) = 3
+member_number (members.SignatureKeyRepeated leaf) = 4
+member_number (members.LeafSignature leaf) = 5
+member_number members.OutOfMemory = 0
 
 -- `member_fault_leaf fault` is the leaf index of a fault of a leaf node.
 abbrev pub member_fault_leaf : MemberFault → ℕ

@@ -5,7 +5,6 @@ use Rattle.sha2.specs.Sha256.{sha256}
 use Rattle.mls_wire.specs.Encoding.{vector}
 use Rattle.mls_check.specs.Receipts.{receipt_input}
 use Rattle.mls_check.specs.Signatures.{VerifyFn}
-use Rattle.mls_gate.specs.Answers.{is_known}
 use Rattle.mls_signatures.specs.declared.signature_to_verify.SignatureToVerify.{SignatureToVerify}
 
 -- `bytes_or_none encoding` is the bytes of an encoding; no bytes if there is none.
@@ -26,7 +25,7 @@ signature_record w = record_of (receipt_input w.suite w.key w.content w.signatur
 
 -- `record_unless G w` is this record, and no bytes if `G` accepts the signature.
 abbrev pub record_unless : VerifyFn → SignatureToVerify → List ℕ
-record_unless G w = if is_known G w then [] else signature_record w
+record_unless G w = if G w.suite w.key w.content w.signature then [] else signature_record w
 
 -- `query_records G signatures` is the records of the signatures of a list that `G` does not accept, in its order.
 abbrev pub query_records : VerifyFn → List SignatureToVerify → List ℕ

@@ -10,11 +10,12 @@ use crate::group_follower::GroupFollower;
 use crate::input_verdict::{BAD_RECEIPTS, BUFFER_TOO_SMALL, OUT_OF_MEMORY, TOO_LONG};
 use crate::judgement::{Judgement, judgement_of, not_judged};
 use crate::query::query_records;
-use crate::receipts::{are_whole, learn_in};
+use crate::receipts::are_whole;
 use mls_check::OutOfMemory;
 use mls_follow::{Refusal, SignatureListFault, Taken};
+use mls_start::{SignaturesLeft, learn_in_follower};
 use mls_wire::CodecFault;
-use std::alloc::{AllocError, Global};
+use std::alloc::Global;
 
 /// The size of a buffer for each reference of a proposal.
 const REFERENCE_SIZE: usize = 64;
@@ -45,16 +46,15 @@ impl GroupFollower {
         ensures meaning { meaning_in self.new ≡ meaning_in self.old }
     {
         *needed = 0;
-        let signatures = match self.follower.signatures_to_verify(message) {
-            Ok(signatures) => signatures,
+        let list = match self.follower.signatures_to_verify(message) {
+            Ok(list) => list,
             Err(SignatureListFault::Malformed) => return MALFORMED,
             Err(SignatureListFault::OutOfMemory) => return OUT_OF_MEMORY,
         };
-        let records = query_records(alloc, &signatures, self.follower.checker());
-        drop(signatures);
-        match records {
+        let left = SignaturesLeft::of_list(list);
+        match query_records(alloc, left, &self.follower, self.follower.checker()) {
             Ok(records) => put_sized(records.as_slice(), buffer, needed),
-            Err(AllocError) => OUT_OF_MEMORY,
+            Err(OutOfMemory) => OUT_OF_MEMORY,
         }
     }
 
@@ -65,7 +65,7 @@ impl GroupFollower {
         if !are_whole(receipts) {
             return BAD_RECEIPTS;
         }
-        match learn_in(&mut self.follower, receipts) {
+        match learn_in_follower(&mut self.follower, receipts) {
             Ok(()) => 0,
             Err(OutOfMemory) => OUT_OF_MEMORY,
         }

@@ -2,12 +2,11 @@
 
 ghost use Rattle.std.specs.Prelude.{◌≡◌, None, IfSome};
 ghost use Rattle.mls_tree.specs.Tree.{member_count};
-ghost use Rattle.mls_report.specs.Replay.{one_if};
 ghost use Rattle.mls_c.specs.Buffers.{IsPut};
 ghost use Rattle.mls_c.specs.Followers.{state_in, meaning_in};
 ghost use Rattle.mls_c.specs.Messages.{Moves, PutsQuery, Learns, Judges, PutsStateFile};
 ghost use Rattle.mls_c.specs.Numbers as numbers;
-ghost use Rattle.mls_c.specs.Numbers.{no_follower};
+ghost use Rattle.mls_c.specs.Numbers.{no_follower, one_if};
 
 use crate::buffer::put_sized;
 use crate::follower_handle::FollowerHandle;

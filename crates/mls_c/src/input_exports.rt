@@ -1,30 +1,31 @@
 //! The calls on a group's inputs, for a caller in another language.
 
-ghost use Rattle.std.specs.Prelude.{◌≡◌, ◌↔◌, ◌⊎◌, Some, None, true, OnOk, OnErr};
+ghost use Rattle.std.specs.Prelude.{◌≡◌, ◌↔◌, ◌⊎◌, List, ℕ, Option, Some, None, true, IfOk, IfErr};
 ghost use Rattle.mls_check.specs.Receipts.{listed};
+ghost use Rattle.mls_msgs.specs.declared.profile.Profile.{Profile};
+ghost use Rattle.mls_msgs.specs.declared.profile.Profile.TheVariants.{Members};
+ghost use Rattle.mls_follow.specs.CoveredLogs.{all_good};
+ghost use Rattle.mls_start.specs.Inputs.{inputs_of, OfInfo, OfState};
+ghost use Rattle.mls_start.specs.StartFailures.{Says};
+ghost use Rattle.mls_start.specs.StartFindings.{Declines};
 ghost use Rattle.mls_c.specs.Followers.{AreWhole, good_by};
 ghost use Rattle.mls_c.specs.Numbers as numbers;
 ghost use Rattle.mls_c.specs.Numbers.{bad_receipts, unsupported_profile};
-ghost use Rattle.mls_msgs.specs.declared.profile.Profile.{Profile};
-ghost use Rattle.mls_c.specs.StartSteps.{PutsInProfile};
-ghost use Rattle.mls_c.specs.Starts.{RunsOut, PutsFinding, PutsTreeFinding, QueriesStart, Starts, Resumes};
+ghost use Rattle.mls_c.specs.Starts.{passed, RunsOut, PutsFinding, PutsTreeFinding, ListsStart, QueriesStart, Starts};
 
 use crate::buffer::put_sized;
 use crate::follower_handle::FollowerHandle;
 use crate::group_follower::GroupFollower;
 use crate::input_verdict::{
-    BAD_RECEIPTS, InputVerdict, OTHER_PROFILE, OUT_OF_MEMORY, UNSUPPORTED_PROFILE, plain_verdict,
-    resume_verdict, verdict_of,
+    InputVerdict, OTHER_PROFILE, OUT_OF_MEMORY, UNSUPPORTED_PROFILE, plain_verdict, verdict_of,
 };
-use crate::receipts::{ReceiptBytesFault, receipts_in};
-use crate::start::started;
-use crate::start_query::start_records;
-use crate::tree_finding::tree_finding;
+use crate::query::query_records;
+use crate::receipts::receipts_in;
+use crate::start_copies::{info_copy, state_copy};
 use mls_check::{OutOfMemory, Receipts, SignatureCheck};
 use mls_follow::Follower;
 use mls_msgs::Profile;
-use mls_report::finding::Finding;
-use mls_report::read_inputs::StartFailure;
+use mls_start::{Finding, StartBytes, StartFailure, TrustingStart, tree_finding};
 use std::alloc::Global;
 
 /// Returns the profile with this number.
@@ -49,17 +50,6 @@ fn are_equal(profile: Profile, other: Profile) -> bool
     }
 }
 
-/// Returns the verdict of receipts that cannot be read.
-fn receipts_verdict(fault: ReceiptBytesFault) -> InputVerdict
-    ensures not_whole { fault ≡ ReceiptBytesFault.NotWhole → result ≡ numbers.plain_verdict bad_receipts }
-    ensures memory { fault ≡ ReceiptBytesFault.OutOfMemory → RunsOut result }
-{
-    match fault {
-        ReceiptBytesFault::NotWhole => plain_verdict(BAD_RECEIPTS),
-        ReceiptBytesFault::OutOfMemory => plain_verdict(OUT_OF_MEMORY),
-    }
-}
-
 /// Puts the tree hash of a valid tree into a buffer, and returns the verdict of the finding.
 fn put_finding(finding: &Finding, tree_hash: &mut [u8], needed: &mut usize) -> InputVerdict
     requires { needed.old ≡ 0 }
@@ -68,25 +58,6 @@ fn put_finding(finding: &Finding, tree_hash: &mut [u8], needed: &mut usize) -> I
     match finding {
         Finding::TreeValid(hash) => plain_verdict(put_sized(hash.as_slice(), tree_hash, needed)),
         _ => verdict_of(*finding),
-    }
-}
-
-/// Validates a tree, and puts the tree hash of a valid one into a buffer.
-fn put_tree_hash<C: SignatureCheck>(
-    alloc: Global,
-    context: &[u8],
-    tree: &[u8],
-    checker: &C,
-    tree_hash: &mut [u8],
-    needed: &mut usize,
-) -> InputVerdict
-    requires { needed.old ≡ 0 }
-    ensures { PutsTreeFinding (C.meaning checker.now) context.now tree.now tree_hash.old tree_hash.new
-        needed.new result }
-{
-    match tree_finding(alloc, context, tree, checker) {
-        Ok(finding) => put_finding(&finding, tree_hash, needed),
-        Err(_) => plain_verdict(OUT_OF_MEMORY),
     }
 }
 
@@ -107,29 +78,61 @@ pub extern "C" fn mls_validate_tree(
         tree_hash.old tree_hash.new needed.new result }
 {
     *needed = 0;
-    match receipts_in(alloc, receipts) {
-        Ok(receipts) => put_tree_hash(alloc, context, tree, &receipts, tree_hash, needed),
-        Err(fault) => receipts_verdict(fault),
+    let receipts = match receipts_in(alloc, receipts) {
+        Ok(receipts) => receipts,
+        Err(verdict) => return verdict,
+    };
+    let Ok(tree) = tree.to_vec(alloc) else {
+        return plain_verdict(OUT_OF_MEMORY);
+    };
+    match tree_finding(alloc, context, tree, &receipts) {
+        Ok(finding) => put_finding(&finding, tree_hash, needed),
+        Err(OutOfMemory) => plain_verdict(OUT_OF_MEMORY),
+    }
+}
+
+/// Returns the records of the signatures of a start that the checker does not accept, if a follower starts, each signature
+/// being good.
+fn start_records<C: SignatureCheck>(
+    alloc: Global,
+    start: StartBytes,
+    checker: &C,
+) -> Result<Vec<u8>, StartFailure>
+    ensures records { IfOk result (λ v. ListsStart (C.meaning checker.now) (inputs_of start) v.items) }
+    ensures refused { IfErr result (Says (Declines all_good (inputs_of start))) }
+{
+    let start = match start.trusting(alloc) {
+        Ok(start) => start,
+        Err(failure) => return Err(failure),
+    };
+    let TrustingStart {
+        follower,
+        signatures,
+    } = start;
+    let records = query_records(alloc, signatures, &follower, checker);
+    drop(follower);
+    match records {
+        Ok(records) => Ok(records),
+        Err(OutOfMemory) => Err(StartFailure::OutOfMemory),
     }
 }
 
 /// Puts the records of the signatures of a start that the checker does not accept into a buffer.
 fn put_start_records<C: SignatureCheck>(
     alloc: Global,
-    info: &[u8],
-    tree: &[u8],
+    start: StartBytes,
     checker: &C,
     records: &mut [u8],
     needed: &mut usize,
 ) -> InputVerdict
     requires { needed.old ≡ 0 }
-    ensures { QueriesStart (C.meaning checker.now) info.now tree.now records.old records.new
+    ensures { QueriesStart (C.meaning checker.now) (inputs_of start) records.old records.new
         needed.new result }
 {
-    match start_records(alloc, info, tree, checker) {
+    match start_records(alloc, start, checker) {
         Ok(list) => plain_verdict(put_sized(list.as_slice(), records, needed)),
         Err(StartFailure::Found(finding)) => verdict_of(finding),
-        Err(StartFailure::Fault(_)) => plain_verdict(OUT_OF_MEMORY),
+        Err(StartFailure::OutOfMemory) => plain_verdict(OUT_OF_MEMORY),
     }
 }
 
@@ -147,36 +150,22 @@ pub extern "C" fn mls_start_query(
 ) -> InputVerdict
     ensures not_whole { (AreWhole receipts.now → ⊥) → (result ≡ numbers.plain_verdict bad_receipts)
         × (records.new ≡ records.old) × (needed.new ≡ 0) }
-    ensures queries { AreWhole receipts.now → QueriesStart (good_by receipts.now) info.now tree.now
-        records.old records.new needed.new result }
+    ensures queries { AreWhole receipts.now → QueriesStart (good_by receipts.now)
+        (OfInfo Members info.now (passed tree.now)) records.old records.new needed.new result }
 {
     *needed = 0;
-    match receipts_in(alloc, receipts) {
-        Ok(receipts) => put_start_records(alloc, info, tree, &receipts, records, needed),
-        Err(fault) => receipts_verdict(fault),
+    let receipts = match receipts_in(alloc, receipts) {
+        Ok(receipts) => receipts,
+        Err(verdict) => return verdict,
+    };
+    match info_copy(alloc, Profile::Members, info, tree) {
+        Ok(start) => put_start_records(alloc, start, &receipts, records, needed),
+        Err(_) => plain_verdict(OUT_OF_MEMORY),
     }
 }
 
-/// Puts a follower into a handle. What it had is dropped.
+/// Puts a follower into a handle, and returns the verdict. What the handle had is dropped.
 fn put_follower(
-    alloc: Global,
-    follower: Follower<Receipts>,
-    handle: &mut FollowerHandle,
-) -> Result<(), OutOfMemory>
-    ensures put { OnOk result (handle.new.value ≡ Some (record { follower = follower })) }
-    ensures unchanged { OnErr result (handle.new.value ≡ handle.old.value) }
-{
-    match Box::new(alloc, GroupFollower { follower }) {
-        Ok(follower) => {
-            handle.put(follower);
-            Ok(())
-        }
-        Err(_) => Err(OutOfMemory),
-    }
-}
-
-/// Returns the verdict of a follower that was to be put into a handle.
-fn put_verdict(
     alloc: Global,
     follower: Follower<Receipts>,
     handle: &mut FollowerHandle,
@@ -184,28 +173,37 @@ fn put_verdict(
     ensures { ((result ≡ numbers.plain_verdict 0) × (handle.new.value ≡ Some (record { follower = follower })))
         ⊎ (RunsOut result × (handle.new.value ≡ handle.old.value)) }
 {
-    match put_follower(alloc, follower, handle) {
-        Ok(()) => plain_verdict(0),
-        Err(OutOfMemory) => plain_verdict(OUT_OF_MEMORY),
+    match Box::new(alloc, GroupFollower { follower }) {
+        Ok(follower) => {
+            handle.put(follower);
+            plain_verdict(0)
+        }
+        Err(_) => plain_verdict(OUT_OF_MEMORY),
     }
 }
 
-/// Starts a follower with this profile by these receipts, and puts it into a handle.
+/// Starts or resumes a follower by these receipts, and puts it into a handle if it has this profile.
 fn put_started(
     alloc: Global,
     profile: Profile,
-    info: &[u8],
-    tree: &[u8],
+    start: StartBytes,
     receipts: Receipts,
     handle: &mut FollowerHandle,
 ) -> InputVerdict
-    ensures { Starts profile (listed receipts) info.now tree.now handle.old.value handle.new.value result }
+    requires { (own : Profile) (info : List ℕ) (tree : Option (List ℕ))
+        → inputs_of start ≡ OfInfo own info tree → own ≡ profile }
+    ensures { Starts profile (listed receipts) (inputs_of start) handle.old.value handle.new.value result }
 {
-    match started(alloc, profile, info, tree, receipts) {
-        Ok(follower) => put_verdict(alloc, follower, handle),
-        Err(StartFailure::Found(finding)) => verdict_of(finding),
-        Err(StartFailure::Fault(_)) => plain_verdict(OUT_OF_MEMORY),
+    let follower = match start.follower(alloc, receipts) {
+        Ok(follower) => follower,
+        Err(StartFailure::Found(finding)) => return verdict_of(finding),
+        Err(StartFailure::OutOfMemory) => return plain_verdict(OUT_OF_MEMORY),
+    };
+    if !are_equal(follower.profile(), profile) {
+        drop(follower);
+        return plain_verdict(OTHER_PROFILE);
     }
+    put_follower(alloc, follower, handle)
 }
 
 /// Starts a follower with the profile of this number from a GroupInfo (RFC 9420, 12.4.3) and a tree, by these receipts, and
@@ -226,48 +224,20 @@ pub extern "C" fn mls_follower_start(
     ensures not_whole { (p : Profile) → numbers.profile_with_number profile ≡ Some p → (AreWhole receipts.now → ⊥)
         → (result ≡ numbers.plain_verdict bad_receipts) × (follower.new.value ≡ follower.old.value) }
     ensures starts { (p : Profile) → numbers.profile_with_number profile ≡ Some p → AreWhole receipts.now
-        → Starts p (good_by receipts.now) info.now tree.now follower.old.value follower.new.value result }
+        → Starts p (good_by receipts.now) (OfInfo p info.now (passed tree.now))
+        follower.old.value follower.new.value result }
 {
     let Some(named) = profile_with_number(profile) else {
         return plain_verdict(UNSUPPORTED_PROFILE);
     };
-    match receipts_in(alloc, receipts) {
-        Ok(receipts) => put_started(alloc, named, info, tree, receipts, follower),
-        Err(fault) => receipts_verdict(fault),
-    }
-}
-
-/// Puts a follower that has resumed into a handle, if it has this profile.
-fn put_in_profile(
-    alloc: Global,
-    profile: Profile,
-    follower: Follower<Receipts>,
-    handle: &mut FollowerHandle,
-) -> InputVerdict
-    ensures { PutsInProfile profile (record { follower = follower }) handle.old.value handle.new.value result }
-{
-    if are_equal(follower.profile(), profile) {
-        put_verdict(alloc, follower, handle)
-    } else {
-        drop(follower);
-        plain_verdict(OTHER_PROFILE)
-    }
-}
-
-/// Resumes a follower with this profile by these receipts, and puts it into a handle.
-fn put_resumed(
-    alloc: Global,
-    profile: Profile,
-    state: &[u8],
-    receipts: Receipts,
-    handle: &mut FollowerHandle,
-) -> InputVerdict
-    ensures { Resumes profile (listed receipts) state.now handle.old.value handle.new.value result }
-{
-    match Follower::resume(alloc, state, receipts) {
-        Ok(follower) => put_in_profile(alloc, profile, follower, handle),
-        Err(refused) => resume_verdict(refused.fault),
-    }
+    let receipts = match receipts_in(alloc, receipts) {
+        Ok(receipts) => receipts,
+        Err(verdict) => return verdict,
+    };
+    let Ok(start) = info_copy(alloc, named, info, tree) else {
+        return plain_verdict(OUT_OF_MEMORY);
+    };
+    put_started(alloc, named, start, receipts, follower)
 }
 
 /// Resumes a follower from the file of a state of the profile with this number, by these receipts, and puts it into the
@@ -286,13 +256,17 @@ pub extern "C" fn mls_follower_resume(
     ensures not_whole { (p : Profile) → numbers.profile_with_number profile ≡ Some p → (AreWhole receipts.now → ⊥)
         → (result ≡ numbers.plain_verdict bad_receipts) × (follower.new.value ≡ follower.old.value) }
     ensures resumes { (p : Profile) → numbers.profile_with_number profile ≡ Some p → AreWhole receipts.now
-        → Resumes p (good_by receipts.now) state.now follower.old.value follower.new.value result }
+        → Starts p (good_by receipts.now) (OfState state.now) follower.old.value follower.new.value result }
 {
     let Some(named) = profile_with_number(profile) else {
         return plain_verdict(UNSUPPORTED_PROFILE);
     };
-    match receipts_in(alloc, receipts) {
-        Ok(receipts) => put_resumed(alloc, named, state, receipts, follower),
-        Err(fault) => receipts_verdict(fault),
-    }
+    let receipts = match receipts_in(alloc, receipts) {
+        Ok(receipts) => receipts,
+        Err(verdict) => return verdict,
+    };
+    let Ok(start) = state_copy(alloc, state) else {
+        return plain_verdict(OUT_OF_MEMORY);
+    };
+    put_started(alloc, named, start, receipts, follower)
 }

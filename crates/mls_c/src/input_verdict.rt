@@ -6,8 +6,7 @@ ghost use Rattle.mls_c.specs.Numbers as numbers;
 use mls_check::{MemberFault, TreeFault};
 use mls_follow::{ResumeFault, StartFault};
 use mls_nodes::NodeFault;
-use mls_report::fault_text::member_number;
-use mls_report::finding::Finding;
+use mls_start::Finding;
 use mls_wire::{WireFault, WireFaultKind};
 
 /// What came of a call on a GroupContext, a GroupInfo, a tree or a state.
@@ -131,6 +130,20 @@ fn tree_verdict(number: u32, fault: TreeFault) -> InputVerdict
     }
 }
 
+/// Returns the number of a fault of a leaf node, from 1 to 5; 0 for `OutOfMemory`.
+pub(crate) fn member_number(fault: MemberFault) -> u32
+    ensures { result ≡ numbers.member_number fault }
+{
+    match fault {
+        MemberFault::ExtensionUnlisted(_) => 1,
+        MemberFault::RequirementUnmet(_) => 2,
+        MemberFault::CredentialUnsupported(_) => 3,
+        MemberFault::SignatureKeyRepeated(_) => 4,
+        MemberFault::LeafSignature(_) => 5,
+        MemberFault::OutOfMemory => 0,
+    }
+}
+
 /// Returns the leaf index of a fault of a leaf node.
 pub(crate) fn member_fault_leaf(fault: MemberFault) -> u32
     ensures { result ≡ numbers.member_fault_leaf fault }
@@ -153,7 +166,7 @@ fn member_verdict(number: u32, fault: MemberFault) -> InputVerdict
         MemberFault::OutOfMemory => plain_verdict(OUT_OF_MEMORY),
         _ => InputVerdict {
             number,
-            inner: member_number(fault) as u32,
+            inner: member_number(fault),
             place: member_fault_leaf(fault) as u64,
         },
     }
@@ -172,7 +185,7 @@ fn start_verdict(fault: StartFault) -> InputVerdict
 }
 
 /// Returns the verdict of a resumption that is refused.
-pub(crate) fn resume_verdict(fault: ResumeFault) -> InputVerdict
+fn resume_verdict(fault: ResumeFault) -> InputVerdict
     ensures { result ≡ numbers.resume_verdict fault }
 {
     match fault {

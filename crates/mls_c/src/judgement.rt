@@ -3,10 +3,9 @@
 ghost use Rattle.std.specs.Prelude.{◌≡◌};
 ghost use Rattle.mls_c.specs.Numbers as numbers;
 
-use crate::input_verdict::{OUT_OF_MEMORY, member_fault_leaf};
+use crate::input_verdict::{OUT_OF_MEMORY, member_fault_leaf, member_number};
 use mls_check::MemberFault;
 use mls_follow::{Refusal, Taken};
-use mls_report::fault_text::member_number;
 
 /// What came of a message.
 #[repr(C)]
@@ -44,7 +43,7 @@ fn leaf_judgement(fault: MemberFault) -> Judgement
     Judgement {
         number: 25,
         kind: 0,
-        inner: member_number(fault) as u32,
+        inner: member_number(fault),
         leaf: member_fault_leaf(fault),
         epoch: 0,
     }

@@ -16,9 +16,7 @@ mod judgement;
 mod loose;
 mod query;
 mod receipts;
-mod start;
-mod start_query;
-mod tree_finding;
+mod start_copies;
 
 pub use follower_handle::FollowerHandle;
 pub use group_follower::GroupFollower;

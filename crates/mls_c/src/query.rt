@@ -1,15 +1,18 @@
 //! The records of the signatures that have to be verified.
 
-ghost use Rattle.std.specs.Prelude.{◌≡◌, ◌<◌, ◌++◌, IfOk, OnOk, length, slice_get};
-ghost use Rattle.std.specs.Option.{option_to_list};
+ghost use Rattle.std.specs.Prelude.{◌≡◌, ◌++◌, IfOk, OnOk};
 ghost use Rattle.mls_wire.specs.Encoding.{vector};
 ghost use Rattle.mls_wire.specs.ReadContracts.{seen};
 ghost use Rattle.mls_wire.specs.WriteContracts.{Makes};
 ghost use Rattle.mls_check.specs.Receipts.{receipt_input};
+ghost use Rattle.mls_follow.specs.FollowerModel.{state_of};
+ghost use Rattle.mls_start.specs.SignaturesLeft.{signatures_left};
 ghost use Rattle.mls_c.specs.Queries.{bytes_or_none, signature_record, record_unless, query_records};
 
-use mls_check::{SignatureCheck, receipt};
-use mls_signatures::{SignatureList, SignatureToVerify};
+use mls_check::{OutOfMemory, SignatureCheck, receipt};
+use mls_follow::Follower;
+use mls_signatures::SignatureToVerify;
+use mls_start::SignaturesLeft;
 use mls_wire::{CodecFault, Draft, Writer};
 use std::alloc::{AllocError, Global};
 
@@ -97,38 +100,20 @@ fn push_record_unless<C: SignatureCheck>(
     push_record(alloc, needed, records)
 }
 
-/// Appends the record of the signature at an index of a list, unless the checker accepts it.
-fn push_record_at<C: SignatureCheck>(
+/// Returns the records of the signatures that are left and that the checker does not accept. `follower` is the one whose
+/// leaves are signed.
+pub(crate) fn query_records<F: SignatureCheck, C: SignatureCheck>(
     alloc: Global,
-    needed: &SignatureList,
-    index: usize,
+    mut left: SignaturesLeft,
+    follower: &Follower<F>,
     checker: &C,
-    records: &mut Vec<u8>,
-) -> Result<(), AllocError>
-    requires { index < length needed.now }
-    ensures { OnOk result (records.new.items ≡ records.old.items
-        ++ query_records (C.meaning checker.now) (option_to_list (slice_get needed.now index))) }
-{
-    let Ok(signature) = needed.get(alloc, index) else {
-        return Err(AllocError);
-    };
-    let pushed = push_record_unless(alloc, &signature, checker, records);
-    drop(signature);
-    pushed
-}
-
-/// Returns the records of the signatures that the checker does not accept.
-pub(crate) fn query_records<C: SignatureCheck>(
-    alloc: Global,
-    needed: &SignatureList,
-    checker: &C,
-) -> Result<Vec<u8>, AllocError>
-    ensures { IfOk result
-        (λ records. records.items ≡ query_records (C.meaning checker.now) needed.now) }
+) -> Result<Vec<u8>, OutOfMemory>
+    ensures { IfOk result (λ records. records.items
+        ≡ query_records (C.meaning checker.now) (signatures_left (state_of follower.now) left)) }
 {
     let mut records = Vec::new(alloc);
-    for index in 0..needed.len() {
-        push_record_at(alloc, needed, index, checker, &mut records)?;
+    'signatures: while let Some(signature) = left.next(alloc, follower)? {
+        push_record_unless(alloc, &signature, checker, &mut records)?;
     }
     Ok(records)
 }

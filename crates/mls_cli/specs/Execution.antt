@@ -1,104 +1,78 @@
 -- How a command is executed: which file is read for which input, what is reported, and what is stored. F is what opens
--- files, G the verification function of the checker. In which order files are opened, and that no other file is opened or
--- stored, is no clause. Used by contracts.
-use Rattle.std.specs.Prelude.{ℕ, List, [], codes, Bool, true, false, Option, Some, None, is_some, option_map, Ok, Err, IfOk, IfErr, OnErr, ◌≡◌, ◌↔◌, ◌⊎◌}
+-- files, G the verification function of the checker, `i` what a group is followed from. In which order files are opened, and
+-- that no other file is opened or stored, is no clause. Used by contracts.
+use Rattle.std.specs.Prelude.{ℕ, List, [], codes, Bool, true, false, Option, Some, None, is_some, option_map, Ok, Err, IfOk, IfErr, OnErr, ◌≡◌, ◌≢◌, ◌↔◌, ◌⊎◌}
 use Rattle.std.specs.Io.KnownBytes.{Appends}
 use Rattle.mls_check.specs.Signatures.{VerifyFn}
-use Rattle.mls_program.specs.Files.{Opener, Opens, OpensNamed, IsOpened, CannotOpen, CannotOpenNamed}
-use Rattle.mls_cli.specs.ProgramCheckers.{RunsWithCheckerOrEnds}
-use Rattle.mls_program.specs.ReportResult.{ReportResult}
-use Rattle.mls_program.specs.ShowExecution.{ExecutesShow}
+use Rattle.mls_commands.specs.declared.order.GroupFiles.{GroupFiles}
 use Rattle.mls_commands.specs.declared.order.GroupReport.{GroupReport}
 use Rattle.mls_commands.specs.declared.order.GroupReport.TheVariants.{ValidateTree, Validate, Replay, Signatures, Gate}
-use Rattle.mls_commands.specs.declared.order.GroupFiles.{GroupFiles}
-use Rattle.mls_commands.specs.declared.order.GroupFiles.TheVariants.{Info, State}
-use Rattle.mls_commands.specs.declared.order.ReplayFiles.{ReplayFiles}
 use Rattle.mls_commands.specs.declared.order.Order.{Order}
 use Rattle.mls_commands.specs.declared.order.Order.TheVariants.{Show, Group, Check}
-use Rattle.mls_gate.specs.GateReport.{Gates, GatesPart, GatesState, GatesStatePart}
+use Rattle.mls_commands.specs.declared.order.ReplayFiles.{ReplayFiles}
 use Rattle.mls_follow.specs.State as follower
 use Rattle.mls_follow.specs.StoredState.{EncodesState, HasNoFile}
-use Rattle.mls_msgs.specs.declared.profile.Profile.{Profile}
-use Rattle.mls_report.specs.Replay.{ReplaysGroupTo, ReplaysPart, ReplaysStateTo, ReplaysStatePart}
-use Rattle.mls_report.specs.SignaturesReport.{SignaturesPart, SignaturesState, SignaturesStatePart}
+use Rattle.mls_start.specs.Inputs.{Inputs}
+use Rattle.mls_start.specs.StartFindings.{IsFindingOf}
+use Rattle.mls_start.specs.TreeFinding.{IsTreeFinding}
+use Rattle.mls_start.specs.declared.finding.Finding.{Finding}
+use Rattle.mls_gate.specs.GateReport.{Gates, GatesPart}
+use Rattle.mls_report.specs.Finding.{ReportsFinding, ReportsFindingPart}
+use Rattle.mls_report.specs.Replay.{Replays, ReplaysPart}
+use Rattle.mls_report.specs.SignaturesReport.{SignaturesPart, has_failed}
 use Rattle.mls_report.specs.SignaturesReport as signatures
-use Rattle.mls_report.specs.StartInputs.{has_failed}
-use Rattle.mls_audit.specs.Validate.{Validates, ValidatesPart, ValidatesState, ValidatesStatePart}
-use Rattle.mls_report.specs.ValidateTree.{ValidatesTree, ValidatesTreePart}
+use Rattle.mls_vectors.specs.CheckReport.{Checks, ChecksPart}
+use Rattle.mls_show.specs.declared.check_kind.CheckKind.{CheckKind}
 use Rattle.mls_show.specs.declared.verdict.RunFault.{RunFault}
 use Rattle.mls_show.specs.declared.verdict.RunFault.TheVariants.{Read, Write, Memory}
 use Rattle.mls_show.specs.declared.verdict.Verdict.{Verdict}
-use Rattle.mls_vectors.specs.CheckReport.{Checks, ChecksPart}
-use Rattle.mls_show.specs.declared.check_kind.CheckKind.{CheckKind}
+use Rattle.mls_program.specs.Files.{Opener, IsOpened, CannotOpen, CannotOpenNamed, ReadsFile, CannotReadFile, EndsUnread}
+use Rattle.mls_program.specs.ReportResult.{ReportResult}
+use Rattle.mls_program.specs.ShowExecution.{ExecutesShow}
+use Rattle.mls_cli.specs.GroupStarts.{RunsWithStartOrEnds}
+use Rattle.mls_cli.specs.ProgramCheckers.{RunsWithCheckerOrEnds}
 
 -- `stdin` is the name of standard input.
 abbrev pub stdin : List ℕ
 stdin = codes "-"
 
+-- `ReportsFound IsFound ..`: what is found, of which `IsFound` holds, is reported in one line, or a part of it was written.
+-- No file is read.
+pub record ReportsFound (IsFound : Finding → Type 0) (written0 written1 : Option (List ℕ)) (outcome : ReportResult)
+    : Type 0 where
+  pub printed : IfOk outcome (ReportsFinding IsFound written0 written1)
+  pub part : OnErr outcome (ReportsFindingPart IsFound written0 written1)
+  pub memory : outcome ≡ Err Memory → Appends written0 written1 []
+  pub not_read_fault : IfErr outcome (λ e. e ≢ Read)
+
 module _ {File : Type 0} (F : Opener File) where
-  -- `RunsValidateTree G context tree ..`: the report `validate-tree` of files with these names.
+  -- `CannotReadTree context tree fault`: the file of a GroupContext cannot be read, or it can and that of the tree cannot.
+  abbrev pub CannotReadTree : List ℕ → List ℕ → RunFault → Type 0
+  CannotReadTree context tree fault =
+      CannotReadFile F context fault
+      ⊎ ((bytes : List ℕ) × ReadsFile F context bytes × CannotReadFile F tree fault)
+
+  -- `RunsValidateTree G context tree ..`: files with these names were read, and the report `validate-tree` is about them.
   pub record RunsValidateTree (G : VerifyFn) (context tree : List ℕ)
       (written0 written1 : Option (List ℕ)) (outcome : ReportResult) : Type 0 where
-    pub context_opened : File
-    pub context_ended : File
-    pub tree_opened : File
-    pub tree_ended : File
-    pub context_given : F.gives context context_opened
-    pub tree_given : F.gives tree tree_opened
-    pub validated : IfOk outcome (ValidatesTree G (F.left context_opened) (F.left context_ended)
-        (F.left tree_opened) (F.left tree_ended) written0 written1)
-    pub part : OnErr outcome (ValidatesTreePart G (F.left context_opened) (F.left context_ended)
-        (F.left tree_opened) (F.left tree_ended) written0 written1)
-    pub memory : outcome ≡ Err Memory → Appends written0 written1 []
-    pub failed : (outcome ≡ Err Read)
-        ↔ ((F.is_failed context_ended ≡ true) ⊎ (F.is_failed tree_ended ≡ true))
+    pub context_bytes : List ℕ
+    pub tree_bytes : List ℕ
+    pub context_read : ReadsFile F context context_bytes
+    pub tree_read : ReadsFile F tree tree_bytes
+    pub reports : ReportsFound (IsTreeFinding G context_bytes tree_bytes) written0 written1 outcome
 
-  -- `ExecutesValidateTree G context tree ..`: the command `validate-tree` was executed, or a file cannot be opened.
+  -- `ExecutesValidateTree G context tree ..`: the command `validate-tree` was executed, or a file cannot be read.
   abbrev pub ExecutesValidateTree : VerifyFn → List ℕ → List ℕ → Option (List ℕ) → Option (List ℕ)
       → ReportResult → Type 0
   ExecutesValidateTree G context tree written0 written1 outcome =
-      CannotOpen F context written0 written1 outcome
-      ⊎ ((Opens F context × CannotOpen F tree written0 written1 outcome)
-      ⊎ RunsValidateTree G context tree written0 written1 outcome)
+      EndsUnread (CannotReadTree context tree) written0 written1 outcome
+      ⊎ RunsValidateTree G context tree written0 written1 outcome
 
-  -- `RunsValidate profile G info tree ..`: the report `validate` of files with these names, in the profile. That of the tree
-  -- is optional.
-  pub record RunsValidate (profile : Profile) (G : VerifyFn) (info : List ℕ) (tree : Option (List ℕ))
-      (written0 written1 : Option (List ℕ)) (outcome : ReportResult) : Type 0 where
-    pub info_opened : File
-    pub info_ended : File
-    pub tree_opened : Option File
-    pub tree_ended : Option File
-    pub info_given : F.gives info info_opened
-    pub tree_given : IsOpened F tree tree_opened
-    pub validated : IfOk outcome (Validates profile G (F.left info_opened) (F.left info_ended)
-        (option_map F.left tree_opened) (option_map F.left tree_ended) written0 written1)
-    pub part : OnErr outcome (ValidatesPart profile G (F.left info_opened) (F.left info_ended)
-        (option_map F.left tree_opened) (option_map F.left tree_ended) written0 written1)
-    pub memory : outcome ≡ Err Memory → Appends written0 written1 []
-    pub failed : (outcome ≡ Err Read)
-        ↔ ((F.is_failed info_ended ≡ true)
-        ⊎ (has_failed (option_map F.is_failed tree_ended) ≡ true))
-
-  -- `RunsValidateState G state ..`: the report `validate` of the file of a state with this name.
-  pub record RunsValidateState (G : VerifyFn) (state : List ℕ) (written0 written1 : Option (List ℕ)) (outcome : ReportResult)
-      : Type 0 where
-    pub opened : File
-    pub ended : File
-    pub given : F.gives state opened
-    pub validated : IfOk outcome (ValidatesState G (F.left opened) (F.left ended) written0 written1)
-    pub part : OnErr outcome (ValidatesStatePart G (F.left opened) (F.left ended) written0 written1)
-    pub memory : outcome ≡ Err Memory → Appends written0 written1 []
-    pub failed : (outcome ≡ Err Read) ↔ (F.is_failed ended ≡ true)
-
-  -- `ExecutesValidate G group ..`: the command `validate` was executed, or a file cannot be opened.
+  -- `ExecutesValidate G group ..`: the command `validate` was executed, or a file cannot be read.
   abbrev pub ExecutesValidate : VerifyFn → GroupFiles → Option (List ℕ) → Option (List ℕ) → ReportResult → Type 0
-  ExecutesValidate G (Info profile info tree) written0 written1 outcome =
-      CannotOpen F info written0 written1 outcome
-      ⊎ ((Opens F info × CannotOpenNamed F tree written0 written1 outcome)
-      ⊎ RunsValidate profile G info tree written0 written1 outcome)
-  ExecutesValidate G (State state) written0 written1 outcome =
-      CannotOpen F state written0 written1 outcome ⊎ RunsValidateState G state written0 written1 outcome
+  ExecutesValidate G group written0 written1 outcome =
+      RunsWithStartOrEnds F group (λ i. ReportsFound (IsFindingOf G i) written0 written1 outcome)
+      written0 written1 outcome
 
   -- ---- a replay, and the state after it
 
@@ -146,168 +120,66 @@ module _ {File : Type 0} (F : Opener File) where
   EndsReplay save Whole Part is_failed outcome =
       EndsWhole save Whole is_failed outcome ⊎ EndsPart Part is_failed outcome
 
-  -- `RunsReplay profile G info tree files ..`: the report `replay` of files with these names, in the profile. That of the
-  -- tree is optional.
-  pub record RunsReplay (profile : Profile) (G : VerifyFn) (info : List ℕ) (tree : Option (List ℕ)) (files : ReplayFiles)
-      (written0 written1 : Option (List ℕ)) (is_failed : Bool) (outcome : ReportResult) : Type 0 where
-    pub info_opened : File
-    pub info_ended : File
-    pub tree_opened : Option File
-    pub tree_ended : Option File
-    pub log_opened : File
-    pub log_ended : File
-    pub info_given : F.gives info info_opened
-    pub tree_given : IsOpened F tree tree_opened
-    pub log_given : F.gives files.log log_opened
-    pub replayed : EndsReplay files.save
-        (ReplaysGroupTo profile G (F.left info_opened) (F.left info_ended)
-        (option_map F.left tree_opened) (option_map F.left tree_ended)
-        (F.left log_opened) (F.left log_ended) written0 written1)
-        (ReplaysPart profile G (F.left info_opened) (F.left info_ended)
-        (option_map F.left tree_opened) (option_map F.left tree_ended)
-        (F.left log_opened) (F.left log_ended) written0 written1)
-        is_failed outcome
-    pub failed : (outcome ≡ Err Read)
-        ↔ ((F.is_failed info_ended ≡ true)
-        ⊎ ((has_failed (option_map F.is_failed tree_ended) ≡ true)
-        ⊎ (F.is_failed log_ended ≡ true)))
-
-  -- `RunsReplayState G state files ..`: the report `replay` from the file of a state with this name.
-  pub record RunsReplayState (G : VerifyFn) (state : List ℕ) (files : ReplayFiles) (written0 written1 : Option (List ℕ))
+  -- `RunsReplay G i files ..`: the log was opened, and the report `replay` was made of it.
+  pub record RunsReplay (G : VerifyFn) (i : Inputs) (files : ReplayFiles) (written0 written1 : Option (List ℕ))
       (is_failed : Bool) (outcome : ReportResult) : Type 0 where
-    pub state_opened : File
-    pub state_ended : File
-    pub log_opened : File
-    pub log_ended : File
-    pub state_given : F.gives state state_opened
-    pub log_given : F.gives files.log log_opened
+    pub opened : File
+    pub ended : File
+    pub given : F.gives files.log opened
     pub replayed : EndsReplay files.save
-        (ReplaysStateTo G (F.left state_opened) (F.left state_ended) (F.left log_opened) (F.left log_ended) written0 written1)
-        (ReplaysStatePart G (F.left state_opened) (F.left state_ended) (F.left log_opened) (F.left log_ended) written0 written1)
+        (Replays G i (F.left opened) (F.left ended) written0 written1)
+        (ReplaysPart G i (F.left opened) (F.left ended) written0 written1)
         is_failed outcome
-    pub failed : (outcome ≡ Err Read)
-        ↔ ((F.is_failed state_ended ≡ true) ⊎ (F.is_failed log_ended ≡ true))
+    pub failed : (outcome ≡ Err Read) ↔ (F.is_failed ended ≡ true)
 
-  -- `ExecutesReplay G group files ..`: the command `replay` was executed, or a file cannot be opened.
+  -- `ExecutesReplay G group files ..`: the command `replay` was executed, or a file cannot be read or opened.
   abbrev pub ExecutesReplay : VerifyFn → GroupFiles → ReplayFiles → Option (List ℕ) → Option (List ℕ) → Bool → ReportResult
       → Type 0
-  ExecutesReplay G (Info profile info tree) files written0 written1 is_failed outcome =
-      CannotOpen F info written0 written1 outcome
-      ⊎ ((Opens F info × CannotOpenNamed F tree written0 written1 outcome)
-      ⊎ ((Opens F info × OpensNamed F tree × CannotOpen F files.log written0 written1 outcome)
-      ⊎ RunsReplay profile G info tree files written0 written1 is_failed outcome))
-  ExecutesReplay G (State state) files written0 written1 is_failed outcome =
-      CannotOpen F state written0 written1 outcome
-      ⊎ ((Opens F state × CannotOpen F files.log written0 written1 outcome)
-      ⊎ RunsReplayState G state files written0 written1 is_failed outcome)
+  ExecutesReplay G group files written0 written1 is_failed outcome =
+      RunsWithStartOrEnds F group
+      (λ i. CannotOpen F files.log written0 written1 outcome ⊎ RunsReplay G i files written0 written1 is_failed outcome)
+      written0 written1 outcome
 
-  -- `RunsSignatures profile G info tree log ..`: the report `signatures` of files with these names, in the profile. Those of
-  -- the tree and of the log are optional.
-  pub record RunsSignatures (profile : Profile) (G : VerifyFn) (info : List ℕ) (tree log : Option (List ℕ))
-      (written0 written1 : Option (List ℕ)) (outcome : ReportResult) : Type 0 where
-    pub info_opened : File
-    pub info_ended : File
-    pub tree_opened : Option File
-    pub tree_ended : Option File
-    pub log_opened : Option File
-    pub log_ended : Option File
-    pub info_given : F.gives info info_opened
-    pub tree_given : IsOpened F tree tree_opened
-    pub log_given : IsOpened F log log_opened
-    pub printed : IfOk outcome (signatures.Signatures profile G (F.left info_opened) (F.left info_ended)
-        (option_map F.left tree_opened) (option_map F.left tree_ended)
-        (option_map F.left log_opened) (option_map F.left log_ended) written0 written1)
-    pub part : IfErr outcome (SignaturesPart profile G (F.left info_opened) (F.left info_ended)
-        (option_map F.left tree_opened) (option_map F.left tree_ended)
-        (option_map F.left log_opened) (option_map F.left log_ended) written0 written1)
-    pub failed : (outcome ≡ Err Read)
-        ↔ ((F.is_failed info_ended ≡ true)
-        ⊎ ((has_failed (option_map F.is_failed tree_ended) ≡ true)
-        ⊎ (has_failed (option_map F.is_failed log_ended) ≡ true)))
+  -- ---- the other commands
 
-  -- `RunsStateSignatures G state log ..`: the report `signatures` from the file of a state, of files with these names. That
-  -- of the log is optional.
-  pub record RunsStateSignatures (G : VerifyFn) (state : List ℕ) (log : Option (List ℕ))
-      (written0 written1 : Option (List ℕ)) (outcome : ReportResult) : Type 0 where
-    pub state_opened : File
-    pub state_ended : File
-    pub log_opened : Option File
-    pub log_ended : Option File
-    pub state_given : F.gives state state_opened
-    pub log_given : IsOpened F log log_opened
-    pub reported : IfOk outcome (SignaturesState G (F.left state_opened) (F.left state_ended)
-        (option_map F.left log_opened) (option_map F.left log_ended) written0 written1)
-    pub part : IfErr outcome (SignaturesStatePart G (F.left state_opened) (F.left state_ended)
-        (option_map F.left log_opened) (option_map F.left log_ended) written0 written1)
-    pub failed : (outcome ≡ Err Read)
-        ↔ ((F.is_failed state_ended ≡ true) ⊎ (has_failed (option_map F.is_failed log_ended) ≡ true))
+  -- `RunsSignatures G i log ..`: the log was opened, if one is named, and the report `signatures` was made of it.
+  pub record RunsSignatures (G : VerifyFn) (i : Inputs) (log : Option (List ℕ)) (written0 written1 : Option (List ℕ))
+      (outcome : ReportResult) : Type 0 where
+    pub opened : Option File
+    pub ended : Option File
+    pub given : IsOpened F log opened
+    pub printed : IfOk outcome (signatures.Signatures G i
+        (option_map F.left opened) (option_map F.left ended) written0 written1)
+    pub part : IfErr outcome (SignaturesPart G i
+        (option_map F.left opened) (option_map F.left ended) written0 written1)
+    pub failed : (outcome ≡ Err Read) ↔ (has_failed (option_map F.is_failed ended) ≡ true)
 
-  -- `ExecutesSignatures G group log ..`: the command `signatures` was executed, or a file cannot be opened. G is the
+  -- `ExecutesSignatures G group log ..`: the command `signatures` was executed, or a file cannot be read or opened. G is the
   -- verification function of the receipts.
   abbrev pub ExecutesSignatures : VerifyFn → GroupFiles → Option (List ℕ)
       → Option (List ℕ) → Option (List ℕ) → ReportResult → Type 0
-  ExecutesSignatures G (Info profile info tree) log written0 written1 outcome =
-      CannotOpen F info written0 written1 outcome
-      ⊎ ((Opens F info × CannotOpenNamed F tree written0 written1 outcome)
-      ⊎ ((Opens F info × OpensNamed F tree × CannotOpenNamed F log written0 written1 outcome)
-      ⊎ RunsSignatures profile G info tree log written0 written1 outcome))
-  ExecutesSignatures G (State state) log written0 written1 outcome =
-      CannotOpen F state written0 written1 outcome
-      ⊎ ((Opens F state × CannotOpenNamed F log written0 written1 outcome)
-      ⊎ RunsStateSignatures G state log written0 written1 outcome)
+  ExecutesSignatures G group log written0 written1 outcome =
+      RunsWithStartOrEnds F group
+      (λ i. CannotOpenNamed F log written0 written1 outcome ⊎ RunsSignatures G i log written0 written1 outcome)
+      written0 written1 outcome
 
-  -- `RunsGate profile G info tree ..`: the report `gate` of files with these names and of standard input, which has the
-  -- records, in the profile. The file of the tree is optional.
-  pub record RunsGate (profile : Profile) (G : VerifyFn) (info : List ℕ) (tree : Option (List ℕ))
-      (written0 written1 : Option (List ℕ)) (outcome : ReportResult) : Type 0 where
-    pub info_opened : File
-    pub info_ended : File
-    pub tree_opened : Option File
-    pub tree_ended : Option File
-    pub records_opened : File
-    pub records_ended : File
-    pub info_given : F.gives info info_opened
-    pub tree_given : IsOpened F tree tree_opened
-    pub records_given : F.gives stdin records_opened
-    pub printed : IfOk outcome (Gates profile G (F.left info_opened) (F.left info_ended)
-        (option_map F.left tree_opened) (option_map F.left tree_ended)
-        (F.left records_opened) (F.left records_ended) written0 written1)
-    pub part : IfErr outcome (GatesPart profile G (F.left info_opened) (F.left info_ended)
-        (option_map F.left tree_opened) (option_map F.left tree_ended)
-        (F.left records_opened) (F.left records_ended) written0 written1)
-    pub failed : (outcome ≡ Err Read)
-        ↔ ((F.is_failed info_ended ≡ true)
-        ⊎ ((has_failed (option_map F.is_failed tree_ended) ≡ true)
-        ⊎ (F.is_failed records_ended ≡ true)))
-
-  -- `RunsGateState G state ..`: the report `gate` from the file of a state with this name, and of standard input.
-  pub record RunsGateState (G : VerifyFn) (state : List ℕ) (written0 written1 : Option (List ℕ)) (outcome : ReportResult)
+  -- `RunsGate G i ..`: standard input, which has the records, was opened, and the report `gate` was made of it.
+  pub record RunsGate (G : VerifyFn) (i : Inputs) (written0 written1 : Option (List ℕ)) (outcome : ReportResult)
       : Type 0 where
-    pub state_opened : File
-    pub state_ended : File
-    pub records_opened : File
-    pub records_ended : File
-    pub state_given : F.gives state state_opened
-    pub records_given : F.gives stdin records_opened
-    pub printed : IfOk outcome (GatesState G (F.left state_opened) (F.left state_ended)
-        (F.left records_opened) (F.left records_ended) written0 written1)
-    pub part : IfErr outcome (GatesStatePart G (F.left state_opened) (F.left state_ended)
-        (F.left records_opened) (F.left records_ended) written0 written1)
-    pub failed : (outcome ≡ Err Read)
-        ↔ ((F.is_failed state_ended ≡ true) ⊎ (F.is_failed records_ended ≡ true))
+    pub opened : File
+    pub ended : File
+    pub given : F.gives stdin opened
+    pub printed : IfOk outcome (Gates G i (F.left opened) (F.left ended) written0 written1)
+    pub part : IfErr outcome (GatesPart G i (F.left opened) (F.left ended) written0 written1)
+    pub failed : (outcome ≡ Err Read) ↔ (F.is_failed ended ≡ true)
 
-  -- `ExecutesGate G group ..`: the command `gate` was executed, or a file cannot be opened. G is the verification
+  -- `ExecutesGate G group ..`: the command `gate` was executed, or a file cannot be read or opened. G is the verification
   -- function of what is known to be good at first.
   abbrev pub ExecutesGate : VerifyFn → GroupFiles → Option (List ℕ) → Option (List ℕ) → ReportResult → Type 0
-  ExecutesGate G (Info profile info tree) written0 written1 outcome =
-      CannotOpen F info written0 written1 outcome
-      ⊎ ((Opens F info × CannotOpenNamed F tree written0 written1 outcome)
-      ⊎ ((Opens F info × OpensNamed F tree × CannotOpen F stdin written0 written1 outcome)
-      ⊎ RunsGate profile G info tree written0 written1 outcome))
-  ExecutesGate G (State state) written0 written1 outcome =
-      CannotOpen F state written0 written1 outcome
-      ⊎ ((Opens F state × CannotOpen F stdin written0 written1 outcome)
-      ⊎ RunsGateState G state written0 written1 outcome)
+  ExecutesGate G group written0 written1 outcome =
+      RunsWithStartOrEnds F group
+      (λ i. CannotOpen F stdin written0 written1 outcome ⊎ RunsGate G i written0 written1 outcome)
+      written0 written1 outcome
 
   -- `RunsCheck k name ..`: the report `check` of a file with this name.
   pub record RunsCheck (k : CheckKind) (name : List ℕ) (written0 written1 : Option (List ℕ))

@@ -1,4 +1,5 @@
 pub mod Execution
+pub mod GroupStarts
 pub mod ProgramCheckers
 pub mod ProgramCheckersInternal
 pub mod CheckerFaults

@@ -5,11 +5,11 @@ use Rattle.mls_wire.specs.Devices.{AppendsPrefix}
 use Rattle.mls_check.specs.Receipts.{listed, IsReceipts, IsReceiptsFault}
 use Rattle.mls_check.specs.Signatures.{VerifyFn}
 use Rattle.mls_check.specs.declared.receipts.ReceiptsFault.{ReceiptsFault}
-use Rattle.mls_program.specs.Files.{Opener, ReadsFile, CannotReadFile}
+use Rattle.mls_program.specs.Files.{Opener, ReadsFile, CannotReadFile, EndsUnread}
 use Rattle.mls_program.specs.ReportResult.{ReportResult}
 use Rattle.mls_commands.specs.declared.order.CheckerChoice.{CheckerChoice}
 use Rattle.mls_commands.specs.declared.order.CheckerChoice.TheVariants as checker
-use Rattle.mls_audit.specs.UnreadableReceipts.{ReportsReceipts, receipts_line}
+use Rattle.mls_report.specs.UnreadableReceipts.{ReportsReceipts, receipts_line}
 use Rattle.mls_show.specs.declared.verdict.RunFault.{RunFault}
 use Rattle.mls_show.specs.declared.verdict.RunFault.TheVariants.{Read, Write, Memory}
 
@@ -46,14 +46,6 @@ module _ {File : Type 0} (F : Opener File) where
   RefusesReceipts (checker.Receipts name) fault = IsUnlisted name fault
   RefusesReceipts checker.NoReceipts fault = ⊥
 
-  -- `EndsUnread c ..`: there is no report, as the receipts file cannot be read. Nothing is written.
-  pub record EndsUnread (c : CheckerChoice) (written0 written1 : Option (List ℕ))
-      (outcome : ReportResult) : Type 0 where
-    pub fault : RunFault
-    pub lost : CannotReadReceipts c fault
-    pub outcome_is : outcome ≡ Err fault
-    pub wrote : Appends written0 written1 []
-
   -- `EndsRefused c ..`: the receipts file is bad, which is all that is reported. `is_failed` is whether the output has
   -- failed.
   pub record EndsRefused (c : CheckerChoice) (written0 written1 : Option (List ℕ)) (is_failed : Bool)
@@ -77,5 +69,5 @@ module _ {File : Type 0} (F : Opener File) where
   abbrev pub RunsWithCheckerOrEnds : CheckerChoice → (VerifyFn → Type 0) → Option (List ℕ) → Option (List ℕ)
       → Bool → ReportResult → Type 0
   RunsWithCheckerOrEnds c P written0 written1 is_failed outcome =
-      EndsUnread c written0 written1 outcome
+      EndsUnread (CannotReadReceipts c) written0 written1 outcome
       ⊎ (EndsRefused c written0 written1 is_failed outcome ⊎ RunsWithChecker c P)

@@ -1,35 +1,17 @@
-//! Reading a receipts file.
+//! The checker of a choice on the command line: a receipts file is read.
 
 ghost use Rattle.std.specs.Prelude.{IfOk, IfErr};
-ghost use Rattle.mls_program.specs.Files.{opener, ReadsFile, CannotReadFile};
 ghost use Rattle.mls_cli.specs.ProgramCheckers.{IsMeaning};
 ghost use Rattle.mls_cli.specs.ProgramCheckersInternal.{checker_verify};
 ghost use Rattle.mls_cli.specs.CheckerFaults.{IsCheckerFault};
 ghost use Rattle.mls_commands.specs.declared.order.CheckerChoice.TheVariants as choices;
 
 use crate::program_checker::{CheckerFault, ProgramChecker};
+use crate::read_files::read_file;
 use mls_check::Receipts;
 use mls_commands::{CheckerChoice, FileName};
 use mls_program::Files;
-use mls_report::{RunFault, read_all};
 use std::alloc::Global;
-
-/// Returns the bytes of a file.
-fn read_file<F: Files>(alloc: Global, file: &FileName, files: &F) -> Result<Vec<u8>, RunFault>
-    ensures all { IfOk result (λ bytes. ReadsFile
-        (opener (F.gives files.now) (F.lacks files.now) (F.stores files.now) (F.refuses files.now)
-        F.File.left F.File.is_failed)
-        file.now bytes.items) }
-    ensures lost { IfErr result (CannotReadFile
-        (opener (F.gives files.now) (F.lacks files.now) (F.stores files.now) (F.refuses files.now)
-        F.File.left F.File.is_failed)
-        file.now) }
-{
-    let Some(mut input) = files.open(file.as_str()) else {
-        return Err(RunFault::Read);
-    };
-    read_all(alloc, &mut input)
-}
 
 /// Returns the checker of a receipts file.
 fn read_listed<F: Files>(
@@ -37,14 +19,9 @@ fn read_listed<F: Files>(
     file: &FileName,
     files: &F,
 ) -> Result<ProgramChecker, CheckerFault>
-    ensures verifier { IfOk result (λ verifier. IsMeaning
-        (opener (F.gives files.now) (F.lacks files.now) (F.stores files.now) (F.refuses files.now)
-        F.File.left F.File.is_failed)
-        (choices.Receipts file.now) (checker_verify verifier)) }
-    ensures fault { IfErr result (IsCheckerFault
-        (opener (F.gives files.now) (F.lacks files.now) (F.stores files.now) (F.refuses files.now)
-        F.File.left F.File.is_failed)
-        (choices.Receipts file.now)) }
+    ensures checker { IfOk result (λ checker.
+        IsMeaning (F.opener files.now) (choices.Receipts file.now) (checker_verify checker)) }
+    ensures fault { IfErr result (IsCheckerFault (F.opener files.now) (choices.Receipts file.now)) }
 {
     let bytes = match read_file(alloc, file, files) {
         Ok(bytes) => bytes,
@@ -57,19 +34,14 @@ fn read_listed<F: Files>(
 }
 
 /// Returns the checker of a choice. A receipts file is read.
-pub(crate) fn read_judge<F: Files>(
+pub(crate) fn load_checker<F: Files>(
     alloc: Global,
     checker: &CheckerChoice,
     files: &F,
 ) -> Result<ProgramChecker, CheckerFault>
-    ensures verifier { IfOk result (λ verifier. IsMeaning
-        (opener (F.gives files.now) (F.lacks files.now) (F.stores files.now) (F.refuses files.now)
-        F.File.left F.File.is_failed)
-        checker.now (checker_verify verifier)) }
-    ensures fault { IfErr result (IsCheckerFault
-        (opener (F.gives files.now) (F.lacks files.now) (F.stores files.now) (F.refuses files.now)
-        F.File.left F.File.is_failed)
-        checker.now) }
+    ensures checker { IfOk result
+        (λ c. IsMeaning (F.opener files.now) checker.now (checker_verify c)) }
+    ensures fault { IfErr result (IsCheckerFault (F.opener files.now) checker.now) }
 {
     match checker {
         CheckerChoice::Trust => Ok(ProgramChecker::All),

@@ -1,7 +1,6 @@
 //! The program, except what opens real files and ends the process.
 
 ghost use Rattle.std.specs.Prelude.{◌≡◌, false, map, string_bytes};
-ghost use Rattle.mls_program.specs.Files.{opener};
 ghost use Rattle.mls_cli.specs.Program.{EndsOrder, RunsProgram};
 
 use crate::execution::execute_order;
@@ -20,9 +19,7 @@ fn run_order<F: Files, K: Sink, N: Sink>(
 ) -> u8
     requires out { K.is_failed out.old ≡ false }
     requires notes { N.is_failed notes.old ≡ false }
-    ensures { EndsOrder
-        (opener (F.gives files.now) (F.lacks files.now) (F.stores files.now) (F.refuses files.now)
-        F.File.left F.File.is_failed)
+    ensures { EndsOrder (F.opener files.now)
         (K.written out.old) (K.written out.new) (K.is_failed out.new)
         (N.written notes.old) (N.written notes.new) (N.is_failed notes.new) result order.now }
 {
@@ -44,9 +41,7 @@ pub fn run_program<F: Files, K: Sink, N: Sink>(
 ) -> u8
     requires out { K.is_failed out.old ≡ false }
     requires notes { N.is_failed notes.old ≡ false }
-    ensures { RunsProgram
-        (opener (F.gives files.now) (F.lacks files.now) (F.stores files.now) (F.refuses files.now)
-        F.File.left F.File.is_failed)
+    ensures { RunsProgram (F.opener files.now)
         (K.written out.old) (K.written out.new) (K.is_failed out.new)
         (N.written notes.old) (N.written notes.new) (N.is_failed notes.new) result
         (map string_bytes words.now) }

@@ -10,7 +10,7 @@ use clap::{Arg, ArgAction, Command};
 use std::alloc::{AllocError, Global};
 
 /// The program's version.
-const VERSION: &str = "0.1.0";
+const VERSION: &str = "0.2.0";
 
 /// What help says of files, and of the exit status.
 const STATUSES: &str = "\
@@ -20,7 +20,7 @@ Exit status:
   0  yes, or help is shown
   1  no: something can't be read, is refused, or is broken off
   2  the command line is none of these forms
-  3  a fault of reading, of writing, or of memory
+  3  a fault of reading, of writing, or of memory: standard error says of what
 
 Example:
   mlscheck show tree examples/one-leaf.tree";
@@ -31,41 +31,107 @@ const SIGNATURES: &str = "Signatures (give one of these)";
 /// The heading of `--trust` and `--receipts` in help if neither need be given.
 const KNOWN_SIGNATURES: &str = "Signatures (give one of these, or none)";
 
+const SHOW_USAGE: &str = "\
+mlscheck show (tree | info) <FILE>
+       mlscheck show message <FILE> [--profile <PROFILE>]";
+
 const SHOW_HELP: &str = "\
+In the members profile a message has proposals to add, update and remove members
+and to change the extensions, in the full profile also those for pre-shared
+keys, ReInit and external joins.
+
+Exit status: 0 if it is shown, 1 if the file doesn't hold that, 2 for a wrong
+command line, 3 for a fault of reading, writing or memory.
+
 Example:
   mlscheck show tree examples/one-leaf.tree";
 
+const VALIDATE_TREE_USAGE: &str = "\
+mlscheck validate-tree --context <FILE> --tree <FILE>
+           (--trust | --receipts <FILE>)";
+
 const VALIDATE_TREE_HELP: &str = "\
+A receipt says that a signature is good. mlscheck signatures prints each
+signature to verify with its receipt; write the receipts of the good ones in a
+file, each in a line (as examples/receipts.py does).
+
+Exit status: 0 if the tree is valid, 1 if not, 2 for a wrong command line, 3 for
+a fault of reading, writing or memory.
+
 Example:
   mlscheck validate-tree --context examples/one-leaf.context \\
       --tree examples/one-leaf.tree --trust";
 
+const VALIDATE_USAGE: &str = "\
+mlscheck validate
+           (--info <FILE> [--tree <FILE>] [--profile <PROFILE>] | --state <FILE>)
+           (--trust | --receipts <FILE>)";
+
 const VALIDATE_HELP: &str = "\
-A group is followed from a GroupInfo, or from the file of a state.
+A group is followed from a GroupInfo, or from the file of a state, which names
+its profile. The full profile also has pre-shared keys, ReInit and external
+joins.
+
+A receipt says that a signature is good. mlscheck signatures prints each
+signature to verify with its receipt; write the receipts of the good ones in a
+file, each in a line (as examples/receipts.py does).
+
+Exit status: 0 if the group can be followed, 1 if not, 2 for a wrong command
+line, 3 for a fault of reading, writing or memory.
 
 Example:
   mlscheck validate --info examples/one-leaf.info --trust";
 
+const REPLAY_USAGE: &str = "\
+mlscheck replay
+           (--info <FILE> [--tree <FILE>] [--profile <PROFILE>] | --state <FILE>)
+           --log <FILE> [--save <FILE>] (--trust | --receipts <FILE>)";
+
 const REPLAY_HELP: &str = "\
-A group is followed from a GroupInfo, or from the file of a state. With --save
-the state after the log is stored, after the report. A file of that name is
-replaced.
+A group is followed from a GroupInfo, or from the file of a state, which names
+its profile. The full profile also has pre-shared keys, ReInit and external
+joins. With --save the state after the log is stored, after the report. A file
+of that name is replaced; what is no regular file is refused.
+
+A receipt says that a signature is good. mlscheck signatures prints each
+signature to verify with its receipt; write the receipts of the good ones in a
+file, each in a line (as examples/receipts.py does).
+
+Exit status: 0 if each message is accepted, 1 if not, 2 for a wrong command
+line, 3 for a fault of reading, writing or memory.
 
 Example:
   mlscheck replay --info examples/real/epoch-1.info --log examples/real/handshakes.log \\
       --receipts examples/real/receipts.txt";
 
+const SIGNATURES_USAGE: &str = "\
+mlscheck signatures
+           (--info <FILE> [--tree <FILE>] [--profile <PROFILE>] | --state <FILE>)
+           [--log <FILE>] [--receipts <FILE>]";
+
 const SIGNATURES_HELP: &str = "\
 Prints a line for each signature that has to be verified and has no receipt:
   RECEIPT SUITE KEY CONTENT SIGNATURE
-If the signature is good, RECEIPT is its line in the list of good signatures.
-A group is followed from a GroupInfo, or from the file of a state. A log is
-processed as if each signature were good: give one whose messages another party
-has accepted, or remove the messages that a first replay refuses.
+If the signature is good, RECEIPT is its line in the list of good signatures
+(examples/receipts.py verifies the signatures and writes the list).
+A group is followed from a GroupInfo, or from the file of a state, which names
+its profile. The full profile also has pre-shared keys, ReInit and external
+joins. A log is processed as if each signature were good: give one whose
+messages another party has accepted, or remove the messages that a first replay
+refuses.
+
+Exit status: 0 if each message can be read, 1 if not or if the group can't be
+followed, 2 for a wrong command line, 3 for a fault of reading, writing or
+memory.
 
 Example:
   mlscheck signatures --info examples/real/epoch-1.info \\
       --log examples/real/handshakes.log";
+
+const GATE_USAGE: &str = "\
+mlscheck gate
+           (--info <FILE> [--tree <FILE>] [--profile <PROFILE>] | --state <FILE>)
+           [--trust | --receipts <FILE>]";
 
 const GATE_HELP: &str = "\
 Standard input is a sequence of records: a length, a letter, and what belongs to
@@ -75,12 +141,25 @@ the letter. Each record is answered before the next is read:
   q MESSAGE   print the signatures of the message that are not known to be good
   m MESSAGE   process the message
   s           print the state
-Without --trust and --receipts no signature is known to be good at first.
+A receipt is the first word of the line of a signature, in bytes. Without
+--trust and --receipts no signature is known to be good at first.
+A group is followed from a GroupInfo, or from the file of a state, which names
+its profile. The full profile also has pre-shared keys, ReInit and external
+joins.
+
+Exit status: 0 if the input ends after b and a whole record, 1 if the group
+can't be followed or a record is broken, 2 for a wrong command line, 3 for a
+fault of reading, writing or memory.
 
 Example:
   mlscheck gate --info examples/one-leaf.info --trust < /dev/null";
 
+const CHECK_USAGE: &str = "mlscheck check <KIND> <FILE>";
+
 const CHECK_HELP: &str = "\
+Exit status: 0 if no vector fails, 1 if one does or the file holds no vectors, 2
+for a wrong command line, 3 for a fault of reading, writing or memory.
+
 Example:
   mlscheck check tree-math examples/tree-math.json";
 
@@ -132,11 +211,20 @@ fn headed<'a>(arg: Arg<'a>, heading: &'a str) -> Arg<'a>
     arg.help_heading(heading)
 }
 
-/// Returns a command with this name, and what help says of it and below it.
-fn titled<'a>(alloc: Global, name: &'a str, about: &'a str, below: &'a str) -> Command<'a>
+/// Returns a command with this name, its usage, and what help says of it and below it.
+fn titled<'a>(
+    alloc: Global,
+    name: &'a str,
+    usage: &'a str,
+    about: &'a str,
+    below: &'a str,
+) -> Command<'a>
     ensures { HasApp (new_app name.entry.now) result }
 {
-    Command::new(alloc, name).about(about).after_help(below)
+    Command::new(alloc, name)
+        .override_usage(usage)
+        .about(about)
+        .after_help(below)
 }
 
 /// Adds an argument to the command, after the others, if the command could be made.
@@ -173,7 +261,8 @@ fn with_words<'a>(
 fn show_command<'a>(alloc: Global) -> Result<Command<'a>, AllocError>
     ensures { MakesApp show_app result }
 {
-    let command = Ok(titled(alloc, "show", "Prints what a file holds", SHOW_HELP));
+    let about = "Prints what a file holds";
+    let command = Ok(titled(alloc, "show", SHOW_USAGE, about, SHOW_HELP));
     let command = with_words(alloc, command, "What the file holds: tree, info or message");
     let help = "The profile of a message: members, which is the default, or full";
     with(command, valued(alloc, "profile", "PROFILE", help))
@@ -198,7 +287,13 @@ fn validate_tree_command<'a>(alloc: Global) -> Result<Command<'a>, AllocError>
     ensures { MakesApp validate_tree_app result }
 {
     let about = "Checks a ratchet tree against a GroupContext";
-    let command = Ok(titled(alloc, "validate-tree", about, VALIDATE_TREE_HELP));
+    let command = Ok(titled(
+        alloc,
+        "validate-tree",
+        VALIDATE_TREE_USAGE,
+        about,
+        VALIDATE_TREE_HELP,
+    ));
     let context = needed(alloc, "context", "The path of the GroupContext");
     let command = with(command, context);
     let tree = needed(alloc, "tree", "The path of the ratchet tree");
@@ -237,7 +332,7 @@ fn validate_command<'a>(alloc: Global) -> Result<Command<'a>, AllocError>
     ensures { MakesApp validate_app result }
 {
     let about = "Checks the GroupInfo or the state of a group";
-    let command = Ok(titled(alloc, "validate", about, VALIDATE_HELP));
+    let command = Ok(titled(alloc, "validate", VALIDATE_USAGE, about, VALIDATE_HELP));
     let command = with_group(alloc, command);
     with_checker(alloc, command, SIGNATURES)
 }
@@ -248,7 +343,7 @@ fn replay_command<'a>(alloc: Global) -> Result<Command<'a>, AllocError>
     ensures { MakesApp replay_app result }
 {
     let about = "Follows a group through a log of its handshakes";
-    let command = Ok(titled(alloc, "replay", about, REPLAY_HELP));
+    let command = Ok(titled(alloc, "replay", REPLAY_USAGE, about, REPLAY_HELP));
     let command = with_group(alloc, command);
     let log = needed(
         alloc,
@@ -271,7 +366,13 @@ fn signatures_command<'a>(alloc: Global) -> Result<Command<'a>, AllocError>
     ensures { MakesApp signatures_app result }
 {
     let about = "Prints the signatures to verify of a group's start and its handshakes";
-    let command = Ok(titled(alloc, "signatures", about, SIGNATURES_HELP));
+    let command = Ok(titled(
+        alloc,
+        "signatures",
+        SIGNATURES_USAGE,
+        about,
+        SIGNATURES_HELP,
+    ));
     let command = with_group(alloc, command);
     let log = file(
         alloc,
@@ -289,7 +390,7 @@ fn gate_command<'a>(alloc: Global) -> Result<Command<'a>, AllocError>
     ensures { MakesApp gate_app result }
 {
     let about = "Follows a group live, and says which signatures to verify";
-    let command = Ok(titled(alloc, "gate", about, GATE_HELP));
+    let command = Ok(titled(alloc, "gate", GATE_USAGE, about, GATE_HELP));
     let command = with_group(alloc, command);
     with_checker(alloc, command, KNOWN_SIGNATURES)
 }
@@ -299,7 +400,7 @@ fn check_command<'a>(alloc: Global) -> Result<Command<'a>, AllocError>
     ensures { MakesApp check_app result }
 {
     let about = "Checks the test vectors of a file";
-    let command = Ok(titled(alloc, "check", about, CHECK_HELP));
+    let command = Ok(titled(alloc, "check", CHECK_USAGE, about, CHECK_HELP));
     let help = "What the vectors check: tree-math, tree-validation, tree-operations or transcript";
     with_words(alloc, command, help)
 }

@@ -38,10 +38,10 @@ use Rattle.mls_apply.specs.AppliedList.{AppliedTree, outcome}
 use Rattle.mls_apply.specs.ContextExtensions as extensions
 use Rattle.mls_apply.specs.ProposalRules.{fits_group, is_package_signed, is_valid_add, fits_leaf, is_valid_update, is_valid_update_by, valid_if_add, valid_if_update, holds_if_by_value, all_inline}
 use Rattle.mls_apply.specs.JoinRules.{path_of_join, join_items}
-use Rattle.mls_apply.specs.RuleLists.{Rule, rule, first_failing, map_refusals}
+use Rattle.mls_apply.specs.RuleLists.{Rule, rule, first_failing}
 use Rattle.mls_apply.proofs.RuleLists.{AreKept, first_failing-right, passed, passed_both, refused}
 use Rattle.mls_follow.specs.State.{State}
-use Rattle.mls_follow.specs.MessageRules.{refusal_of, is_frame_signed, proposal_message_rules, member_rules, tree_rules, CommitterTree, committer_tree, resulting, path_rules_of, committer_tree_rules, required_after, rules_with_requirements, inline_rules, proposal_list_rules, commit_rules, content_rules, leaf_rules, signed_proposal_rules, outside_content_rules, outside_rules, external_commit_rules, signed_commit_rules, joiner_rules, if_full, sender_rules, frame_rules, message_rules}
+use Rattle.mls_follow.specs.MessageRules.{is_frame_signed, proposal_message_rules, member_rules, tree_rules, CommitterTree, committer_tree, resulting, path_rules_of, committer_tree_rules, required_after, rules_with_requirements, inline_rules, proposal_list_rules, commit_rules, content_rules, leaf_rules, signed_proposal_rules, outside_content_rules, outside_rules, external_commit_rules, signed_commit_rules, joiner_rules, if_full, sender_rules, frame_rules, message_rules}
 use Rattle.mls_follow.specs.Start.{is_info_signed}
 use Rattle.mls_follow.specs.RisingRuns.{AcceptancesStay, StartsStay}
 use Rattle.mls_follow.proofs.SignatureAgreement.{text_stays, leaf_stays, members_stay}
@@ -192,7 +192,7 @@ module _ (G K : VerifyFn) (more : Extends G K) (s : State) where
     items_stay : (i : ℕ) (c : Commit) (o : Option (List ListItem)) → AreKept (proposal_list_rules G s required i c o) → AreKept (proposal_list_rules K s required i c o)
     items_stay i c None h = h
     items_stay i c (Some items) h =
-        let of_list = map_refusals refusal_of (list_rules (senders.Member i) items (is_some c.path)) in
+        let of_list = list_rules (senders.Member i) items (is_some c.path) in
         let after = required_after required (extensions.proposed_extensions items) in
         let under_G = rules_with_requirements G s (senders.Member i) c.path (outcome items s.tree) after in
         let under_K = rules_with_requirements K s (senders.Member i) c.path (outcome items s.tree) after in
@@ -205,7 +205,7 @@ module _ (G K : VerifyFn) (more : Extends G K) (s : State) where
     externals_stay : (c : Commit) → AreKept (external_commit_rules G s required c) → AreKept (external_commit_rules K s required c)
     externals_stay c =
         let items = join_items c.proposals in
-        let of_list = map_refusals refusal_of (path_of_join s.context s.tree c.proposals c.path) in
+        let of_list = path_of_join s.context s.tree c.proposals c.path in
         let after = required_after required (extensions.proposed_extensions items) in
         let under_G = rules_with_requirements G s senders.NewMemberCommit c.path (outcome items s.tree) after in
         let under_K = rules_with_requirements K s senders.NewMemberCommit c.path (outcome items s.tree) after in

@@ -7,13 +7,13 @@ use Rattle.mls_msgs.specs.declared.message.Message.{Message}
 use Rattle.mls_msgs.specs.declared.profile.Profile.{Profile}
 use Rattle.mls_check.specs.Signatures.{VerifyFn}
 use Rattle.mls_apply.specs.RuleLists.{first_failing}
+use Rattle.mls_apply.specs.declared.refusal.Refusal.{Refusal}
+use Rattle.mls_apply.specs.declared.refusal.Refusal.TheVariants.{OutOfMemory}
 use Rattle.mls_follow.specs.State.{State, EncodesMessage}
 use Rattle.mls_follow.specs.MessageRules.{message_rules}
 use Rattle.mls_follow.specs.NextState.{Transition, next}
 use Rattle.mls_follow.specs.Acceptance.{IsAcceptable, IsNext, IsFirstRefusal}
 use Rattle.mls_follow.specs.Runs.{IsAnswer}
-use Rattle.mls_follow.specs.declared.refusal.Refusal.{Refusal}
-use Rattle.mls_follow.specs.declared.refusal.Refusal.TheVariants.{OutOfMemory}
 use Rattle.mls_follow.specs.declared.taken.Taken.{Taken}
 
 -- bytes spell one message

@@ -1,6 +1,6 @@
 -- What the parts of the rules for a commit say of the whole commit.
 use Rattle.std.proofs.Common.{◌≡◌, ◌≢◌, ◌∙◌, ◌<◌, ◌≤◌, ◌∷◌, ◌++◌, [], ℕ, List, true, false, Option, Some, None, IsSome, refl, sym, ap}
-use Rattle.std.specs.Prelude.{option_map, option_and_then, is_some, nat_lt}
+use Rattle.std.specs.Prelude.{option_and_then, is_some, nat_lt}
 use Rattle.std.proofs.lemmas.Bool.{false≢true}
 use Rattle.std.proofs.lemmas.Option.{none-some}
 use Rattle.mls_nodes.specs.declared.required_capabilities.RequiredCapabilities.{RequiredCapabilities}
@@ -27,37 +27,46 @@ use Rattle.mls_nodes.specs.declared.context.GroupContext.{GroupContext}
 use Rattle.mls_apply.specs.AddedKeys.{have_distinct_added_keys}
 use Rattle.mls_apply.specs.Senders.{is_present}
 use Rattle.mls_apply.specs.declared.fault.ApplyFault.{ApplyFault}
-use Rattle.mls_apply.specs.declared.fault.ApplyFault.TheVariants.{PathMissing}
+use Rattle.mls_apply.specs.declared.fault.ApplyFault.TheVariants as faults
 use Rattle.mls_apply.specs.declared.list_item.ListItem.{ListItem}
+use Rattle.mls_apply.specs.declared.refusal.Refusal.{Refusal}
+use Rattle.mls_apply.specs.declared.refusal.Refusal.TheVariants as refusals
+use Rattle.mls_apply.specs.declared.refusal.Refusal.TheVariants.{PathMissing, TooManyLeaves}
 use Rattle.mls_apply.specs.ContextExtensions.{proposed_extensions}
 use Rattle.mls_apply.specs.ResolvedList.{resolved}
 use Rattle.mls_apply.specs.JoinRules.{path_of_join, join_items, join_refusal}
 use Rattle.mls_apply.specs.ListRules.{list_rules, list_refusal}
 use Rattle.mls_apply.specs.AppliedList.{AppliedTree, applied_tree, outcome, without_adds, with_members, new_members}
-use Rattle.mls_apply.specs.PathRules.{path_rules, path_refusal}
-use Rattle.mls_apply.specs.ProposalRules.{proposal_rules, checked_refusal}
-use Rattle.mls_apply.specs.RuleLists.{Rule, rule, first_failing, map_refusals}
+use Rattle.mls_apply.specs.PathRules.{path_refusal}
+use Rattle.mls_apply.specs.ProposalRules.{checked_refusal}
+use Rattle.mls_apply.specs.Refusals.{member_refusal, unapplied}
+use Rattle.mls_apply.specs.RuleLists.{Rule, rule, first_failing}
 use Rattle.mls_apply.proofs.RepeatedAdds.{repeated_adds_repeat_keys}
-use Rattle.mls_apply.proofs.RuleLists.{first_failing-left, first_failing-right, first_failing-map_refusals}
+use Rattle.mls_apply.proofs.RuleLists.{first_failing-left, first_failing-right}
 use Rattle.mls_follow.specs.State.{State, last_epoch}
-use Rattle.mls_follow.specs.MessageRules.{refusal_of, is_new_proposal, proposal_message_rules, proposal_list_rules, inline_rules, applied_tree_rules, required_after, rules_with_requirements, path_rules_of, CommitterTree, seated, committer_tree, committer_tree_rules, member_rules, tree_rules, resulting, changed_tree}
-use Rattle.mls_follow.specs.MessageRulesInternal.{commit_refusal, handshake_refusal, external_commit_refusal, member_refusal}
+use Rattle.mls_follow.specs.MessageRules.{is_new_proposal, proposal_message_rules, proposal_list_rules, inline_rules, applied_tree_rules, required_after, rules_with_requirements, path_rules_of, CommitterTree, seated, committer_tree, committer_tree_rules, member_rules, tree_rules, resulting, changed_tree}
+use Rattle.mls_follow.specs.MessageRulesInternal.{commit_refusal, handshake_refusal, external_commit_refusal}
 use Rattle.mls_follow.specs.CommitTree.{committer_rules, change_rules}
 use Rattle.mls_follow.specs.AcceptanceInternal.{FailsWithRule}
-use Rattle.mls_follow.specs.declared.refusal.Refusal.{Refusal}
-use Rattle.mls_follow.specs.declared.refusal.Refusal.TheVariants as refusals
 
 -- a list has no outcome where an Update or a Remove meets a leaf that isn't set
 pub no_outcome : (items : List ListItem) (t : Tree) → without_adds items t ≡ None → outcome items t ≡ None
 unfolding outcome
 no_outcome items t e = ap (option_and_then (with_members (new_members items))) e
 
+-- a list that cannot be applied has none, and is refused so
+pub not_applied : (fault : ApplyFault) (items : List ListItem) (t : Tree) → (fault ≡ faults.NoSuchLeaf → without_adds items t ≡ None)
+    → (fault ≡ faults.TooManyLeaves → outcome items t ≡ None) → unapplied fault ≢ refusals.OutOfMemory → (outcome items t ≡ None) × (unapplied fault ≡ TooManyLeaves)
+not_applied faults.NoSuchLeaf items t blank full own = (no_outcome items t (blank refl), refl)
+not_applied faults.TooManyLeaves items t blank full own = (full refl, refl)
+not_applied faults.OutOfMemory items t blank full own = absurd (own refl)
+
 -- a commit in an epoch that has a next one, whose list is resolved
 module _ (G : VerifyFn) (s : State) (required : RequiredCapabilities) (i : ℕ) (c : Commit) (later : nat_lt s.context.epoch last_epoch ≡ true)
     (items : List ListItem) (r : resolved (Member i) s.known c.proposals ≡ Some items) where
   -- the rules for the list, and for what follows it
   of_list : List (Rule Refusal)
-  of_list = map_refusals refusal_of (list_rules (Member i) items (is_some c.path))
+  of_list = list_rules (Member i) items (is_some c.path)
 
   of_outcome : List (Rule Refusal)
   of_outcome = rules_with_requirements G s (Member i) c.path (outcome items s.tree) (required_after required (proposed_extensions items))
@@ -78,19 +87,15 @@ module _ (G : VerifyFn) (s : State) (required : RequiredCapabilities) (i : ℕ) 
     past_inline = whole ∙ first_failing-right (inline_rules G s i c) (of_list ++ of_outcome) inline
 
     -- its list fails a rule
-    pub list_failed : (e : ApplyFault) → list_refusal (Member i) items (is_some c.path) ≡ Some e → commit_refusal G s required i c ≡ Some (refusal_of e)
+    pub list_failed : (e : Refusal) → list_refusal (Member i) items (is_some c.path) ≡ Some e → commit_refusal G s required i c ≡ Some e
     unfolding of_list list_refusal
-    list_failed e f =
-        past_inline
-        ∙ first_failing-left of_list of_outcome (refusal_of e) (first_failing-map_refusals refusal_of (list_rules (Member i) items (is_some c.path)) ∙ ap (option_map refusal_of) f)
+    list_failed e f = past_inline ∙ first_failing-left of_list of_outcome e f
 
     module _ (kept : list_refusal (Member i) items (is_some c.path) ≡ None) where
       -- what is left is what follows the list
       pub past_list : commit_refusal G s required i c ≡ first_failing (rules_with_requirements G s (Member i) c.path (outcome items s.tree) (required_after required (proposed_extensions items)))
       unfolding of_list of_outcome list_refusal
-      past_list =
-          past_inline
-          ∙ first_failing-right of_list of_outcome (first_failing-map_refusals refusal_of (list_rules (Member i) items (is_some c.path)) ∙ ap (option_map refusal_of) kept)
+      past_list = past_inline ∙ first_failing-right of_list of_outcome kept
 
 -- an external commit with a path is judged by the rules for its list, and what follows them
 module _ (context : GroupContext) (t : Tree) (es : List ProposalOrRef) where
@@ -103,7 +108,7 @@ module _ (context : GroupContext) (t : Tree) (es : List ProposalOrRef) where
 module _ (G : VerifyFn) (s : State) (required : RequiredCapabilities) (c : Commit) (has : IsSome c.path) (later : nat_lt s.context.epoch last_epoch ≡ true) where
   -- the rules for its list, and for what follows it
   of_join : List (Rule Refusal)
-  of_join = map_refusals refusal_of (path_of_join s.context s.tree c.proposals c.path)
+  of_join = path_of_join s.context s.tree c.proposals c.path
 
   of_joined : List (Rule Refusal)
   of_joined =
@@ -118,21 +123,15 @@ module _ (G : VerifyFn) (s : State) (required : RequiredCapabilities) (c : Commi
   join_word = by_path s.context s.tree c.proposals c.path has
 
   -- its list fails a rule
-  pub join_failed : (e : ApplyFault) → join_refusal s.context s.tree c ≡ Some e → external_commit_refusal G s required c ≡ Some (refusal_of e)
+  pub join_failed : (e : Refusal) → join_refusal s.context s.tree c ≡ Some e → external_commit_refusal G s required c ≡ Some e
   unfolding of_join
-  join_failed e f =
-      past_epoch
-      ∙ first_failing-left of_join of_joined (refusal_of e)
-      (first_failing-map_refusals refusal_of (path_of_join s.context s.tree c.proposals c.path) ∙ ap (option_map refusal_of) (sym join_word ∙ f))
+  join_failed e f = past_epoch ∙ first_failing-left of_join of_joined e (sym join_word ∙ f)
 
   -- what is left is what follows the list
   pub past_join : join_refusal s.context s.tree c ≡ None → external_commit_refusal G s required c
       ≡ first_failing (rules_with_requirements G s NewMemberCommit c.path (outcome (join_items c.proposals) s.tree) (required_after required (proposed_extensions (join_items c.proposals))))
   unfolding of_join of_joined
-  past_join kept =
-      past_epoch
-      ∙ first_failing-right of_join of_joined
-      (first_failing-map_refusals refusal_of (path_of_join s.context s.tree c.proposals c.path) ∙ ap (option_map refusal_of) (sym join_word ∙ kept))
+  past_join kept = past_epoch ∙ first_failing-right of_join of_joined (sym join_word ∙ kept)
 
 -- what follows the list of a commit
 module _ (G : VerifyFn) (s : State) (required : RequiredCapabilities) (committer : Sender) (path : Option UpdatePath) where
@@ -191,15 +190,15 @@ of_commit G s required a i c = refl
 
 -- a new proposal of a sender whose leaf is set, if it is a member, is judged by the rules for it alone
 pub offer_word : (G : VerifyFn) (s : State) (a : AuthenticatedParts) (sender : Sender) (p : Proposal) → is_new_proposal s a ≡ true → is_present s.tree sender ≡ true
-    → first_failing (proposal_message_rules G s a sender p) ≡ option_map refusal_of (checked_refusal G s.context s.tree sender p)
+    → first_failing (proposal_message_rules G s a sender p) ≡ checked_refusal G s.context s.tree sender p
 unfolding checked_refusal
-offer_word G s a sender p new set = rw new (first_failing-map_refusals refusal_of (proposal_rules G s.context s.tree sender p) ∙ rw set refl)
+offer_word G s a sender p new set = rw (new, set) refl
 
 -- a path of a leaf of the tree is judged by its rules alone
 pub path_word : (H : List ℕ → List ℕ) (g : AppliedTree) (i : ℕ) (path : UpdatePath) → nat_lt i (leaf_count g.tree) ≡ true
-    → first_failing (path_rules_of H g i (Some path)) ≡ option_map refusal_of (path_refusal H g i path)
+    → first_failing (path_rules_of H g i (Some path)) ≡ path_refusal H g i path
 unfolding path_refusal
-path_word H g i path inside = first_failing-map_refusals refusal_of (path_rules H g i path) ∙ rw inside refl
+path_word H g i path inside = rw inside refl
 
 -- the tree after a commit, whose keys are distinct
 module _ (G : VerifyFn) (s : State) (required : RequiredCapabilities) (t : Tree) (distinct : has_distinct_keys t ≡ true) where

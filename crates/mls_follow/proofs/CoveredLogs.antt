@@ -17,6 +17,7 @@ use Rattle.mls_check.proofs.Elements.{and-left, and-right}
 use Rattle.mls_msgs.specs.declared.group_info.GroupInfo.{GroupInfo}
 use Rattle.mls_msgs.specs.declared.message.Message.{Message}
 use Rattle.mls_apply.specs.RuleLists.{first_failing}
+use Rattle.mls_apply.specs.declared.refusal.Refusal.{Refusal}
 use Rattle.mls_follow.specs.State.{State, EncodesMessage}
 use Rattle.mls_follow.specs.MessageRules.{message_rules}
 use Rattle.mls_follow.specs.Acceptance.{IsFirstRefusal}
@@ -26,8 +27,7 @@ use Rattle.mls_follow.specs.Validity.{IsValidState}
 use Rattle.mls_signatures.specs.Agreement.{Agrees, AgreeOn}
 use Rattle.mls_signatures.specs.SignaturesToVerify.{sign_content_signatures, labeled_signatures, leaf_signatures, tree_signatures, start_signatures}
 use Rattle.mls_follow.specs.MessageSignatures.{AgreeOnStart, message_signatures_in_state, state_signatures}
-use Rattle.mls_follow.specs.CoveredLogs.{all_good, Covers, CoversStart, CoversMessage, CoversLog, IsAnsweredRun, CoveredStartsAreTrusted, CoveredFaultsAreTrusted, CoveredAnswersAreTrusted, CoveredRunsAreTrusted, RecipeIsRight, ReceiptsCover, AnsweredRunsAreOne}
-use Rattle.mls_follow.specs.declared.refusal.Refusal.{Refusal}
+use Rattle.mls_follow.specs.CoveredLogs.{all_good, Covers, CoversStart, CoversMessage, CoversLog, IsAnsweredRun, CoveredStartsAreTrusted, CoveredFaultsAreTrusted, CoveredAnswersAreTrusted, CoveredRunsAreTrusted, CoveredLogsAreTrusted, ReceiptsCover, AnsweredRunsAreOne}
 use Rattle.mls_follow.specs.declared.taken.Taken.{Taken}
 use Rattle.mls_signatures.specs.declared.signature_to_verify.SignatureToVerify.{SignatureToVerify}
 use Rattle.mls_follow.proofs.Answering.{only_answer}
@@ -178,8 +178,8 @@ covered_faults R info supplied fault covers = (
 
 -- ---- both
 
-pub recipe_right : RecipeIsRight
-recipe_right profile R info supplied first last calls start log =
+pub covered_logs : CoveredLogsAreTrusted
+covered_logs profile R info supplied first last calls start log =
     let starts = covered_starts profile R info supplied first start in
     let valid : IsStart profile R info supplied first → IsValidState R first = start_valid profile R info supplied first in (
       λ h. (starts.0 h.0, run_to_trusted R first calls last (valid h.0) log h.1),

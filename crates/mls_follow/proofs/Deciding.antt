@@ -11,14 +11,14 @@ use Rattle.mls_msgs.specs.MessageParsing.{message_at}
 use Rattle.mls_msgs.specs.Profile.{is_members_message, is_in}
 use Rattle.mls_msgs.specs.declared.message.Message.{Message}
 use Rattle.mls_apply.specs.RuleLists.{first_failing}
+use Rattle.mls_apply.specs.declared.refusal.Refusal.{Refusal}
+use Rattle.mls_apply.specs.declared.refusal.Refusal.TheVariants.{Malformed, OutOfMemory}
 use Rattle.mls_wire.specs.Limits.{input_limit}
 use Rattle.mls_nodes.specs.Requirements.{Requires}
 use Rattle.mls_follow.specs.State.{State, EncodesMessage}
 use Rattle.mls_follow.specs.MessageRules.{message_rules}
 use Rattle.mls_follow.specs.Acceptance.{EncodesNoMessage}
 use Rattle.mls_follow.specs.Runs.{HasAnswer, IsWellFormed, AnswerExists}
-use Rattle.mls_follow.specs.declared.refusal.Refusal.{Refusal}
-use Rattle.mls_follow.specs.declared.refusal.Refusal.TheVariants.{Malformed, OutOfMemory}
 use Rattle.mls_follow.specs.declared.taken.Taken.{Taken}
 use Rattle.mls_follow.proofs.OwnRules.{of_message}
 use Rattle.mls_follow.proofs.Advancing.{next_there}

@@ -25,12 +25,12 @@ use Rattle.mls_msgs.specs.declared.message.Message.TheVariants as messages
 use Rattle.mls_nodes.specs.Requirements.{Requires}
 use Rattle.mls_nodes.specs.declared.required_capabilities.RequiredCapabilities.{RequiredCapabilities}
 use Rattle.mls_check.specs.Signatures.{VerifyFn}
+use Rattle.mls_apply.specs.declared.refusal.Refusal.{Refusal}
+use Rattle.mls_apply.specs.declared.refusal.Refusal.TheVariants.{Malformed, NotPublic, OutOfMemory}
 use Rattle.mls_signatures.specs.declared.signature_to_verify.SignatureToVerify.{SignatureToVerify}
 use Rattle.mls_follow.specs.State.{State, EncodesMessage}
 use Rattle.mls_follow.specs.Acceptance.{EncodesNoMessage, FailsRule, IsFirstRefusal}
 use Rattle.mls_follow.specs.MessageSignatures.{AreSignaturesOf}
-use Rattle.mls_follow.specs.declared.refusal.Refusal.{Refusal}
-use Rattle.mls_follow.specs.declared.refusal.Refusal.TheVariants.{Malformed, NotPublic, OutOfMemory}
 use Rattle.mls_follow.specs.MessageHeader.{IsWireFormat, HasHeader, HasNoHeader, IsUnreadMessage}
 
 -- bytes have the header of one wire format at most

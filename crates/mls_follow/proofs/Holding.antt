@@ -16,12 +16,12 @@ use Rattle.mls_follow.specs.NextState.{Transition, next}
 use Rattle.mls_follow.specs.Acceptance.{IsAcceptable, IsNext}
 use Rattle.mls_follow.specs.Runs.{IsTransition, Call, IsRun, IsWellFormed, RunsAreAnswered}
 use Rattle.mls_follow.specs.Start.{IsStart}
-use Rattle.mls_follow.specs.declared.refusal.Refusal.{Refusal}
 use Rattle.mls_follow.specs.declared.taken.Taken.{Taken}
 use Rattle.mls_follow.proofs.Advancing.{Leads, next_there}
 use Rattle.mls_follow.proofs.Answering.{one_message}
 use Rattle.mls_follow.proofs.Deciding.{an_answer}
 use Rattle.mls_apply.proofs.Encodings.{put_back}
+use Rattle.mls_apply.specs.declared.refusal.Refusal.{Refusal}
 
 -- a state that a follower may hold, whose group's requirements can be read
 pub record IsSteady (s : State) : Type 0 where

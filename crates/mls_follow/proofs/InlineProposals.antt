@@ -13,24 +13,24 @@ use Rattle.mls_check.specs.Signatures.{VerifyFn}
 use Rattle.mls_apply.specs.ProposalRules.{checked_rules, proposal_rules, valid_if_add, valid_if_update, valid_if_remove, valid_if_extensions, valid_if_psk, valid_if_reinit, all_inline}
 use Rattle.mls_apply.specs.RuleLists.{Rule, rule, first_failing}
 use Rattle.mls_apply.specs.Senders.{is_present}
-use Rattle.mls_apply.specs.declared.fault.ApplyFault.{ApplyFault}
-use Rattle.mls_apply.specs.declared.fault.ApplyFault.TheVariants as faults
+use Rattle.mls_apply.specs.declared.refusal.Refusal.{Refusal}
+use Rattle.mls_apply.specs.declared.refusal.Refusal.TheVariants as refusals
 use Rattle.mls_follow.specs.InlineValidity.{all_valid, both_valid, entry_validity, list_validity, invalid_by, validity_rules}
 use Rattle.mls_follow.specs.declared.proposals_by_value.Validity.{Validity}
 
 -- a rule that holds is passed
-past_first : (e : ApplyFault) (b : Bool) (rs : List (Rule ApplyFault)) → b ≡ true → first_failing (rule e b ∷ rs) ≡ first_failing rs
+past_first : (e : Refusal) (b : Bool) (rs : List (Rule Refusal)) → b ≡ true → first_failing (rule e b ∷ rs) ≡ first_failing rs
 past_first e true rs h = refl
 past_first e false rs h = absurd cc
 
 -- one rule alone may fail: what it says is what is found
-module _ (fault : ApplyFault) (make : Bool → Validity) where
-  only : (own : ApplyFault) (b : Bool) → make true ≡ all_valid → make false ≡ invalid_by own
+module _ (fault : Refusal) (make : Bool → Validity) where
+  only : (own : Refusal) (b : Bool) → make true ≡ all_valid → make false ≡ invalid_by own
       → first_failing (rule own b ∷ []) ≡ Some fault → make b ≡ invalid_by fault
   only own true t f h = absurd (none-some fault h)
   only own false t f h = f ∙ ap invalid_by (same_Some own fault h)
 
-none_fails : (make : Bool → Validity) (own : ApplyFault) (b : Bool) → make true ≡ all_valid → first_failing (rule own b ∷ []) ≡ None → make b ≡ all_valid
+none_fails : (make : Bool → Validity) (own : Refusal) (b : Bool) → make true ≡ all_valid → first_failing (rule own b ∷ []) ≡ None → make b ≡ all_valid
 none_fails make own true t h = t
 none_fails make own false t h = absurd (none-some own (sym h))
 
@@ -39,32 +39,32 @@ module _ (G : VerifyFn) (context : GroupContext) (t : Tree) (sender : Sender) wh
   abbrev Of : Proposal → Validity
   Of p = entry_validity G context t sender (entries.Proposal p)
 
-  faulty : (p : Proposal) (fault : ApplyFault) → first_failing (proposal_rules G context t sender p) ≡ Some fault → Of p ≡ invalid_by fault
-  faulty (Add k) fault h = only fault (λ b. record all_valid { adds = b }) faults.AddInvalid (valid_if_add G context (Add k)) refl refl h
-  faulty (Update x) fault h = only fault (λ b. record all_valid { updates = b }) faults.UpdateInvalid (valid_if_update G context t sender (Update x)) refl refl h
-  faulty (Remove i) fault h = only fault (λ b. record all_valid { removes = b }) faults.RemoveInvalid (valid_if_remove t (Remove i)) refl refl h
-  faulty (ContextExtensions es) fault h = only fault (λ b. record all_valid { extensions = b }) faults.ContextExtensionsInvalid (valid_if_extensions (ContextExtensions es)) refl refl h
-  faulty (PreSharedKey id) fault h = only fault (λ b. record all_valid { psks = b }) faults.PskInvalid (valid_if_psk context sender (PreSharedKey id)) refl refl h
-  faulty (ReInit r) fault h = only fault (λ b. record all_valid { reinits = b }) faults.ReInitInvalid (valid_if_reinit context (ReInit r)) refl refl h
-  faulty (ExternalInit output) fault h = ap invalid_by (same_Some faults.ExternalInitMisplaced fault h)
+  faulty : (p : Proposal) (fault : Refusal) → first_failing (proposal_rules G context t sender p) ≡ Some fault → Of p ≡ invalid_by fault
+  faulty (Add k) fault h = only fault (λ b. record all_valid { adds = b }) refusals.AddInvalid (valid_if_add G context (Add k)) refl refl h
+  faulty (Update x) fault h = only fault (λ b. record all_valid { updates = b }) refusals.UpdateInvalid (valid_if_update G context t sender (Update x)) refl refl h
+  faulty (Remove i) fault h = only fault (λ b. record all_valid { removes = b }) refusals.RemoveInvalid (valid_if_remove t (Remove i)) refl refl h
+  faulty (ContextExtensions es) fault h = only fault (λ b. record all_valid { extensions = b }) refusals.ContextExtensionsInvalid (valid_if_extensions (ContextExtensions es)) refl refl h
+  faulty (PreSharedKey id) fault h = only fault (λ b. record all_valid { psks = b }) refusals.PskInvalid (valid_if_psk context sender (PreSharedKey id)) refl refl h
+  faulty (ReInit r) fault h = only fault (λ b. record all_valid { reinits = b }) refusals.ReInitInvalid (valid_if_reinit context (ReInit r)) refl refl h
+  faulty (ExternalInit output) fault h = ap invalid_by (same_Some refusals.ExternalInitMisplaced fault h)
 
   faultless : (p : Proposal) → first_failing (proposal_rules G context t sender p) ≡ None → Of p ≡ all_valid
-  faultless (Add k) h = none_fails (λ b. record all_valid { adds = b }) faults.AddInvalid (valid_if_add G context (Add k)) refl h
-  faultless (Update x) h = none_fails (λ b. record all_valid { updates = b }) faults.UpdateInvalid (valid_if_update G context t sender (Update x)) refl h
-  faultless (Remove i) h = none_fails (λ b. record all_valid { removes = b }) faults.RemoveInvalid (valid_if_remove t (Remove i)) refl h
-  faultless (ContextExtensions es) h = none_fails (λ b. record all_valid { extensions = b }) faults.ContextExtensionsInvalid (valid_if_extensions (ContextExtensions es)) refl h
-  faultless (PreSharedKey id) h = none_fails (λ b. record all_valid { psks = b }) faults.PskInvalid (valid_if_psk context sender (PreSharedKey id)) refl h
-  faultless (ReInit r) h = none_fails (λ b. record all_valid { reinits = b }) faults.ReInitInvalid (valid_if_reinit context (ReInit r)) refl h
-  faultless (ExternalInit output) h = absurd (none-some faults.ExternalInitMisplaced (sym h))
+  faultless (Add k) h = none_fails (λ b. record all_valid { adds = b }) refusals.AddInvalid (valid_if_add G context (Add k)) refl h
+  faultless (Update x) h = none_fails (λ b. record all_valid { updates = b }) refusals.UpdateInvalid (valid_if_update G context t sender (Update x)) refl h
+  faultless (Remove i) h = none_fails (λ b. record all_valid { removes = b }) refusals.RemoveInvalid (valid_if_remove t (Remove i)) refl h
+  faultless (ContextExtensions es) h = none_fails (λ b. record all_valid { extensions = b }) refusals.ContextExtensionsInvalid (valid_if_extensions (ContextExtensions es)) refl h
+  faultless (PreSharedKey id) h = none_fails (λ b. record all_valid { psks = b }) refusals.PskInvalid (valid_if_psk context sender (PreSharedKey id)) refl h
+  faultless (ReInit r) h = none_fails (λ b. record all_valid { reinits = b }) refusals.ReInitInvalid (valid_if_reinit context (ReInit r)) refl h
+  faultless (ExternalInit output) h = absurd (none-some refusals.ExternalInitMisplaced (sym h))
 
   module _ (set : is_present t sender ≡ true) where
     -- a proposal that is refused for a fault
-    pub entry_invalid : (p : Proposal) (fault : ApplyFault) → first_failing (checked_rules G context t sender p) ≡ Some fault → invalid_by fault ≡ Of p
-    entry_invalid p fault h = sym (faulty p fault (sym (past_first faults.NoSuchLeaf (is_present t sender) (proposal_rules G context t sender p) set) ∙ h))
+    pub entry_invalid : (p : Proposal) (fault : Refusal) → first_failing (checked_rules G context t sender p) ≡ Some fault → invalid_by fault ≡ Of p
+    entry_invalid p fault h = sym (faulty p fault (sym (past_first refusals.SenderNotMember (is_present t sender) (proposal_rules G context t sender p) set) ∙ h))
 
     -- a proposal that isn't
     pub entry_valid : (p : Proposal) → first_failing (checked_rules G context t sender p) ≡ None → all_valid ≡ Of p
-    entry_valid p h = sym (faultless p (sym (past_first faults.NoSuchLeaf (is_present t sender) (proposal_rules G context t sender p) set) ∙ h))
+    entry_valid p h = sym (faultless p (sym (past_first refusals.SenderNotMember (is_present t sender) (proposal_rules G context t sender p) set) ∙ h))
 
 -- ---- one entry after the other
 

@@ -11,12 +11,12 @@ use Rattle.mls_check.specs.Signatures.{VerifyFn}
 use Rattle.mls_check.proofs.Distinctness.{distinct-by_keys}
 use Rattle.mls_msgs.specs.declared.group_info.GroupInfo.{GroupInfo}
 use Rattle.mls_msgs.specs.declared.profile.Profile.{Profile}
+use Rattle.mls_apply.specs.declared.refusal.Refusal.{Refusal}
 use Rattle.mls_follow.specs.State.{State}
 use Rattle.mls_follow.specs.FollowerInvariant.{HasUniqueKeysAndValidLeaves}
 use Rattle.mls_follow.specs.Runs.{IsTransition}
 use Rattle.mls_follow.specs.Start.{IsStart}
 use Rattle.mls_follow.specs.Validity.{IsValidState}
-use Rattle.mls_follow.specs.declared.refusal.Refusal.{Refusal}
 use Rattle.mls_follow.specs.declared.taken.Taken.{Taken}
 use Rattle.mls_follow.proofs.Stepping.{Stays, Moves, taken, moved_keys, moved_members}
 use Rattle.mls_follow.proofs.Validity.{start_valid}

@@ -19,6 +19,7 @@ use Rattle.mls_msgs.specs.declared.profile.Profile.TheVariants.{Members, Full}
 use Rattle.mls_msgs.specs.declared.proposal.Proposal.{Proposal}
 use Rattle.mls_signatures.specs.SigningKeys.{leaf_key, signing_key, outside_key, may_propose}
 use Rattle.mls_apply.specs.declared.list_item.KnownProposal.{KnownProposal}
+use Rattle.mls_apply.specs.declared.refusal.Refusal.{Refusal}
 use Rattle.mls_apply.specs.ResolvedList.{resolved}
 use Rattle.mls_apply.specs.RuleLists.{first_failing}
 use Rattle.mls_apply.proofs.Merging.{came_from}
@@ -29,7 +30,6 @@ use Rattle.mls_follow.specs.MessageRules.{content_rules, leaf_rules, signed_prop
 use Rattle.mls_follow.specs.NextState.{Transition, after_proposal, after_content, after_outside, after_sender, next}
 use Rattle.mls_follow.specs.Acceptance.{IsAcceptable, IsNext}
 use Rattle.mls_follow.specs.Runs.{IsTransition, Call, IsRun}
-use Rattle.mls_follow.specs.declared.refusal.Refusal.{Refusal}
 use Rattle.mls_follow.specs.declared.taken.Taken.{Taken}
 use Rattle.mls_follow.proofs.Answering.{one_message}
 use Rattle.mls_follow.proofs.KnownReadable.{commit-forgets, join-forgets}

@@ -1,4 +1,4 @@
--- What a checker means after it was asked to learn a receipt, and that the state stays judged by it.
+-- What a checker means after it has learnt a receipt, or has not, and that the state stays judged by it.
 use Rattle.std.proofs.Common.{◌≡◌, ℕ, List, Result, Ok, Err, sym, subst}
 use Rattle.std.specs.Prelude.{OnOk, OnErr}
 use Rattle.mls_check.specs.ReceiptSets.{with_receipt}

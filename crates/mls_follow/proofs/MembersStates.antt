@@ -1,6 +1,6 @@
 -- In the members' profile the rules that are numbered above 27 hold, and states stay in the profile.
 use Rattle.std.proofs.Common.{◌≡◌, ◌∙◌, ℕ, List, [], ◌∷◌, ◌++◌, Bool, true, false, cond, not, Option, Some, None, refl, sym, ap, subst}
-use Rattle.std.specs.Prelude.{All, ◌==◌, ◌&&◌, ◌||◌, length, filter, filter_map, is_some, nat_le, if◌then◌else◌, option_map, option_and_then}
+use Rattle.std.specs.Prelude.{All, ◌==◌, ◌&&◌, ◌||◌, length, filter, filter_map, is_some, if◌then◌else◌, option_map, option_and_then}
 use Rattle.std.specs.List.{list_all}
 use Rattle.std.specs.Str.{bytes_eq}
 use Rattle.std.proofs.lemmas.Bool.{false≢true}
@@ -36,6 +36,7 @@ use Rattle.mls_msgs.specs.declared.proposal.ProposalOrRef.{ProposalOrRef}
 use Rattle.mls_msgs.specs.declared.proposal.ProposalOrRef.TheVariants as entries
 use Rattle.mls_apply.specs.declared.list_item.ListItem.{ListItem}
 use Rattle.mls_apply.specs.declared.list_item.KnownProposal.{KnownProposal}
+use Rattle.mls_apply.specs.declared.refusal.Refusal.{Refusal}
 use Rattle.mls_apply.specs.AppliedList.{AppliedTree, outcome}
 use Rattle.mls_apply.specs.ContextExtensions.{proposed_extensions}
 use Rattle.mls_apply.specs.ListRules.{is_reinit, has_reinit, is_reinit_alone}
@@ -51,23 +52,21 @@ use Rattle.mls_follow.specs.State.{State}
 use Rattle.mls_follow.specs.MembersProfile.{IsOfMember, IsMembersState, is_members_rule, MembersRulesDecide, MembersStatesStay, MembersStart, MembersResume}
 use Rattle.mls_follow.specs.MessageRules.{reference_of, proposal_message_rules, member_rules, tree_rules, CommitterTree, committer_tree, resulting, path_rules_of, committer_tree_rules, required_after, rules_with_requirements, proposal_list_rules, commit_rules, content_rules, leaf_rules, is_sender_supported, is_known_external, if_full, sender_rules, frame_rules, message_rules}
 use Rattle.mls_follow.specs.NextState.{Transition, after_proposal, committed, after_tree, commit_tree, with_list, is_over_after, after_content, after_sender, next}
-use Rattle.mls_follow.specs.RefusalNumbers.{number_of}
 use Rattle.mls_follow.specs.Resumption.{CanHoldEntries, can_hold, is_receivable, with_pending, base_state, is_over, profile_of_mode}
 use Rattle.mls_apply.specs.Transcript.{confirmed_hash, interim_hash}
-use Rattle.mls_follow.specs.declared.refusal.Refusal.{Refusal}
 use Rattle.mls_follow.proofs.Answering.{one_message}
 
 -- ---- lists of rules
 
--- the first rule that fails is that of the rules numbered to 27
+-- the first rule that fails is one of the members' rules
 record Passes (rs : List (Rule Refusal)) : Type 0 where
   same : first_failing rs ≡ first_failing (filter is_members_rule rs)
 
 pass_none : Passes []
 pass_none = record { same = refl }
 
--- one that is numbered so
-pass_kept : {e : Refusal} {b : Bool} {rs : List (Rule Refusal)} → nat_le (number_of e) 27 ≡ true → Passes rs → Passes (rule e b ∷ rs)
+-- one of them
+pass_kept : {e : Refusal} {b : Bool} {rs : List (Rule Refusal)} → is_members_rule (rule e b) ≡ true → Passes rs → Passes (rule e b ∷ rs)
 pass_kept {e = e} {b = b} {rs = rs} n h = record {
   same =
       ap (λ (o : Option Refusal). if b then o else Some e) h.same
@@ -75,7 +74,7 @@ pass_kept {e = e} {b = b} {rs = rs} n h = record {
 }
 
 -- another, which holds
-pass_full : {e : Refusal} {b : Bool} {rs : List (Rule Refusal)} → nat_le (number_of e) 27 ≡ false → b ≡ true → Passes rs → Passes (rule e b ∷ rs)
+pass_full : {e : Refusal} {b : Bool} {rs : List (Rule Refusal)} → is_members_rule (rule e b) ≡ false → b ≡ true → Passes rs → Passes (rule e b ∷ rs)
 pass_full {e = e} {b = b} {rs = rs} n holds h = record {
   same =
       ap (λ (c : Bool). if c then first_failing rs else Some e) holds

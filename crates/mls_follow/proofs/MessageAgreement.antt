@@ -1,6 +1,6 @@
 -- Two meanings that answer the wanted signatures of a message alike, and those of the state's tree, refuse it alike.
 use Rattle.std.proofs.Common.{◌≡◌, ◌∙◌, ◌<◌, ℕ, List, [], ◌∷◌, ◌++◌, Bool, true, false, Option, Some, None, IsSome, refl, sym, ap, subst, inl, inr}
-use Rattle.std.specs.Prelude.{◌==◌, ◌&&◌, not, is_some, nat_lt, if◌then◌else◌, option_map}
+use Rattle.std.specs.Prelude.{◌==◌, ◌&&◌, not, is_some, nat_lt, if◌then◌else◌}
 use Rattle.std.specs.List.{list_all}
 use Rattle.std.specs.Str.{bytes_eq}
 use Rattle.std.proofs.lemmas.Option.{none-some}
@@ -34,27 +34,26 @@ use Rattle.mls_signatures.specs.SigningKeys.{outside_key, may_propose}
 use Rattle.mls_msgs.specs.declared.proposal.Proposal.TheVariants as proposals
 use Rattle.mls_msgs.specs.declared.proposal.ProposalOrRef.{ProposalOrRef}
 use Rattle.mls_msgs.specs.declared.proposal.ProposalOrRef.TheVariants as entries
-use Rattle.mls_apply.specs.declared.fault.ApplyFault.TheVariants as faults
 use Rattle.mls_apply.specs.declared.list_item.ListItem.{ListItem}
+use Rattle.mls_apply.specs.declared.refusal.Refusal.{Refusal}
+use Rattle.mls_apply.specs.declared.refusal.Refusal.TheVariants.{WrongGroup, WrongEpoch, BadSignature, KnownProposal, AddInvalid, UpdateInvalid, RemoveInvalid, ContextExtensionsInvalid, PskInvalid, ReInitInvalid, ExternalInitMisplaced, GroupOver, UnknownExternal, SenderContent, LastEpoch, KeyRepeated, JoinList}
 use Rattle.mls_apply.specs.ResolvedList.{resolved}
 use Rattle.mls_apply.specs.JoinRules.{path_of_join, is_join_list, join_items, join_item_rules}
 use Rattle.mls_apply.specs.ListRules.{list_rules, list_refusal}
 use Rattle.mls_apply.specs.AppliedList.{AppliedTree, outcome}
 use Rattle.mls_apply.specs.ContextExtensions as extensions
 use Rattle.mls_apply.specs.ProposalRules.{fits_group, is_valid_add, fits_leaf, is_valid_update, is_valid_update_by, valid_if_add, valid_if_update, valid_if_remove, valid_if_extensions, valid_if_psk, valid_if_reinit, is_no_external_init, holds_if_by_value, all_inline}
-use Rattle.mls_apply.specs.RuleLists.{Rule, rule, first_failing, map_refusals}
+use Rattle.mls_apply.specs.RuleLists.{Rule, rule, first_failing}
 use Rattle.mls_apply.proofs.Leaves.{leaf_inside}
-use Rattle.mls_apply.proofs.RuleLists.{AreKept, first_failing-map_refusals, passed}
+use Rattle.mls_apply.proofs.RuleLists.{AreKept, passed}
 use Rattle.mls_follow.specs.State.{State, last_epoch}
-use Rattle.mls_follow.specs.MessageRules.{refusal_of, is_new_proposal, is_frame_signed, proposal_message_rules, member_rules, tree_rules, CommitterTree, seated, resulting, path_rules_of, committer_tree_rules, applied_tree_rules, required_after, rules_with_requirements, inline_rules, proposal_list_rules, commit_rules, content_rules, leaf_rules, is_known_external, signed_proposal_rules, outside_content_rules, outside_rules, external_commit_rules, signed_commit_rules, joiner_rules, if_full, sender_rules, frame_rules, message_rules}
+use Rattle.mls_follow.specs.MessageRules.{is_new_proposal, is_frame_signed, proposal_message_rules, member_rules, tree_rules, CommitterTree, seated, resulting, path_rules_of, committer_tree_rules, applied_tree_rules, required_after, rules_with_requirements, inline_rules, proposal_list_rules, commit_rules, content_rules, leaf_rules, is_known_external, signed_proposal_rules, outside_content_rules, outside_rules, external_commit_rules, signed_commit_rules, joiner_rules, if_full, sender_rules, frame_rules, message_rules}
 use Rattle.mls_signatures.specs.Agreement.{AgreeOn}
 use Rattle.mls_signatures.specs.SignaturesToVerify.{leaf_signatures, package_signatures, framed_content_signatures, tree_signatures, signatures_at, proposal_signatures, entries_signatures, new_leaves, path_signatures, applied_list_signatures, commit_signatures, update_signatures, content_signatures, member_signatures, outside_content_signatures, outside_signatures, seated_signatures, join_list_signatures, join_signatures, join_content_signatures, in_full, sender_signatures, all_message_signatures, message_signatures}
 use Rattle.mls_follow.specs.MessageSignatures.{SignaturesDetermineRefusal}
-use Rattle.mls_follow.specs.declared.refusal.Refusal.{Refusal}
-use Rattle.mls_follow.specs.declared.refusal.Refusal.TheVariants.{WrongGroup, WrongEpoch, BadSignature, KnownProposal, AddInvalid, UpdateInvalid, RemoveInvalid, ContextExtensionsInvalid, PskInvalid, ReInitInvalid, ExternalInitMisplaced, GroupOver, UnknownExternal, SenderContent, LastEpoch, KeyRepeated}
 use Rattle.mls_signatures.specs.declared.signature_to_verify.SignatureToVerify.{SignatureToVerify}
 use Rattle.mls_follow.proofs.Staying.{committer_stays}
-use Rattle.mls_signatures.proofs.Agreement.{front, back, from_deduplicated}
+use Rattle.mls_signatures.proofs.Agreement.{front, back, from_deduplicated, given}
 use Rattle.mls_follow.proofs.SignatureAgreement.{leaf_alike, package_alike, frame_alike, tree_leaf, listed_leaf, fault_alike}
 use Rattle.mls_follow.proofs.CommitLeaves.{IsPathLeaf, new_leaf_is, listed}
 use Rattle.mls_follow.proofs.JoinedLeaves.{join_stood, seat_leaves}
@@ -74,16 +73,11 @@ behind_alike {E} (x ∷ xs) ys zs h = go x.holds (λ later. behind_alike xs ys z
     go true later h = later h
     go false later h = refl
 
-no_image : {A B : Type 0} (f : A → B) (o : Option A) → option_map f o ≡ None → o ≡ None
-no_image f None e = refl
-no_image f (Some x) e = absurd (none-some (f x) (sym e))
-
--- the rules for a list hold under other names
-list_kept : (committer : Sender) (items : List ListItem) (has_path : Bool) → first_failing (map_refusals refusal_of (list_rules committer items has_path)) ≡ None
+-- the rules for a list hold
+list_kept : (committer : Sender) (items : List ListItem) (has_path : Bool) → first_failing (list_rules committer items has_path) ≡ None
     → list_refusal committer items has_path ≡ None
 unfolding list_refusal
-list_kept committer items has_path e =
-    no_image refusal_of (first_failing (list_rules committer items has_path)) (sym (first_failing-map_refusals refusal_of (list_rules committer items has_path)) ∙ e)
+list_kept committer items has_path e = e
 
 -- the first of some rules that hold
 first_kept : (e : Refusal) (b : Bool) (rs : List (Rule Refusal)) → first_failing (rule e b ∷ rs) ≡ None → b ≡ true
@@ -106,10 +100,6 @@ module _ (G K : VerifyFn) where
   while_open : (b : Bool) (qs : List SignatureToVerify) → not b ≡ true → AgreeOn G K (if b then [] else qs) → AgreeOn G K qs
   while_open true qs e h = absurd (cc)
   while_open false qs e h = h
-
-  all_asked : (b : Bool) (qs : List SignatureToVerify) → b ≡ true → AgreeOn G K (if b then qs else []) → AgreeOn G K qs
-  all_asked true qs e h = h
-  all_asked false qs e h = absurd (cc)
 
   -- ---- proposals
 
@@ -180,10 +170,10 @@ module _ (G K : VerifyFn) where
     offers_alike a sender p h =
         let adds = adds_alike s.context sender p h in
         let updates = updates_alike s.context s.tree sender p h in
-        λ k. first_failing (rule KnownProposal (is_new_proposal s a) ∷ map_refusals refusal_of (
-        rule faults.AddInvalid (adds k) ∷ rule faults.UpdateInvalid (updates k) ∷ rule faults.RemoveInvalid (valid_if_remove s.tree p) ∷
-        rule faults.ContextExtensionsInvalid (valid_if_extensions p) ∷ rule faults.PskInvalid (valid_if_psk s.context sender p) ∷
-        rule faults.ReInitInvalid (valid_if_reinit s.context p) ∷ rule faults.ExternalInitMisplaced (is_no_external_init p) ∷ []))
+        λ k. first_failing (rule KnownProposal (is_new_proposal s a) ∷
+        rule AddInvalid (adds k) ∷ rule UpdateInvalid (updates k) ∷ rule RemoveInvalid (valid_if_remove s.tree p) ∷
+        rule ContextExtensionsInvalid (valid_if_extensions p) ∷ rule PskInvalid (valid_if_psk s.context sender p) ∷
+        rule ReInitInvalid (valid_if_reinit s.context p) ∷ rule ExternalInitMisplaced (is_no_external_init p) ∷ [])
 
     -- the leaf of a path
     path_leaf : (i : ℕ) (path : Option UpdatePath) (j : ℕ) (x : LeafNode) → IsPathLeaf j x i path → AgreeOn G K (path_signatures s.context i path)
@@ -197,13 +187,13 @@ module _ (G K : VerifyFn) where
     -- the leaves of the tree after a commit: that of its path, and the others of the tree in which the committer has its leaf
     module _ (q : CommitterTree) (path : Option UpdatePath) (inside : q.leaf < leaf_count q.applied_tree.tree)
         (said : (j : ℕ) (x : LeafNode) → leaf_at 0 q.applied_tree.tree j ≡ Some x → AgreeOn G K (leaf_signatures s.context.cipher_suite s.context.group_id j x))
-        (asked : AgreeOn G K (path_signatures s.context q.leaf path)) where
+        (own : AgreeOn G K (path_signatures s.context q.leaf path)) where
       leaves_say : (t : Tree) → resulting (hash_of s.context.cipher_suite) q.applied_tree q.leaf path ≡ Some t → (j : ℕ) (x : LeafNode) → leaf_at 0 t j ≡ Some x
           → is_leaf_signed G s.context.cipher_suite s.context.group_id j x ≡ is_leaf_signed K s.context.cipher_suite s.context.group_id j x
       leaves_say t e j x set =
           leaf_alike G K s.context.cipher_suite s.context.group_id j x
           (elim (new_leaf_is j x (hash_of s.context.cipher_suite) q.applied_tree q.leaf path t inside e set) [
-            | inl c ↦ path_leaf q.leaf path j x c asked
+            | inl c ↦ path_leaf q.leaf path j x c own
             | inr at ↦ said j x at
           ])
 
@@ -223,16 +213,16 @@ module _ (G K : VerifyFn) where
     -- the leaves that the list of a member's commit brings into the tree, and the others
     module _ (i : ℕ) (path : Option UpdatePath) (items : List ListItem) (g : AppliedTree) (made : outcome items s.tree ≡ Some g)
         (h : AgreeOn G K (applied_list_signatures s.context i path items (Some g))) where
-      listed_asked : AgreeOn G K (signatures_at s.context.cipher_suite s.context.group_id g.tree (new_leaves items g))
-      listed_asked = front G K (signatures_at s.context.cipher_suite s.context.group_id g.tree (new_leaves items g)) (path_signatures s.context i path) h
+      of_list : AgreeOn G K (signatures_at s.context.cipher_suite s.context.group_id g.tree (new_leaves items g))
+      of_list = front G K (signatures_at s.context.cipher_suite s.context.group_id g.tree (new_leaves items g)) (path_signatures s.context i path) h
 
-      path_asked : AgreeOn G K (path_signatures s.context i path)
-      path_asked = back G K (signatures_at s.context.cipher_suite s.context.group_id g.tree (new_leaves items g)) (path_signatures s.context i path) h
+      of_path : AgreeOn G K (path_signatures s.context i path)
+      of_path = back G K (signatures_at s.context.cipher_suite s.context.group_id g.tree (new_leaves items g)) (path_signatures s.context i path) h
 
       listed_say : (j : ℕ) (x : LeafNode) → leaf_at 0 g.tree j ≡ Some x → AgreeOn G K (leaf_signatures s.context.cipher_suite s.context.group_id j x)
       listed_say j x at =
           elim (listed j x items s.tree g made at) [
-            | inl c ↦ listed_leaf G K s.context.cipher_suite s.context.group_id g.tree (new_leaves items g) listed_asked j x c at
+            | inl c ↦ listed_leaf G K s.context.cipher_suite s.context.group_id g.tree (new_leaves items g) of_list j x c at
             | inr stood ↦ tree_leaf G K s.context.cipher_suite s.context.group_id 0 s.tree old j x stood
           ]
 
@@ -243,7 +233,7 @@ module _ (G K : VerifyFn) where
     outcomes_alike i path items None e kept set h = refl
     outcomes_alike i path items (Some g) e kept set h =
         let there = committer_stays i items (is_some path) s.tree g kept e set in
-        committer_alike (record { applied_tree = g; leaf = i }) path (leaf_inside g.tree i there) (listed_say i path items g e h) (path_asked i path items g e h)
+        committer_alike (record { applied_tree = g; leaf = i }) path (leaf_inside g.tree i there) (listed_say i path items g e h) (of_path i path items g e h)
 
     -- the leaves of the tree in which a client that joins has its leaf
     module _ (es : List ProposalOrRef) (list : is_join_list es ≡ true) (path : UpdatePath) where
@@ -287,7 +277,7 @@ module _ (G K : VerifyFn) where
         rule AddInvalid (adds k) ∷ rule UpdateInvalid (updates k) ∷ rule RemoveInvalid (all_inline (valid_if_remove s.tree) c.proposals) ∷
         rule ContextExtensionsInvalid (all_inline valid_if_extensions c.proposals) ∷ rule PskInvalid (all_inline (valid_if_psk s.context (senders.Member i)) c.proposals) ∷
         rule ReInitInvalid (all_inline (valid_if_reinit s.context) c.proposals) ∷ rule ExternalInitMisplaced (all_inline is_no_external_init c.proposals) ∷ [] in
-        let of_list = map_refusals refusal_of (list_rules (senders.Member i) items (is_some c.path)) in
+        let of_list = list_rules (senders.Member i) items (is_some c.path) in
         let under_G = rules_with_requirements G s (senders.Member i) c.path (outcome items s.tree) (required_after required (extensions.proposed_extensions items)) in
         let under_K = rules_with_requirements K s (senders.Member i) c.path (outcome items s.tree) (required_after required (extensions.proposed_extensions items)) in
         let rest_G = of_list ++ under_G in
@@ -316,24 +306,24 @@ module _ (G K : VerifyFn) where
           (joins_alike s r old c.proposals list path (outcome (join_items c.proposals) s.tree) refl h)
 
       -- its list satisfies its rules
-      join_kept : (p : Option UpdatePath) → p ≡ Some path → first_failing (map_refusals refusal_of (path_of_join s.context s.tree c.proposals p)) ≡ None
+      join_kept : (p : Option UpdatePath) → p ≡ Some path → first_failing (path_of_join s.context s.tree c.proposals p) ≡ None
           → is_join_list c.proposals ≡ true
       join_kept None e kept = absurd (none-some path e)
       join_kept (Some other) e kept =
-          first_kept (refusal_of faults.JoinList) (is_join_list c.proposals) (map_refusals refusal_of (join_item_rules s.context s.tree other.leaf_node (join_items c.proposals))) kept
+          first_kept JoinList (is_join_list c.proposals) (join_item_rules s.context s.tree other.leaf_node (join_items c.proposals)) kept
 
       externals_alike : c.path ≡ Some path → AgreeOn G K (join_list_signatures s.context s.tree c path)
           → first_failing (external_commit_rules G s required c) ≡ first_failing (external_commit_rules K s required c)
       externals_alike e h =
           let items = join_items c.proposals in
           let after = required_after required (extensions.proposed_extensions items) in
-          let of_list = map_refusals refusal_of (path_of_join s.context s.tree c.proposals c.path) in
+          let of_list = path_of_join s.context s.tree c.proposals c.path in
           let under_G = rules_with_requirements G s senders.NewMemberCommit c.path (outcome items s.tree) after in
           let under_K = rules_with_requirements K s senders.NewMemberCommit c.path (outcome items s.tree) after in
           passing LastEpoch (nat_lt s.context.epoch last_epoch) (first_failing (of_list ++ under_G)) (first_failing (of_list ++ under_K))
           (λ _. behind_alike of_list under_G under_K
           (λ kept. let list = join_kept c.path e kept in
-          joins_under_alike c.path e list (all_asked (is_join_list c.proposals) (seated_signatures s.context path (outcome items s.tree)) list h) after))
+          joins_under_alike c.path e list (given G K (is_join_list c.proposals) (seated_signatures s.context path (outcome items s.tree)) list h) after))
 
     module _ (a : AuthenticatedParts) where
       signed_alike : (key : List ℕ) (o p : Option Refusal) → AgreeOn G K (framed_content_signatures s.context key a) → o ≡ p
@@ -432,7 +422,7 @@ module _ (G K : VerifyFn) where
           gated (bytes_eq a.content.group_id s.context.group_id) (a.content.epoch == s.context.epoch) (not s.ended)
           (first_failing (sender_rules G s required a a.content.sender)) (first_failing (sender_rules K s required a a.content.sender))
           (λ e going. senders_alike a.content.sender
-          (all_asked (bytes_eq a.content.group_id s.context.group_id && a.content.epoch == s.context.epoch)
+          (given G K (bytes_eq a.content.group_id s.context.group_id && a.content.epoch == s.context.epoch)
           (sender_signatures s.profile s.context s.known s.tree a a.content.sender) e (h going)))
 
     messages_alike : (m : Message) → (not s.ended ≡ true → AgreeOn G K (all_message_signatures s.profile s.context s.known s.tree m)) → first_failing (message_rules G s required m) ≡ first_failing (message_rules K s required m)

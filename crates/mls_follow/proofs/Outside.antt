@@ -1,16 +1,17 @@
 -- The rules for a message of a sender outside the group, by its profile.
-use Rattle.std.proofs.Common.{◌≡◌, ◌∙◌, ℕ, Option, None, Result, OnOk, IfErr, refl, sym, subst}
+use Rattle.std.proofs.Common.{◌≡◌, ℕ, Option, Result, refl, sym, ap, subst}
 use Rattle.mls_nodes.specs.declared.required_capabilities.RequiredCapabilities.{RequiredCapabilities}
 use Rattle.mls_check.specs.Signatures.{VerifyFn}
 use Rattle.mls_msgs.specs.declared.authenticated.AuthenticatedParts.{AuthenticatedParts}
 use Rattle.mls_msgs.specs.declared.framed_content.Sender.{Sender}
 use Rattle.mls_msgs.specs.declared.framed_content.Sender.TheVariants as senders
 use Rattle.mls_apply.specs.RuleLists.{first_failing}
-use Rattle.mls_follow.specs.AcceptanceInternal.{FailsWithRule}
+use Rattle.mls_apply.specs.declared.refusal.Refusal.{Refusal}
+use Rattle.mls_follow.specs.AcceptanceInternal.{Takes}
 use Rattle.mls_follow.specs.State.{State}
 use Rattle.mls_follow.specs.MessageRules.{if_full, joiner_rules, outside_rules}
 use Rattle.mls_follow.specs.MessageRulesInternal.{sender_refusal}
-use Rattle.mls_follow.specs.declared.refusal.Refusal.{Refusal}
+use Rattle.mls_follow.specs.NextState.{after_join, after_outside, after_sender}
 use Rattle.mls_follow.specs.declared.taken.Taken.{Taken}
 
 module _ (G : VerifyFn) (s : State) (required : RequiredCapabilities) (a : AuthenticatedParts) (sender : Sender) where
@@ -30,6 +31,12 @@ module _ (G : VerifyFn) (s : State) (required : RequiredCapabilities) (a : Authe
   by_external k is =
       subst (λ (x : Sender). sender_refusal G s required a x ≡ first_failing (if_full s.profile (outside_rules G s a x))) (sym is) (of_external k)
 
+  pub after_external : (k : ℕ) → sender ≡ senders.External k → after_sender s a sender ≡ after_outside s a sender a.content.content
+  after_external k is = subst (λ (x : Sender). after_sender s a x ≡ after_outside s a x a.content.content) (sym is) refl
+
+  pub after_joiner : sender ≡ senders.NewMemberProposal → after_sender s a sender ≡ after_outside s a sender a.content.content
+  after_joiner is = subst (λ (x : Sender). after_sender s a x ≡ after_outside s a x a.content.content) (sym is) refl
+
   pub by_joiner : sender ≡ senders.NewMemberProposal → sender_refusal G s required a sender ≡ Outside
   by_joiner is =
       subst (λ (x : Sender). sender_refusal G s required a x ≡ first_failing (if_full s.profile (outside_rules G s a x))) (sym is) of_joiner
@@ -42,21 +49,18 @@ module _ (G : VerifyFn) (s : State) (required : RequiredCapabilities) (a : Authe
   unfolding sender_refusal
   of_committer = refl
 
-  pub by_committer : sender ≡ senders.NewMemberCommit → sender_refusal G s required a sender ≡ Joiner
+  by_committer : sender ≡ senders.NewMemberCommit → sender_refusal G s required a sender ≡ Joiner
   by_committer is = subst (λ (x : Sender). sender_refusal G s required a x ≡ Joiner) (sym is) of_committer
 
-  -- what is found by these rules is found of the message
-  module _ (whole : Option Refusal) (header : whole ≡ sender_refusal G s required a sender) (own : sender_refusal G s required a sender ≡ Outside) (r : Result Taken Refusal) where
-    pub outside_kept : OnOk r (Outside ≡ None) → OnOk r (whole ≡ None)
-    outside_kept h = subst (λ (o : Option Refusal). OnOk r (o ≡ None)) (sym (header ∙ own)) h
+  -- what is taken by the sender's rules is taken by those for the message
+  module _ (whole : Option Refusal) (header : whole ≡ sender_refusal G s required a sender) (r : Result Taken Refusal) (new : State) where
+    pub member_taken : (i : ℕ) → sender ≡ senders.Member i → Takes (sender_refusal G s required a (senders.Member i)) (after_sender s a (senders.Member i)) s r new
+        → Takes whole (after_sender s a sender) s r new
+    member_taken i is h = rw header (subst (λ (x : Sender). Takes (sender_refusal G s required a x) (after_sender s a x) s r new) (sym is) h)
 
-    pub outside_refused : IfErr r (FailsWithRule Outside) → IfErr r (FailsWithRule whole)
-    outside_refused h = subst (λ (o : Option Refusal). IfErr r (FailsWithRule o)) (sym (header ∙ own)) h
+    pub outside_taken : sender_refusal G s required a sender ≡ Outside → after_sender s a sender ≡ after_outside s a sender a.content.content
+        → Takes Outside (after_outside s a sender a.content.content) s r new → Takes whole (after_sender s a sender) s r new
+    outside_taken own next h = rw (header, own, next) h
 
-  -- and what is found by the rules for a client that joins with a commit
-  module _ (whole : Option Refusal) (header : whole ≡ sender_refusal G s required a sender) (own : sender_refusal G s required a sender ≡ Joiner) (r : Result Taken Refusal) where
-    pub joiner_kept : OnOk r (Joiner ≡ None) → OnOk r (whole ≡ None)
-    joiner_kept h = subst (λ (o : Option Refusal). OnOk r (o ≡ None)) (sym (header ∙ own)) h
-
-    pub joiner_refused : IfErr r (FailsWithRule Joiner) → IfErr r (FailsWithRule whole)
-    joiner_refused h = subst (λ (o : Option Refusal). IfErr r (FailsWithRule o)) (sym (header ∙ own)) h
+    pub joiner_taken : sender ≡ senders.NewMemberCommit → Takes Joiner (after_join s a a.content.content) s r new → Takes whole (after_sender s a sender) s r new
+    joiner_taken is h = rw (header, by_committer is, ap (after_sender s a) is) h

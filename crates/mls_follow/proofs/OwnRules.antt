@@ -22,16 +22,16 @@ use Rattle.mls_msgs.specs.declared.proposal.Proposal.{Proposal}
 use Rattle.mls_msgs.specs.declared.proposal.ProposalOrRef.{ProposalOrRef}
 use Rattle.mls_signatures.specs.SigningKeys.{outside_key}
 use Rattle.mls_apply.specs.declared.list_item.ListItem.{ListItem}
+use Rattle.mls_apply.specs.declared.refusal.Refusal.{Refusal}
+use Rattle.mls_apply.specs.declared.refusal.Refusal.TheVariants.{OutOfMemory}
 use Rattle.mls_apply.specs.ContextExtensions.{proposed_extensions}
 use Rattle.mls_apply.specs.ResolvedList.{resolved}
 use Rattle.mls_apply.specs.AppliedList.{AppliedTree, outcome}
 use Rattle.mls_apply.specs.JoinRules.{path_of_join, join_items}
-use Rattle.mls_apply.specs.RuleLists.{Rule, map_refusals}
+use Rattle.mls_apply.specs.RuleLists.{Rule}
 use Rattle.mls_apply.proofs.RuleLists.{AreOthers, no_rules, one_more, others_both}
 use Rattle.mls_follow.specs.State.{State}
-use Rattle.mls_follow.specs.MessageRules.{refusal_of, proposal_message_rules, member_rules, tree_rules, CommitterTree, committer_tree, resulting, path_rules_of, committer_tree_rules, applied_tree_rules, required_after, rules_with_requirements, proposal_list_rules, commit_rules, content_rules, leaf_rules, signed_proposal_rules, outside_content_rules, outside_rules, external_commit_rules, signed_commit_rules, joiner_rules, if_full, sender_rules, frame_rules, message_rules}
-use Rattle.mls_follow.specs.declared.refusal.Refusal.{Refusal}
-use Rattle.mls_follow.specs.declared.refusal.Refusal.TheVariants.{OutOfMemory}
+use Rattle.mls_follow.specs.MessageRules.{proposal_message_rules, member_rules, tree_rules, CommitterTree, committer_tree, resulting, path_rules_of, committer_tree_rules, applied_tree_rules, required_after, rules_with_requirements, proposal_list_rules, commit_rules, content_rules, leaf_rules, signed_proposal_rules, outside_content_rules, outside_rules, external_commit_rules, signed_commit_rules, joiner_rules, if_full, sender_rules, frame_rules, message_rules}
 
 -- the first rule that fails is named otherwise
 abbrev pub AreOwn : List (Rule Refusal) → Type 0
@@ -81,7 +81,7 @@ module _ (G : VerifyFn) (s : State) (required : RequiredCapabilities) where
   of_commit : (i : ℕ) (c : Commit) → AreOwn (commit_rules G s required i c)
   of_commit i c = one_more (λ e. cc) (of_items i c (resolved (senders.Member i) s.known c.proposals))
 
-  of_join_list : (es : List ProposalOrRef) (o : Option UpdatePath) → AreOwn (map_refusals refusal_of (path_of_join s.context s.tree es o))
+  of_join_list : (es : List ProposalOrRef) (o : Option UpdatePath) → AreOwn (path_of_join s.context s.tree es o)
   of_join_list es None = no_rules
   of_join_list es (Some path) =
       one_more (λ e. cc) (one_more (λ e. cc) (one_more (λ e. cc) (one_more (λ e. cc) (one_more (λ e. cc) no_rules))))
@@ -91,7 +91,7 @@ module _ (G : VerifyFn) (s : State) (required : RequiredCapabilities) where
       let under =
       rules_with_requirements G s senders.NewMemberCommit c.path (outcome (join_items c.proposals) s.tree) (required_after required (proposed_extensions (join_items c.proposals))) in
       one_more (λ e. cc)
-      (others_both (map_refusals refusal_of (path_of_join s.context s.tree c.proposals c.path)) under (of_join_list c.proposals c.path)
+      (others_both (path_of_join s.context s.tree c.proposals c.path) under (of_join_list c.proposals c.path)
       (of_under G s senders.NewMemberCommit c.path (outcome (join_items c.proposals) s.tree) (required_after required (proposed_extensions (join_items c.proposals)))))
 
   module _ (a : AuthenticatedParts) where

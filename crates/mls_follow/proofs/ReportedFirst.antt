@@ -19,13 +19,13 @@ use Rattle.mls_msgs.specs.declared.profile.Profile.{Profile}
 use Rattle.mls_msgs.specs.declared.profile.Profile.TheVariants.{Members, Full}
 use Rattle.mls_msgs.specs.declared.proposal.Proposal.{Proposal}
 use Rattle.mls_apply.specs.ProposalRules.{proposal_rules}
-use Rattle.mls_apply.specs.RuleLists.{Rule, rule, first_failing, map_refusals}
+use Rattle.mls_apply.specs.RuleLists.{Rule, rule, first_failing}
+use Rattle.mls_apply.specs.declared.refusal.Refusal.{Refusal}
+use Rattle.mls_apply.specs.declared.refusal.Refusal.TheVariants.{WrongGroup, WrongEpoch, GroupOver, UnknownExternal, SenderContent, BadSignature, KnownProposal}
 use Rattle.mls_follow.specs.State.{State}
 use Rattle.mls_signatures.specs.SigningKeys.{leaf_key, signing_key, outside_key, may_propose}
 use Rattle.mls_follow.specs.ProposalSignatures.{IsProposalUnder, UnsignedIsReportedFirst, KnownIsReportedNext}
-use Rattle.mls_follow.specs.MessageRules.{refusal_of, is_new_proposal, is_frame_signed, proposal_message_rules, handshake_rules, signed_rules, leaf_rules, is_sender_supported, is_known_external, signed_proposal_rules, outside_content_rules, outside_rules, if_full, sender_rules, frame_rules}
-use Rattle.mls_follow.specs.declared.refusal.Refusal.{Refusal}
-use Rattle.mls_follow.specs.declared.refusal.Refusal.TheVariants.{WrongGroup, WrongEpoch, GroupOver, UnknownExternal, SenderContent, BadSignature, KnownProposal}
+use Rattle.mls_follow.specs.MessageRules.{is_new_proposal, is_frame_signed, proposal_message_rules, handshake_rules, signed_rules, leaf_rules, is_sender_supported, is_known_external, signed_proposal_rules, outside_content_rules, outside_rules, if_full, sender_rules, frame_rules}
 
 -- behind a rule that holds the others decide
 behind : (e : Refusal) (b : Bool) (rs : List (Rule Refusal)) → b ≡ true → first_failing (rule e b ∷ rs) ≡ first_failing rs
@@ -98,7 +98,7 @@ module _ (G : VerifyFn) (s : State) (required : RequiredCapabilities) (a : Authe
         → first_failing (frame_rules G s required a) ≡ Some KnownProposal
     known signed old =
         framed ∙ behind BadSignature (is_frame_signed G s.context key a) (proposal_message_rules G s a a.content.sender p) signed
-        ∙ reported KnownProposal (is_new_proposal s a) (map_refusals refusal_of (proposal_rules G s.context s.tree a.content.sender p)) old
+        ∙ reported KnownProposal (is_new_proposal s a) (proposal_rules G s.context s.tree a.content.sender p) old
 
 pub unsigned_first : UnsignedIsReportedFirst
 unsigned_first G s required m key p h bad = unsigned G s required m.auth key p h bad

@@ -37,13 +37,13 @@ use Rattle.mls_apply.specs.ResolvedList.{find_known, resolved}
 use Rattle.mls_apply.specs.Senders.{is_present}
 use Rattle.mls_apply.specs.declared.list_item.ListItem.{ListItem}
 use Rattle.mls_signatures.specs.SigningKeys.{outside_key, may_propose}
-use Rattle.mls_apply.specs.RuleLists.{Rule, first_failing, map_refusals}
-use Rattle.mls_apply.specs.declared.fault.ApplyFault.{ApplyFault}
+use Rattle.mls_apply.specs.RuleLists.{Rule, first_failing}
 use Rattle.mls_apply.specs.declared.list_item.KnownProposal.{KnownProposal}
+use Rattle.mls_apply.specs.declared.refusal.Refusal.{Refusal}
 use Rattle.mls_apply.proofs.Merging.{came_from}
-use Rattle.mls_apply.proofs.RuleLists.{AreKept, passed, refused, first_failing-map_refusals}
+use Rattle.mls_apply.proofs.RuleLists.{AreKept, passed, refused}
 use Rattle.mls_follow.specs.State.{State}
-use Rattle.mls_follow.specs.MessageRules.{refusal_of, reference_of, is_known_reference, is_new_proposal, proposal_message_rules, content_rules, leaf_rules, is_sender_supported, is_known_external, signed_proposal_rules, outside_content_rules, outside_rules, if_full, sender_rules, frame_rules, message_rules}
+use Rattle.mls_follow.specs.MessageRules.{reference_of, is_known_reference, is_new_proposal, proposal_message_rules, content_rules, leaf_rules, is_sender_supported, is_known_external, signed_proposal_rules, outside_content_rules, outside_rules, if_full, sender_rules, frame_rules, message_rules}
 use Rattle.mls_follow.specs.NextState.{Transition, after_proposal, committed, after_tree, commit_tree, with_list, after_commit, after_content, after_join, after_outside, after_sender, next}
 use Rattle.mls_apply.specs.Transcript.{confirmed_hash, interim_hash}
 use Rattle.mls_follow.specs.Acceptance.{IsAcceptable, IsNext}
@@ -53,7 +53,6 @@ use Rattle.mls_follow.specs.Validity.{IsValidState}
 use Rattle.mls_follow.specs.StoredState.{stored_entry}
 use Rattle.mls_follow.specs.Resumption.{can_hold, is_receivable, with_pending, CanHoldEntries, IsStateOf, IsResumed, base_state}
 use Rattle.mls_follow.specs.StoredRuns.{IsResumable, IsInitialState, FollowersAreResumable}
-use Rattle.mls_follow.specs.declared.refusal.Refusal.{Refusal}
 use Rattle.mls_follow.specs.declared.taken.Taken.{Taken}
 use Rattle.mls_follow.proofs.Answering.{one_message}
 use Rattle.mls_follow.proofs.Pending.{held_entries, held_more}
@@ -102,18 +101,11 @@ module _ (G : VerifyFn) (s : State) (a : AuthenticatedParts) (sender : Sender) (
   unfolding is_new_proposal
   is_new reference e h = ap (λ (o : Option (List ℕ)). not (is_known_reference s.known o)) (sym e) ∙ h
 
-  no_refusal : (o : Option ApplyFault) → option_map refusal_of o ≡ None → o ≡ None
-  no_refusal None e = refl
-  no_refusal (Some f) e = absurd (none-some (refusal_of f) (sym e))
-
   -- it satisfies its rules
-  is_valid : is_present s.tree sender ≡ true → AreKept (map_refusals refusal_of (proposal_rules G s.context s.tree sender p))
+  is_valid : is_present s.tree sender ≡ true → AreKept (proposal_rules G s.context s.tree sender p)
       → not (is_some (checked_refusal G s.context s.tree sender p)) ≡ true
   unfolding checked_refusal
-  is_valid set kept =
-      let none : first_failing (proposal_rules G s.context s.tree sender p) ≡ None =
-      no_refusal (first_failing (proposal_rules G s.context s.tree sender p)) (sym (first_failing-map_refusals refusal_of (proposal_rules G s.context s.tree sender p)) ∙ kept.none) in
-      rw (set, none) refl
+  is_valid set kept = rw (set, kept.none) refl
 
   pub holds_offer : (reference : List ℕ) → is_receivable s (record { reference = reference; sender = sender; proposal = p }) ≡ true
       → is_present s.tree sender ≡ true → AreKept (proposal_message_rules G s a sender p)

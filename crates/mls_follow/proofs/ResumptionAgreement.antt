@@ -17,18 +17,18 @@ use Rattle.mls_apply.specs.ProposalRules.{valid_if_remove, valid_if_extensions, 
 use Rattle.mls_apply.specs.ResolvedList.{find_known}
 use Rattle.mls_apply.specs.RuleLists.{rule, first_failing}
 use Rattle.mls_apply.specs.Senders.{is_present}
-use Rattle.mls_apply.specs.declared.fault.ApplyFault.TheVariants as faults
+use Rattle.mls_apply.specs.declared.refusal.Refusal.TheVariants.{SenderNotMember, AddInvalid, UpdateInvalid, RemoveInvalid, ContextExtensionsInvalid, PskInvalid, ReInitInvalid, ExternalInitMisplaced}
 use Rattle.mls_apply.specs.declared.list_item.KnownProposal.{KnownProposal}
 use Rattle.mls_signatures.specs.Agreement.{AgreeOn}
 use Rattle.mls_signatures.specs.SignaturesToVerify.{tree_signatures, proposal_signatures, pending_signatures, is_supported_context, all_resumption_signatures, resumption_signatures}
-use Rattle.mls_signatures.proofs.Agreement.{front, back, from_deduplicated}
+use Rattle.mls_signatures.proofs.Agreement.{front, back, from_deduplicated, given}
 use Rattle.mls_follow.specs.State.{State}
 use Rattle.mls_follow.specs.Resumption.{can_hold, is_receivable, with_pending, CanHoldEntries, base_state}
 use Rattle.mls_follow.specs.StoredRuns.{SignaturesDetermineResumption}
 use Rattle.mls_follow.proofs.MessageAgreement.{adds_alike, updates_alike}
 use Rattle.mls_follow.proofs.Pending.{held_entries}
 use Rattle.mls_follow.proofs.SignatureAgreement.{tree_leaf, leaf_alike, members_alike}
-use Rattle.mls_follow.proofs.StartAgreement.{numbers_followed, all_asked}
+use Rattle.mls_follow.proofs.StartAgreement.{numbers_followed}
 
 module _ (G K : VerifyFn) where
   -- ---- pending proposals
@@ -40,10 +40,10 @@ module _ (G K : VerifyFn) where
       let adds = adds_alike G K context sender p h in
       let updates = updates_alike G K context t sender p h in
       λ k. first_failing (
-      rule faults.NoSuchLeaf (is_present t sender) ∷ rule faults.AddInvalid (adds k) ∷ rule faults.UpdateInvalid (updates k) ∷
-      rule faults.RemoveInvalid (valid_if_remove t p) ∷ rule faults.ContextExtensionsInvalid (valid_if_extensions p) ∷
-      rule faults.PskInvalid (valid_if_psk context sender p) ∷ rule faults.ReInitInvalid (valid_if_reinit context p) ∷
-      rule faults.ExternalInitMisplaced (is_no_external_init p) ∷ [])
+      rule SenderNotMember (is_present t sender) ∷ rule AddInvalid (adds k) ∷ rule UpdateInvalid (updates k) ∷
+      rule RemoveInvalid (valid_if_remove t p) ∷ rule ContextExtensionsInvalid (valid_if_extensions p) ∷
+      rule PskInvalid (valid_if_psk context sender p) ∷ rule ReInitInvalid (valid_if_reinit context p) ∷
+      rule ExternalInitMisplaced (is_no_external_init p) ∷ [])
 
   held_alike : (s : State) (k : KnownProposal) → AgreeOn G K (proposal_signatures s.context k.sender k.proposal) → can_hold G s k ≡ can_hold K s k
   unfolding can_hold
@@ -92,7 +92,7 @@ decide_resumptions G K bytes s agree h =
     let moved : AgreeOn G K (resumption_signatures context h.tree.tree held.0) =
     subst (λ (u : State). AgreeOn G K (resumption_signatures u.context u.tree u.known)) held.2 agree in
     let all : AgreeOn G K (leaves ++ pending) =
-    all_asked G K (is_supported_context context) (leaves ++ pending) (supported context interim.has_members.valid_tree.readable.has_tree.supported)
+    given G K (is_supported_context context) (leaves ++ pending) (supported context interim.has_members.valid_tree.readable.has_tree.supported)
     (from_deduplicated G K (all_resumption_signatures context h.tree.tree held.0) moved) in
     record {
       content = h.content;

@@ -4,6 +4,8 @@ use Rattle.std.proofs.Common.{◌≡◌, ◌∙◌, ℕ, List, [], ◌∷◌, Re
 use Rattle.std.specs.Prelude.{map, is_ok, All}
 use Rattle.std.proofs.lemmas.List.Elements.{All-nil, All-cons, All-head, All-tail}
 use Rattle.mls_check.specs.Signatures.{VerifyFn, Extends}
+use Rattle.mls_apply.specs.declared.refusal.Refusal.{Refusal}
+use Rattle.mls_apply.specs.declared.refusal.Refusal.TheVariants.{OutOfMemory}
 use Rattle.mls_follow.specs.State.{State}
 use Rattle.mls_follow.specs.NextState.{Transition}
 use Rattle.mls_follow.specs.Acceptance.{IsAcceptable, IsNext}
@@ -11,8 +13,6 @@ use Rattle.mls_follow.specs.Runs.{Call, IsTransition, IsRun, IsFold, accepted, a
 use Rattle.mls_follow.specs.Validity.{IsValidState}
 use Rattle.mls_follow.specs.RisingRuns.{Event, IsRisingRun, last_meaning, received, AcceptsAll, IsAccepted, HasMemory, RisingRunsExtend, RisingRunsAreFolds, RisingRunsAreAccepted, AcceptedMakeRuns, RecoveriesAccept, RisingRunsKeepValidity, RisingFollowersAreValid, RisingFollowersKnowSigned, RisingRunsAreAnswered}
 use Rattle.mls_follow.specs.RisingRuns.Event.{Received, Learned}
-use Rattle.mls_follow.specs.declared.refusal.Refusal.{Refusal}
-use Rattle.mls_follow.specs.declared.refusal.Refusal.TheVariants.{OutOfMemory}
 use Rattle.mls_follow.specs.declared.taken.Taken.{Taken}
 use Rattle.mls_follow.proofs.AcceptancesStay.{acceptance_stays, start_stays}
 use Rattle.mls_follow.proofs.Answering.{only_answer}

@@ -1,6 +1,6 @@
 -- Two meanings that answer the wanted signatures of a start alike start a follower alike.
-use Rattle.std.proofs.Common.{◌≡◌, ◌∙◌, ℕ, ◌≤◌, ◌++◌, Bool, true, false, List, [], Option, Some, sym, subst, arith}
-use Rattle.std.specs.Prelude.{◌==◌, ◌&&◌, nat_le, if◌then◌else◌}
+use Rattle.std.proofs.Common.{◌≡◌, ◌∙◌, ℕ, ◌≤◌, ◌++◌, true, Option, Some, sym, subst, arith}
+use Rattle.std.specs.Prelude.{◌==◌, ◌&&◌, nat_le}
 use Rattle.std.proofs.lemmas.Bool.Decides.{nat_tests}
 use Rattle.mls_nodes.specs.declared.leaf.LeafNode.{LeafNode}
 use Rattle.mls_nodes.specs.declared.required_capabilities.RequiredCapabilities.{RequiredCapabilities}
@@ -18,8 +18,7 @@ use Rattle.mls_signatures.specs.SignaturesToVerify.{is_supported, info_signature
 use Rattle.mls_follow.specs.MessageSignatures.{AgreeOnStart, SignaturesDetermineStart, SignaturesDetermineStartFault}
 use Rattle.mls_follow.specs.declared.start_fault.StartFault.{StartFault}
 use Rattle.mls_follow.specs.declared.start_fault.StartFault.TheVariants as starts
-use Rattle.mls_signatures.specs.declared.signature_to_verify.SignatureToVerify.{SignatureToVerify}
-use Rattle.mls_signatures.proofs.Agreement.{front, back, from_deduplicated}
+use Rattle.mls_signatures.proofs.Agreement.{front, back, from_deduplicated, given}
 use Rattle.mls_follow.proofs.SignatureAgreement.{tree_leaf, leaf_alike, info_alike, members_alike, faults_alike}
 
 pub numbers_followed : (version suite : ℕ) → version ≡ 1 → 1 ≤ suite → suite ≤ 7 → (version == 1 && nat_le 1 suite && nat_le suite 7) ≡ true
@@ -28,16 +27,11 @@ numbers_followed version suite e low high = grind (arith, nat_tests)
 followed : (info : GroupInfo) → IsSupportedContext info.context → is_supported info ≡ true
 followed info h = numbers_followed info.context.version info.context.cipher_suite h.version h.suite.0 h.suite.1
 
--- where a version and a suite are followed, all is asked
-pub all_asked : (G K : VerifyFn) (b : Bool) (qs : List SignatureToVerify) → b ≡ true → AgreeOn G K (if b then qs else []) → AgreeOn G K qs
-all_asked G K true qs e h = h
-all_asked G K false qs e h = absurd (cc)
-
 module _ (G K : VerifyFn) (info : GroupInfo) (supplied : Option RatchetTree) (agree : AgreeOnStart G K info supplied) where
   module _ (t : RatchetTree) (required : RequiredCapabilities) (valid : HasValidTree info.context (UsesTree supplied info.extensions) t required) where
-    asked : AgreeOn G K (info_signatures info (leaf_at 0 t.tree info.signer) ++ tree_signatures info.context.cipher_suite info.context.group_id 0 t.tree)
-    asked =
-        all_asked G K (is_supported info) (info_signatures info (leaf_at 0 t.tree info.signer) ++ tree_signatures info.context.cipher_suite info.context.group_id 0 t.tree)
+    signatures : AgreeOn G K (info_signatures info (leaf_at 0 t.tree info.signer) ++ tree_signatures info.context.cipher_suite info.context.group_id 0 t.tree)
+    signatures =
+        given G K (is_supported info) (info_signatures info (leaf_at 0 t.tree info.signer) ++ tree_signatures info.context.cipher_suite info.context.group_id 0 t.tree)
         (followed info valid.readable.has_tree.supported)
         (from_deduplicated G K (all_start_signatures info t.tree) (agree t valid.readable.has_tree.uses))
 
@@ -46,7 +40,7 @@ module _ (G K : VerifyFn) (info : GroupInfo) (supplied : Option RatchetTree) (ag
     leaves_say i x e =
         leaf_alike G K info.context.cipher_suite info.context.group_id i x
         (tree_leaf G K info.context.cipher_suite info.context.group_id 0 t.tree
-        (back G K (info_signatures info (leaf_at 0 t.tree info.signer)) (tree_signatures info.context.cipher_suite info.context.group_id 0 t.tree) asked) i x e)
+        (back G K (info_signatures info (leaf_at 0 t.tree info.signer)) (tree_signatures info.context.cipher_suite info.context.group_id 0 t.tree) signatures) i x e)
 
   members_move : (t : RatchetTree) (required : RequiredCapabilities) → HasMembers G info.context (UsesTree supplied info.extensions) t required → HasMembers K info.context (UsesTree supplied info.extensions) t required
   members_move t required m = record {
@@ -63,7 +57,7 @@ module _ (G K : VerifyFn) (info : GroupInfo) (supplied : Option RatchetTree) (ag
       info_alike G K info signer
       (subst (λ (o : Option LeafNode). AgreeOn G K (info_signatures info o)) h.set
       (front G K (info_signatures info (leaf_at 0 t.tree info.signer)) (tree_signatures info.context.cipher_suite info.context.group_id 0 t.tree)
-      (asked t h.required h.has_members.valid_tree)))
+      (signatures t h.required h.has_members.valid_tree)))
 
   start_moves : (profile : Profile) (s : State) → IsStart profile G info supplied s → IsStart profile K info supplied s
   start_moves profile s h = record {

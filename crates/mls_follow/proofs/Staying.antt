@@ -30,8 +30,8 @@ use Rattle.mls_apply.specs.Senders.{is_present}
 use Rattle.mls_apply.specs.AppliedList.{AppliedTree, outcome, with_members, new_members, after_leaf, after_adds, after_updates, after_remove, after_removes}
 use Rattle.mls_apply.specs.RuleLists.{Rule, rule, first_failing}
 use Rattle.mls_follow.specs.CommitTree.{IsListed}
-use Rattle.mls_apply.specs.declared.fault.ApplyFault.{ApplyFault}
-use Rattle.mls_apply.specs.declared.fault.ApplyFault.TheVariants.{UpdateByCommitter, RemovesCommitter, SameLeafTwice, TwoContextExtensions, PskTwice, ReInitNotAlone, PathMissing}
+use Rattle.mls_apply.specs.declared.refusal.Refusal.{Refusal}
+use Rattle.mls_apply.specs.declared.refusal.Refusal.TheVariants.{UpdateByCommitter, RemovesCommitter, SameLeafTwice, TwoContextExtensions, PskTwice, ReInitNotAlone, PathMissing}
 
 other : (j i : ℕ) → (j == i) ≡ false → i ≢ j
 other j i f e = grind (arith, nat_tests)
@@ -92,12 +92,12 @@ holds : {E : Type 0} (b : Bool) (o : Option E) (x : E) → (if b then o else Som
 holds true o x e = (refl, e)
 holds false o x e = absurd (none-some x (sym e))
 
-abbrev past_removes : List ListItem → Bool → List (Rule ApplyFault)
+abbrev past_removes : List ListItem → Bool → List (Rule Refusal)
 past_removes items has_path =
     rule SameLeafTwice (have_distinct_targets items) ∷ rule TwoContextExtensions (has_one_context_extensions items) ∷ rule PskTwice (have_distinct_psks items) ∷
     rule ReInitNotAlone (is_reinit_alone items) ∷ rule PathMissing (has_path || not (needs_path items)) ∷ []
 
-abbrev list_rest : Sender → List ListItem → Bool → List (Rule ApplyFault)
+abbrev list_rest : Sender → List ListItem → Bool → List (Rule Refusal)
 list_rest committer items has_path = rule RemovesCommitter (has_no_remove_of committer items) ∷ past_removes items has_path
 
 kept_parts : (committer : Sender) (items : List ListItem) (has_path : Bool) → list_refusal committer items has_path ≡ None → has_no_remove_of committer items ≡ true

@@ -27,21 +27,21 @@ use Rattle.mls_msgs.specs.declared.profile.Profile.{Profile}
 use Rattle.mls_msgs.specs.declared.profile.Profile.TheVariants.{Members, Full}
 use Rattle.mls_msgs.specs.declared.proposal.Proposal.{Proposal}
 use Rattle.mls_apply.specs.declared.list_item.ListItem.{ListItem}
+use Rattle.mls_apply.specs.declared.refusal.Refusal.{Refusal}
 use Rattle.mls_apply.specs.ContextExtensions.{proposed_extensions, new_extensions}
 use Rattle.mls_apply.specs.ResolvedList.{resolved}
 use Rattle.mls_apply.specs.JoinRules.{path_of_join, join_items}
 use Rattle.mls_apply.specs.ListRules.{list_rules, has_reinit}
 use Rattle.mls_apply.specs.AppliedList.{AppliedTree, outcome}
-use Rattle.mls_apply.specs.RuleLists.{first_failing, map_refusals}
+use Rattle.mls_apply.specs.RuleLists.{first_failing}
 use Rattle.mls_apply.proofs.Merging.{came_from}
 use Rattle.mls_apply.proofs.RuleLists.{AreKept, passed, passed_both, refused}
 use Rattle.mls_follow.specs.State.{State}
 use Rattle.mls_apply.specs.Transcript.{confirmed_hash, interim_hash}
-use Rattle.mls_follow.specs.MessageRules.{refusal_of, reference_of, inline_rules, member_rules, tree_rules, CommitterTree, committer_tree, resulting, changed_tree, path_rules_of, committer_tree_rules, applied_tree_rules, required_after, rules_with_requirements, proposal_list_rules, commit_rules, content_rules, leaf_rules, external_commit_rules, signed_commit_rules, joiner_rules, if_full, sender_rules, frame_rules, message_rules}
+use Rattle.mls_follow.specs.MessageRules.{reference_of, inline_rules, member_rules, tree_rules, CommitterTree, committer_tree, resulting, changed_tree, path_rules_of, committer_tree_rules, applied_tree_rules, required_after, rules_with_requirements, proposal_list_rules, commit_rules, content_rules, leaf_rules, external_commit_rules, signed_commit_rules, joiner_rules, if_full, sender_rules, frame_rules, message_rules}
 use Rattle.mls_follow.specs.NextState.{Transition, after_proposal, committed, after_tree, commit_tree, with_extensions, with_list, after_content, after_join, after_outside, after_sender, next}
 use Rattle.mls_follow.specs.Acceptance.{IsAcceptable, IsNext}
 use Rattle.mls_follow.specs.Runs.{IsTransition}
-use Rattle.mls_follow.specs.declared.refusal.Refusal.{Refusal}
 use Rattle.mls_follow.specs.declared.taken.Taken.{Taken}
 use Rattle.mls_follow.proofs.Answering.{one_message}
 use Rattle.mls_follow.proofs.Requiring.{required_after-requires}
@@ -144,7 +144,7 @@ module _ (G : VerifyFn) (s : State) (required : RequiredCapabilities) (requires 
         → after_tree (with_list s o) a t ≡ Some step → Leads step.state
     by_items None kept t e f = absurd (refused kept)
     by_items (Some items) kept t e f =
-        let of_list = map_refusals refusal_of (list_rules (senders.Member i) items (is_some c.path)) in
+        let of_list = list_rules (senders.Member i) items (is_some c.path) in
         let under = rules_with_requirements G s (senders.Member i) c.path (outcome items s.tree) (required_after required (proposed_extensions items)) in
         by_terms a (senders.Member i) c step items (required_after required (proposed_extensions items)) refl (passed_both of_list under (passed_both (inline_rules G s i c) (of_list ++ under) kept).1).1 t e f
 
@@ -159,7 +159,7 @@ module _ (G : VerifyFn) (s : State) (required : RequiredCapabilities) (requires 
     by_external : AreKept (external_commit_rules G s required c) → after_join s a (contents.Commit c) ≡ Some step → Leads step.state
     by_external kept e =
         let items = join_items c.proposals in
-        let of_list = map_refusals refusal_of (path_of_join s.context s.tree c.proposals c.path) in
+        let of_list = path_of_join s.context s.tree c.proposals c.path in
         let under = rules_with_requirements G s senders.NewMemberCommit c.path (outcome items s.tree) (required_after required (proposed_extensions items)) in
         option_and_then_some (after_tree (with_list s (Some items)) a) (commit_tree s senders.NewMemberCommit c (Some items)) step e
         (λ t f g.

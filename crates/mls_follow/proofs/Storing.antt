@@ -1,9 +1,7 @@
 -- What the calls that store a state say of its file.
 use Rattle.std.proofs.Common.{◌≡◌, ◌≢◌, ◌∙◌, ℕ, ◌≤◌, ◌<◌, List, length, Bool, true, false, Some, Result, Ok, Err, IfOk, IfErr, refl, sym, ap, subst, arith}
-use Rattle.std.specs.Prelude.{◌==◌}
 use Rattle.std.specs.Bool.{OnTrue, OnFalse}
 use Rattle.std.proofs.lemmas.Bool.{false≢true}
-use Rattle.std.proofs.lemmas.Bool.Decides.{Decides-eqb}
 use Rattle.std.proofs.lemmas.Option.{none-some, same_Some}
 use Rattle.mls_wire.specs.Encoding.{vector}
 use Rattle.mls_wire.specs.Faults.{too_long_at}

@@ -1,5 +1,5 @@
 -- What is found of a message says how it is taken.
-use Rattle.std.proofs.Common.{◌≡◌, ◌≢◌, ◌∙◌, ℕ, List, Some, None, Result, Ok, Err, refl, sym, ap, inr}
+use Rattle.std.proofs.Common.{◌≡◌, ◌≢◌, ◌∙◌, ℕ, List, Some, Result, Ok, Err, refl, sym, ap, inr}
 use Rattle.std.specs.Prelude.{OnOk, IfOk, IfErr, OnErr}
 use Rattle.mls_nodes.specs.declared.required_capabilities.RequiredCapabilities.{RequiredCapabilities}
 use Rattle.mls_check.specs.Signatures.{VerifyFn}
@@ -8,16 +8,16 @@ use Rattle.mls_msgs.specs.declared.message.Message.{Message}
 use Rattle.mls_msgs.specs.declared.message.Message.TheVariants as messages
 use Rattle.mls_msgs.specs.declared.public_message.PublicParts.{PublicParts}
 use Rattle.mls_apply.specs.RuleLists.{first_failing}
+use Rattle.mls_apply.specs.declared.refusal.Refusal.{Refusal}
+use Rattle.mls_apply.specs.declared.refusal.Refusal.TheVariants.{NotPublic, OutOfMemory}
 use Rattle.mls_nodes.specs.Requirements.{Requires}
 use Rattle.mls_follow.specs.State.{State, EncodesMessage}
 use Rattle.mls_follow.specs.MessageRules.{frame_rules, message_rules}
 use Rattle.mls_follow.specs.MessageRulesInternal.{frame_refusal}
 use Rattle.mls_follow.specs.NextState.{after_sender}
 use Rattle.mls_follow.specs.Acceptance.{IsAcceptable, IsNext, IsFirstRefusal}
-use Rattle.mls_follow.specs.AcceptanceInternal.{FailsWithRule}
+use Rattle.mls_follow.specs.AcceptanceInternal.{Takes}
 use Rattle.mls_follow.specs.Runs.{IsTransition}
-use Rattle.mls_follow.specs.declared.refusal.Refusal.{Refusal}
-use Rattle.mls_follow.specs.declared.refusal.Refusal.TheVariants.{NotPublic, OutOfMemory}
 use Rattle.mls_follow.specs.declared.taken.Taken.{Taken}
 
 -- the shut word
@@ -32,16 +32,14 @@ module _ (G : VerifyFn) (s : State) (required : RequiredCapabilities) (requires 
     word = ap (λ (x : AuthenticatedParts). first_failing (frame_rules G s required x)) (sym same) ∙ sym (frame_word G s required a)
 
     pub frame_taken : (r : Result Taken Refusal) (new : State)
-        → OnOk r (frame_refusal G s required a ≡ None)
-        → IfOk r (λ taken. after_sender s a a.content.sender ≡ Some (record { taken = taken; state = new }))
-        → IfErr r (FailsWithRule (frame_refusal G s required a)) → OnErr r (new ≡ s)
+        → Takes (frame_refusal G s required a) (after_sender s a a.content.sender) s r new
         → (bytes : List ℕ) → EncodesMessage s.profile (messages.Public p) bytes → IsTransition G s bytes r new
-    frame_taken (Ok taken) new kept next refused stays bytes encoded = (
-      record { message = messages.Public p; encoded = encoded; required = required; requires = requires; rules_hold = word ∙ kept },
-      record { message = messages.Public p; encoded = encoded; after = ap (λ (x : AuthenticatedParts). after_sender s x x.content.sender) (sym same) ∙ next },
+    frame_taken (Ok taken) new h bytes encoded = (
+      record { message = messages.Public p; encoded = encoded; required = required; requires = requires; rules_hold = word ∙ h.0 },
+      record { message = messages.Public p; encoded = encoded; after = ap (λ (x : AuthenticatedParts). after_sender s x x.content.sender) (sym same) ∙ h.1 },
     )
-    frame_taken (Err e) new kept next refused stays bytes encoded =
-        (stays, λ own. inr (record { message = messages.Public p; encoded = encoded; required = required; requires = requires; fails = word ∙ refused own }))
+    frame_taken (Err e) new h bytes encoded =
+        (h.3, λ own. inr (record { message = messages.Public p; encoded = encoded; required = required; requires = requires; fails = word ∙ h.2 own }))
 
   -- a message that is not in the open
   not_public : (m : Message) → ((p : PublicParts) → m ≢ messages.Public p) → first_failing (message_rules G s required m) ≡ Some NotPublic

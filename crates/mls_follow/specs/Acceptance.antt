@@ -9,12 +9,12 @@ use Rattle.mls_msgs.specs.declared.message.Message.TheVariants as messages
 use Rattle.mls_msgs.specs.declared.profile.Profile.{Profile}
 use Rattle.mls_msgs.specs.declared.public_message.PublicParts.{PublicParts}
 use Rattle.mls_apply.specs.RuleLists.{first_failing}
+use Rattle.mls_apply.specs.declared.refusal.Refusal.{Refusal}
+use Rattle.mls_apply.specs.declared.refusal.Refusal.TheVariants.{Malformed}
 use Rattle.mls_nodes.specs.Requirements.{Requires}
 use Rattle.mls_follow.specs.State.{State, EncodesMessage, HasEncoding}
 use Rattle.mls_follow.specs.MessageRules.{message_rules, reference_of}
 use Rattle.mls_follow.specs.NextState.{Transition, next}
-use Rattle.mls_follow.specs.declared.refusal.Refusal.{Refusal}
-use Rattle.mls_follow.specs.declared.refusal.Refusal.TheVariants.{Malformed}
 
 -- `IsAcceptable G s bytes`: the bytes are the encoding of a message that satisfies every rule (RFC 9420, 6, 12.1 to
 -- 12.4).

@@ -12,12 +12,12 @@ use Rattle.mls_msgs.specs.declared.profile.Profile.TheVariants as profiles
 use Rattle.mls_apply.specs.ListRules.{list_refusal}
 use Rattle.mls_apply.specs.AppliedList.{AppliedTree}
 use Rattle.mls_apply.specs.RuleLists.{Rule}
-use Rattle.mls_apply.specs.contracts.fault.ApplyFault as fault
+use Rattle.mls_apply.specs.contracts.refusal.Refusal as refusal
 use Rattle.mls_apply.specs.declared.list_item.ListItem.{ListItem}
+use Rattle.mls_apply.specs.declared.refusal.Refusal.{Refusal}
+use Rattle.mls_apply.specs.declared.refusal.Refusal.TheVariants.{TooManyLeaves}
 use Rattle.mls_follow.specs.State.{State}
 use Rattle.mls_follow.specs.MessageRules.{CommitterTree, committer_tree, fail_with, path_rules_of}
-use Rattle.mls_follow.specs.declared.refusal.Refusal.{Refusal}
-use Rattle.mls_follow.specs.declared.refusal.Refusal.TheVariants.{TooManyLeaves}
 
 -- `in_context context` is a state with this context.
 abbrev pub in_context : GroupContext → State
@@ -41,7 +41,7 @@ IsListed senders.NewMemberCommit items path = Unit {0}
 -- `IsListed` has at most one proof.
 pub IsListed-prop : (committer : Sender) (items : List ListItem) (path : Option UpdatePath) → IsProp (IsListed committer items path)
 IsListed-prop (senders.Member i) items path =
-    Coded-set (coded_option fault.the_row.coded) (list_refusal (senders.Member i) items (is_some path)) None
+    Coded-set (coded_option refusal.the_row.coded) (list_refusal (senders.Member i) items (is_some path)) None
 IsListed-prop (senders.External _) items path = Unit-prop
 IsListed-prop senders.NewMemberProposal items path = Unit-prop
 IsListed-prop senders.NewMemberCommit items path = Unit-prop

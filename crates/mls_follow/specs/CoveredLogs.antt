@@ -8,13 +8,13 @@ use Rattle.mls_check.specs.ReceiptSets.{has_digest}
 use Rattle.mls_check.specs.Signatures.{VerifyFn}
 use Rattle.mls_msgs.specs.declared.group_info.GroupInfo.{GroupInfo}
 use Rattle.mls_msgs.specs.declared.profile.Profile.{Profile}
+use Rattle.mls_apply.specs.declared.refusal.Refusal.{Refusal}
 use Rattle.mls_follow.specs.State.{State}
 use Rattle.mls_follow.specs.Start.{UsesTree, IsStart, IsStartFault}
 use Rattle.mls_follow.specs.Runs.{Call, IsAnswer}
 use Rattle.mls_follow.specs.Validity.{IsValidState}
 use Rattle.mls_signatures.specs.SignaturesToVerify.{start_signatures}
 use Rattle.mls_follow.specs.MessageSignatures.{AreSignaturesOf}
-use Rattle.mls_follow.specs.declared.refusal.Refusal.{Refusal}
 use Rattle.mls_follow.specs.declared.start_fault.StartFault.{StartFault}
 use Rattle.mls_follow.specs.declared.taken.Taken.{Taken}
 use Rattle.mls_signatures.specs.declared.signature_to_verify.SignatureToVerify.{SignatureToVerify}
@@ -102,8 +102,8 @@ CoveredRunsAreTrusted =
 
 -- If `R` accepts each signature of a start and a log, then the start, the results and the states are those of a
 -- follower that accepts every signature.
-abbrev pub RecipeIsRight : Type 0
-RecipeIsRight =
+abbrev pub CoveredLogsAreTrusted : Type 0
+CoveredLogsAreTrusted =
     (profile : Profile) (R : VerifyFn) (info : GroupInfo) (supplied : Option RatchetTree) (first last : State)
     (calls : List Call)
     → CoversStart R info supplied → CoversLog R first (map (λ call. call.bytes) calls)

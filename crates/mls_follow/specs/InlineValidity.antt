@@ -8,11 +8,9 @@ use Rattle.mls_msgs.specs.declared.framed_content.Sender.{Sender}
 use Rattle.mls_msgs.specs.declared.proposal.ProposalOrRef.{ProposalOrRef}
 use Rattle.mls_apply.specs.ProposalRules.{valid_if_add, valid_if_update, valid_if_remove, valid_if_extensions, valid_if_psk, valid_if_reinit, is_no_external_init, holds_if_by_value, all_inline}
 use Rattle.mls_apply.specs.RuleLists.{Rule, rule}
-use Rattle.mls_apply.specs.declared.fault.ApplyFault.{ApplyFault}
-use Rattle.mls_apply.specs.declared.fault.ApplyFault.TheVariants as faults
+use Rattle.mls_apply.specs.declared.refusal.Refusal.{Refusal}
+use Rattle.mls_apply.specs.declared.refusal.Refusal.TheVariants.{AddInvalid, UpdateInvalid, RemoveInvalid, ContextExtensionsInvalid, PskInvalid, ReInitInvalid, ExternalInitMisplaced}
 use Rattle.mls_follow.specs.declared.proposals_by_value.Validity.{Validity}
-use Rattle.mls_follow.specs.declared.refusal.Refusal.{Refusal}
-use Rattle.mls_follow.specs.declared.refusal.Refusal.TheVariants.{AddInvalid, UpdateInvalid, RemoveInvalid, ContextExtensionsInvalid, PskInvalid, ReInitInvalid, ExternalInitMisplaced}
 
 -- `all_valid`: all are valid.
 abbrev pub all_valid : Validity
@@ -62,15 +60,15 @@ list_validity G context t committer es = record {
   external_inits = all_inline is_no_external_init es;
 }
 
--- `invalid_by fault`: all are valid but those that are refused for this fault.
-abbrev pub invalid_by : ApplyFault → Validity
-invalid_by faults.AddInvalid = record all_valid { adds = false }
-invalid_by faults.UpdateInvalid = record all_valid { updates = false }
-invalid_by faults.RemoveInvalid = record all_valid { removes = false }
-invalid_by faults.ContextExtensionsInvalid = record all_valid { extensions = false }
-invalid_by faults.PskInvalid = record all_valid { psks = false }
-invalid_by faults.ReInitInvalid = record all_valid { reinits = false }
-invalid_by faults.ExternalInitMisplaced = record all_valid { external_inits = false }
+-- `invalid_by e`: all are valid but those that are refused by this rule.
+abbrev pub invalid_by : Refusal → Validity
+invalid_by AddInvalid = record all_valid { adds = false }
+invalid_by UpdateInvalid = record all_valid { updates = false }
+invalid_by RemoveInvalid = record all_valid { removes = false }
+invalid_by ContextExtensionsInvalid = record all_valid { extensions = false }
+invalid_by PskInvalid = record all_valid { psks = false }
+invalid_by ReInitInvalid = record all_valid { reinits = false }
+invalid_by ExternalInitMisplaced = record all_valid { external_inits = false }
 invalid_by _ = all_valid
 
 -- `validity_rules v` is the rules for the proposals by value, by which of them are valid.

@@ -1,7 +1,7 @@
 -- The members' profile: without the proposals psk, reinit and external_init, and without senders outside the group (own
 -- rule). No follower with this profile refuses a message by the rules for them. G is the verification function of the
 -- checker, `s` the state. Used by contracts.
-use Rattle.std.specs.Prelude.{◌≡◌, ℕ, nat_le, List, filter, All, Bool, true, false, Option}
+use Rattle.std.specs.Prelude.{◌≡◌, ℕ, not, List, filter, All, Bool, true, false, Option}
 use Rattle.mls_nodes.specs.declared.required_capabilities.RequiredCapabilities.{RequiredCapabilities}
 use Rattle.mls_tree.specs.RatchetTree.{RatchetTree}
 use Rattle.mls_check.specs.Signatures.{VerifyFn}
@@ -11,15 +11,15 @@ use Rattle.mls_msgs.specs.declared.group_info.GroupInfo.{GroupInfo}
 use Rattle.mls_msgs.specs.declared.message.Message.{Message}
 use Rattle.mls_msgs.specs.declared.profile.Profile.TheVariants.{Members}
 use Rattle.mls_apply.specs.declared.list_item.KnownProposal.{KnownProposal}
+use Rattle.mls_apply.specs.declared.refusal.Refusal.{Refusal}
+use Rattle.mls_apply.specs.declared.refusal.Refusal.TheVariants.{GroupOver, UnknownExternal, SenderContent, PskInvalid, ReInitInvalid, ExternalInitMisplaced, PskTwice, ReInitNotAlone, JoinList, ResyncInvalid}
 use Rattle.mls_apply.specs.RuleLists.{Rule, first_failing}
 use Rattle.mls_follow.specs.State.{State, EncodesMessage}
 use Rattle.mls_follow.specs.Acceptance.{IsAcceptable, IsNext}
 use Rattle.mls_follow.specs.MessageRules.{message_rules}
 use Rattle.mls_follow.specs.NextState.{Transition}
-use Rattle.mls_follow.specs.RefusalNumbers.{number_of}
 use Rattle.mls_follow.specs.Resumption.{IsResumed}
 use Rattle.mls_follow.specs.Start.{IsStart}
-use Rattle.mls_follow.specs.declared.refusal.Refusal.{Refusal}
 
 -- `IsOfMember k`: the pending proposal is in the members' profile, and its sender is a member.
 pub record IsOfMember (k : KnownProposal) : Type 0 where
@@ -33,14 +33,29 @@ pub record IsMembersState (s : State) : Type 0 where
   pub going : s.ended ≡ false
   pub known : All IsOfMember s.known
 
--- `is_members_rule r`: the number of the rule is at most 27. Greater numbers are those of rules for a group that is over,
--- for senders outside the group, for PreSharedKey, ReInit and ExternalInit, and for external commits.
+-- `is_of_full_profile e`: the refusal is by a rule for a group that is over, for senders outside the group, for PreSharedKey,
+-- ReInit and ExternalInit, or for external commits.
+abbrev pub is_of_full_profile : Refusal → Bool
+is_of_full_profile GroupOver = true
+is_of_full_profile UnknownExternal = true
+is_of_full_profile SenderContent = true
+is_of_full_profile PskInvalid = true
+is_of_full_profile ReInitInvalid = true
+is_of_full_profile ExternalInitMisplaced = true
+is_of_full_profile PskTwice = true
+is_of_full_profile ReInitNotAlone = true
+is_of_full_profile JoinList = true
+is_of_full_profile ResyncInvalid = true
+is_of_full_profile _ = false
+
+-- `is_members_rule r`: the rule is none that only the full profile needs.
 abbrev pub is_members_rule : Rule Refusal → Bool
-is_members_rule r = nat_le (number_of r.refusal) 27
+is_members_rule r = not (is_of_full_profile r.refusal)
 
 -- ---- theorems
 
--- In the members' profile the rules with greater numbers always hold: the first rule that fails is that of the others.
+-- In the members' profile the rules that only the full profile needs always hold: the first rule that fails is one of the
+-- others.
 abbrev pub MembersRulesDecide : Type 0
 MembersRulesDecide =
     (G : VerifyFn) (s : State) (required : RequiredCapabilities) (m : Message) (bytes : List ℕ)

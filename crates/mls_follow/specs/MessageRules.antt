@@ -32,11 +32,12 @@ use Rattle.mls_msgs.specs.declared.message.Message.TheVariants as messages
 use Rattle.mls_msgs.specs.declared.profile.Profile.{Profile}
 use Rattle.mls_msgs.specs.declared.profile.Profile.TheVariants.{Members, Full}
 use Rattle.mls_msgs.specs.declared.proposal.Proposal.{Proposal}
-use Rattle.mls_apply.specs.declared.fault.ApplyFault.{ApplyFault}
-use Rattle.mls_apply.specs.declared.fault.ApplyFault.TheVariants as faults
 use Rattle.mls_apply.specs.declared.list_item.ListItem.{ListItem}
 use Rattle.mls_apply.specs.declared.list_item.KnownProposal.{KnownProposal}
-use Rattle.mls_apply.specs.RuleLists.{Rule, rule, map_refusals}
+use Rattle.mls_apply.specs.declared.refusal.Refusal.{Refusal}
+use Rattle.mls_apply.specs.declared.refusal.Refusal.TheVariants as refusals
+use Rattle.mls_apply.specs.declared.refusal.Refusal.TheVariants.{NotPublic, WrongGroup, WrongEpoch, SenderNotMember, NotHandshake, BadSignature, AddInvalid, UpdateInvalid, RemoveInvalid, LastEpoch, UnknownReference, PathMissing, TooManyLeaves, KeyRepeated, Member, ContextExtensionsInvalid, GroupOver, UnknownExternal, SenderContent, PskInvalid, ReInitInvalid, ExternalInitMisplaced}
+use Rattle.mls_apply.specs.RuleLists.{Rule, rule}
 use Rattle.mls_apply.specs.ResolvedList.{find_known, resolved}
 use Rattle.mls_apply.specs.ContextExtensions.{proposed_extensions}
 use Rattle.mls_apply.specs.ProposalRules.{proposal_rules, valid_if_add, valid_if_update, valid_if_remove, valid_if_extensions, valid_if_psk, valid_if_reinit, is_no_external_init, all_inline}
@@ -47,42 +48,10 @@ use Rattle.mls_apply.specs.MergePath.{merged}
 use Rattle.mls_apply.specs.PathRules.{path_rules, node_keys}
 use Rattle.mls_signatures.specs.SigningKeys.{signed_context, external_key, outside_key, may_propose}
 use Rattle.mls_follow.specs.State.{State, last_epoch}
-use Rattle.mls_follow.specs.declared.refusal.Refusal.{Refusal}
-use Rattle.mls_follow.specs.declared.refusal.Refusal.TheVariants as refusals
-use Rattle.mls_follow.specs.declared.refusal.Refusal.TheVariants.{NotPublic, WrongGroup, WrongEpoch, SenderNotMember, NotHandshake, BadSignature, AddInvalid, UpdateInvalid, RemoveInvalid, LastEpoch, UnknownReference, UpdateByCommitter, RemovesCommitter, SameLeafTwice, PathMissing, TooManyLeaves, PathLength, PathSource, PathKeyUsed, CiphertextCount, PathParentHash, KeyRepeated, Member, TwoContextExtensions, ContextExtensionsInvalid, GroupOver, UnknownExternal, SenderContent, PskInvalid, ReInitInvalid, ExternalInitMisplaced, PskTwice, ReInitNotAlone, JoinList, ResyncInvalid, OutOfMemory}
 
 -- `fail_with e` is a rule that fails.
 abbrev pub fail_with : Refusal → List (Rule Refusal)
 fail_with e = rule e false ∷ []
-
--- `refusal_of fault` is the same fault of proposals or paths as a refusal. A blank leaf means that the list cannot be
--- applied.
-abbrev pub refusal_of : ApplyFault → Refusal
-refusal_of faults.AddInvalid = AddInvalid
-refusal_of faults.UpdateInvalid = UpdateInvalid
-refusal_of faults.RemoveInvalid = RemoveInvalid
-refusal_of faults.UnknownReference = UnknownReference
-refusal_of faults.UpdateByCommitter = UpdateByCommitter
-refusal_of faults.RemovesCommitter = RemovesCommitter
-refusal_of faults.SameLeafTwice = SameLeafTwice
-refusal_of faults.PathMissing = PathMissing
-refusal_of faults.TooManyLeaves = TooManyLeaves
-refusal_of faults.PathLength = PathLength
-refusal_of faults.PathSource = PathSource
-refusal_of faults.PathKeyUsed = PathKeyUsed
-refusal_of faults.CiphertextCount = CiphertextCount
-refusal_of faults.PathParentHash = PathParentHash
-refusal_of faults.TwoContextExtensions = TwoContextExtensions
-refusal_of faults.ContextExtensionsInvalid = ContextExtensionsInvalid
-refusal_of faults.PskInvalid = PskInvalid
-refusal_of faults.ReInitInvalid = ReInitInvalid
-refusal_of faults.ExternalInitMisplaced = ExternalInitMisplaced
-refusal_of faults.PskTwice = PskTwice
-refusal_of faults.ReInitNotAlone = ReInitNotAlone
-refusal_of faults.JoinList = JoinList
-refusal_of faults.ResyncInvalid = ResyncInvalid
-refusal_of faults.NoSuchLeaf = TooManyLeaves
-refusal_of faults.OutOfMemory = OutOfMemory
 
 -- `reference_of context a` is the ProposalRef of a proposal (RFC 9420, 5.2).
 abbrev pub reference_of : GroupContext → AuthenticatedParts → Option (List ℕ)
@@ -112,7 +81,7 @@ abbrev pub proposal_message_rules : VerifyFn → State → AuthenticatedParts �
     → List (Rule Refusal)
 proposal_message_rules G s a sender p =
     rule refusals.KnownProposal (is_new_proposal s a) ∷
-    map_refusals refusal_of (proposal_rules G s.context s.tree sender p)
+    proposal_rules G s.context s.tree sender p
 
 -- `member_rules fault` is the rules for the leaf nodes of the tree after a commit (RFC 9420, 7.3).
 abbrev pub member_rules : Option MemberFault → List (Rule Refusal)
@@ -160,7 +129,7 @@ changed_tree H committer path o =
 -- `path_rules_of H g i path` is the rules for a path of leaf i, if there is one (RFC 9420, 7.6, 7.9.2 and 12.4.2).
 abbrev pub path_rules_of : (List ℕ → List ℕ) → AppliedTree → ℕ → Option UpdatePath → List (Rule Refusal)
 path_rules_of H g i None = []
-path_rules_of H g i (Some path) = map_refusals refusal_of (path_rules H g i path)
+path_rules_of H g i (Some path) = path_rules H g i path
 
 -- `committer_tree_rules G s required path q` is the rules for the path, and for the tree after it, once the committer
 -- has a leaf.
@@ -210,7 +179,7 @@ abbrev pub proposal_list_rules : VerifyFn → State → RequiredCapabilities →
 proposal_list_rules G s required i c None = fail_with UnknownReference
 proposal_list_rules G s required i c (Some items) =
     inline_rules G s i c ++
-    (map_refusals refusal_of (list_rules (senders.Member i) items (is_some c.path)) ++
+    (list_rules (senders.Member i) items (is_some c.path) ++
     rules_with_requirements G s (senders.Member i) c.path (outcome items s.tree) (required_after required (proposed_extensions items)))
 
 -- `commit_rules G s required i c` is the rules for a commit of member i (RFC 9420, 12.4.2).
@@ -285,7 +254,7 @@ outside_rules G s a sender =
 abbrev pub external_commit_rules : VerifyFn → State → RequiredCapabilities → Commit → List (Rule Refusal)
 external_commit_rules G s required c =
     rule LastEpoch (nat_lt s.context.epoch last_epoch) ∷
-    (map_refusals refusal_of (path_of_join s.context s.tree c.proposals c.path) ++
+    (path_of_join s.context s.tree c.proposals c.path ++
     rules_with_requirements G s senders.NewMemberCommit c.path (outcome (join_items c.proposals) s.tree)
     (required_after required (proposed_extensions (join_items c.proposals))))
 

@@ -4,8 +4,6 @@
 use Rattle.std.specs.Prelude.{ℕ, is_some, not, List, Bool, true, false, Option, option_and_then}
 use Rattle.mls_nodes.specs.declared.required_capabilities.RequiredCapabilities.{RequiredCapabilities}
 use Rattle.mls_check.specs.Signatures.{VerifyFn}
-use Rattle.mls_check.specs.declared.members.MemberFault.{MemberFault}
-use Rattle.mls_check.specs.declared.members.MemberFault.TheVariants as members
 use Rattle.mls_msgs.specs.declared.authenticated.AuthenticatedParts.{AuthenticatedParts}
 use Rattle.mls_msgs.specs.declared.commit.Commit.{Commit}
 use Rattle.mls_msgs.specs.declared.framed_content.Content.{Content}
@@ -14,19 +12,9 @@ use Rattle.mls_msgs.specs.declared.framed_content.Sender.{Sender}
 use Rattle.mls_msgs.specs.declared.framed_content.Sender.TheVariants as senders
 use Rattle.mls_msgs.specs.declared.proposal.Proposal.{Proposal}
 use Rattle.mls_apply.specs.RuleLists.{first_failing}
+use Rattle.mls_apply.specs.declared.refusal.Refusal.{Refusal}
 use Rattle.mls_follow.specs.State.{State}
 use Rattle.mls_follow.specs.MessageRules.{proposal_message_rules, commit_rules, handshake_rules, outside_rules, external_commit_rules, joiner_rules, sender_rules, frame_rules}
-use Rattle.mls_follow.specs.declared.refusal.Refusal.{Refusal}
-use Rattle.mls_follow.specs.declared.refusal.Refusal.TheVariants.{Member, OutOfMemory}
-
--- `member_refusal fault` is the same fault of a leaf node as a refusal.
-abbrev pub member_refusal : MemberFault → Refusal
-member_refusal (members.ExtensionUnlisted index) = Member (members.ExtensionUnlisted index)
-member_refusal (members.RequirementUnmet index) = Member (members.RequirementUnmet index)
-member_refusal (members.CredentialUnsupported index) = Member (members.CredentialUnsupported index)
-member_refusal (members.SignatureKeyRepeated index) = Member (members.SignatureKeyRepeated index)
-member_refusal (members.LeafSignature index) = Member (members.LeafSignature index)
-member_refusal members.OutOfMemory = OutOfMemory
 
 -- `is_handshake c`: the content is a proposal or a commit (RFC 9420, 6).
 abbrev pub is_handshake : Content → Bool

@@ -14,14 +14,14 @@ use Rattle.mls_msgs.specs.declared.message.Message.TheVariants as messages
 use Rattle.mls_msgs.specs.declared.proposal.Proposal.{Proposal}
 use Rattle.mls_msgs.specs.declared.public_message.PublicParts.{PublicParts}
 use Rattle.mls_apply.specs.declared.list_item.KnownProposal.{KnownProposal}
+use Rattle.mls_apply.specs.declared.refusal.Refusal.TheVariants as refusals
+use Rattle.mls_apply.specs.declared.refusal.Refusal.TheVariants.{BadSignature}
 use Rattle.mls_apply.specs.RuleLists.{first_failing}
 use Rattle.mls_signatures.specs.SigningKeys.{signing_key, may_propose}
 use Rattle.mls_follow.specs.State.{State}
 use Rattle.mls_follow.specs.MessageRules.{reference_of, is_sender_supported, is_new_proposal, is_frame_signed, message_rules}
 use Rattle.mls_follow.specs.Start.{IsStart}
 use Rattle.mls_follow.specs.Runs.{Call, IsRun}
-use Rattle.mls_follow.specs.declared.refusal.Refusal.TheVariants as refusals
-use Rattle.mls_follow.specs.declared.refusal.Refusal.TheVariants.{BadSignature}
 
 -- `IsProposalUnder s a key p`: the content is a proposal for the current group and epoch, the group goes on, the sender's
 -- messages are processed, and the sender may send the proposal and has this key.

@@ -5,6 +5,7 @@ use Rattle.mls_tree.specs.RatchetTree.{RatchetTree}
 use Rattle.mls_check.specs.Signatures.{VerifyFn, Extends}
 use Rattle.mls_msgs.specs.declared.group_info.GroupInfo.{GroupInfo}
 use Rattle.mls_msgs.specs.declared.profile.Profile.{Profile}
+use Rattle.mls_apply.specs.declared.refusal.Refusal.TheVariants.{OutOfMemory}
 use Rattle.mls_follow.specs.State.{State}
 use Rattle.mls_follow.specs.NextState.{Transition}
 use Rattle.mls_follow.specs.Acceptance.{IsAcceptable, IsNext}
@@ -12,7 +13,6 @@ use Rattle.mls_follow.specs.Start.{IsStart}
 use Rattle.mls_follow.specs.Runs.{Call, IsTransition, IsRun, IsFold, HasAnswer, accepted}
 use Rattle.mls_follow.specs.Validity.{IsValidState}
 use Rattle.mls_follow.specs.ProposalSignatures.{AreKnownSigned}
-use Rattle.mls_follow.specs.declared.refusal.Refusal.TheVariants.{OutOfMemory}
 
 -- ---- definitions
 

@@ -10,12 +10,12 @@ use Rattle.mls_msgs.specs.declared.profile.Profile.{Profile}
 use Rattle.mls_check.specs.Signatures.{VerifyFn}
 use Rattle.mls_nodes.specs.declared.required_capabilities.RequiredCapabilities.{RequiredCapabilities}
 use Rattle.mls_nodes.specs.Requirements.{Requires}
+use Rattle.mls_apply.specs.declared.refusal.Refusal.{Refusal}
+use Rattle.mls_apply.specs.declared.refusal.Refusal.TheVariants.{OutOfMemory}
 use Rattle.mls_follow.specs.State.{State}
 use Rattle.mls_follow.specs.NextState.{Transition}
 use Rattle.mls_follow.specs.Acceptance.{IsAcceptable, IsNext, IsFirstRefusal}
 use Rattle.mls_follow.specs.Start.{IsStart}
-use Rattle.mls_follow.specs.declared.refusal.Refusal.{Refusal}
-use Rattle.mls_follow.specs.declared.refusal.Refusal.TheVariants.{OutOfMemory}
 use Rattle.mls_follow.specs.declared.taken.Taken.{Taken}
 
 -- `IsTransition G s bytes result new`: `take` may return `result` and leave the state `new`. It accepts only what is

@@ -10,8 +10,7 @@ ghost use Rattle.mls_follow.specs.AcceptanceInternal.{FailsWithRule};
 ghost use Rattle.mls_follow.specs.MessageRules.{tree_rules};
 ghost use Rattle.mls_follow.specs.CommitTree.{in_context};
 
-use crate::refusal::Refusal;
-use mls_apply::StagedTree;
+use mls_apply::{Refusal, StagedTree};
 use mls_check::{MemberFault, SignatureCheck, SortedRequirements};
 use mls_hash::Suite;
 use mls_index::LeafRules;

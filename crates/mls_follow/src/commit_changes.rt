@@ -28,10 +28,9 @@ use crate::changed_tree_check::{TreeRules, check_changed_tree};
 use crate::group::{Group, StagedContext};
 use crate::next_extensions::copy_of_proposed;
 use crate::proposals_by_value::check_inline;
-use crate::refusal::Refusal;
 use crate::resolved::{ReceivedCommit, ResolvedCommit};
 use mls_apply::{
-    CommitterPath, EpochState, Leaves, ListItem, StagedTree, check_join, check_list,
+    CommitterPath, EpochState, Leaves, ListItem, Refusal, StagedTree, check_join, check_list,
     have_distinct_added_keys, join_items, resolve_list,
 };
 use mls_check::SignatureCheck;
@@ -165,7 +164,7 @@ fn merge(
         added: &committer.added,
         path,
     };
-    Ok(tree.merge_path(alloc, suite, &path)?)
+    tree.merge_path(alloc, suite, &path)
 }
 
 /// Applies the proposal list of a commit and merges its path.

@@ -22,12 +22,11 @@ ghost use Rattle.mls_follow.specs.Start.{IsStart, IsStartFault};
 
 use crate::framed_content_rules::read_message;
 use crate::group::Group;
-use crate::refusal::Refusal;
 use crate::resume::{ResumeRefused, resumed_group};
 use crate::start::{StartParts, StartRefused, check_start, supported_suite};
 use crate::start_fault::StartFault;
 use crate::taken::Taken;
-use mls_apply::{KnownProposal, PendingProposals, StagedTree};
+use mls_apply::{KnownProposal, PendingProposals, Refusal, StagedTree};
 use mls_check::{LearningCheck, OutOfMemory, SignatureCheck};
 use mls_hash::Suite;
 use mls_msgs::{GroupInfo, Message, Profile};

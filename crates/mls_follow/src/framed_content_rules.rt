@@ -21,7 +21,7 @@ use crate::context_pieces::ContextPieces;
 use crate::group::Group;
 use crate::message_header::{is_unread, wire_format_of};
 use crate::received_frame::ReceivedFrame;
-use crate::refusal::Refusal;
+use mls_apply::Refusal;
 use mls_check::{OutOfMemory, SignatureCheck, signed, signed_in_pieces};
 use mls_msgs::{
     CONTENT_LABEL, Commit, Content, Message, Profile, Proposal, Sender, decode_message_in,

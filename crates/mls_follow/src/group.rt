@@ -13,9 +13,10 @@ ghost use Rattle.mls_follow.specs.State.{last_epoch};
 ghost use Rattle.mls_apply.specs.Transcript.{confirmed_hash, interim_hash};
 
 use crate::next_extensions::NextExtensions;
-use crate::refusal::Refusal;
 use crate::taken::Taken;
-use mls_apply::{KnownProposal, PendingProposals, StagedTree, confirmed_hash, interim_hash};
+use mls_apply::{
+    KnownProposal, PendingProposals, Refusal, StagedTree, confirmed_hash, interim_hash,
+};
 use mls_hash::Suite;
 use mls_msgs::{Authenticated, Profile, Proposal, Sender};
 use mls_nodes::{ExternalSenders, GroupContext, RequiredCapabilities};

@@ -23,7 +23,6 @@ mod pending_entries;
 mod proposal_message;
 mod proposals_by_value;
 mod received_frame;
-mod refusal;
 mod resolved;
 mod resume;
 mod resume_fault;
@@ -35,8 +34,7 @@ mod take;
 mod taken;
 
 pub use follower::Follower;
-pub use mls_apply::{confirmed_hash, interim_hash};
-pub use refusal::Refusal;
+pub use mls_apply::{Refusal, confirmed_hash, interim_hash};
 pub use resume::ResumeRefused;
 pub use resume_fault::ResumeFault;
 pub use signatures::SignatureListFault;

@@ -7,8 +7,7 @@ ghost use Rattle.mls_nodes.specs.declared.required_capabilities.RequiredCapabili
 ghost use Rattle.mls_apply.specs.ContextExtensions.{proposed_extensions};
 ghost use Rattle.mls_follow.specs.MessageRules.{required_after};
 
-use crate::refusal::Refusal;
-use mls_apply::ListItem;
+use mls_apply::{ListItem, Refusal};
 use mls_check::OutOfMemory;
 use mls_msgs::Proposal;
 use mls_nodes::{Extensions, ExternalSenders, RequiredCapabilities, requirements_of};

@@ -14,7 +14,7 @@ ghost use Rattle.mls_follow.specs.ResumptionParts.{IsKnownFault};
 
 use crate::group::Group;
 use crate::resume_fault::ResumeFault;
-use mls_apply::{ApplyFault, EpochState, check_proposal};
+use mls_apply::{EpochState, Refusal, check_proposal};
 use mls_check::SignatureCheck;
 use mls_msgs::{Profile, Proposal, Sender};
 use mls_signatures::{external_key_among, may_propose};
@@ -98,7 +98,7 @@ fn is_valid_proposal<C: SignatureCheck>(
     };
     match check_proposal(alloc, &epoch, sender, proposal, checker) {
         Ok(()) => Ok(true),
-        Err(ApplyFault::OutOfMemory) => Err(AllocError),
+        Err(Refusal::OutOfMemory) => Err(AllocError),
         Err(_) => Ok(false),
     }
 }

@@ -8,9 +8,8 @@ ghost use Rattle.mls_follow.specs.GroupModel.{group_state};
 ghost use Rattle.mls_follow.specs.MessageRules.{proposal_message_rules, reference_of};
 
 use crate::group::Group;
-use crate::refusal::Refusal;
 use crate::resolved::SentProposal;
-use mls_apply::{EpochState, check_proposal};
+use mls_apply::{EpochState, Refusal, check_proposal};
 use mls_check::SignatureCheck;
 use mls_hash::{Suite, ref_hash};
 use mls_msgs::{Authenticated, PROPOSAL_REFERENCE_LABEL, encode_authenticated};

@@ -10,8 +10,7 @@ ghost use Rattle.mls_follow.specs.InlineValidity.{all_valid, both_valid, entry_v
 ghost use Rattle.mls_follow.specs.MessageRules.{inline_rules};
 
 use crate::group::Group;
-use crate::refusal::Refusal;
-use mls_apply::{ApplyFault, EpochState, check_proposal};
+use mls_apply::{EpochState, Refusal, check_proposal};
 use mls_check::SignatureCheck;
 use mls_msgs::{Commit, ProposalOrRef, Sender};
 use std::alloc::{AllocError, Global};
@@ -59,37 +58,37 @@ impl Validity {
         }
     }
 
-    /// Returns that all are valid but those that are refused for this fault.
-    fn without(fault: ApplyFault) -> Validity
-        ensures { result ≡ invalid_by fault }
+    /// Returns that all are valid but those that are refused by this rule.
+    fn without(refusal: Refusal) -> Validity
+        ensures { result ≡ invalid_by refusal }
     {
         let full = Validity::full();
-        match fault {
-            ApplyFault::AddInvalid => Validity {
+        match refusal {
+            Refusal::AddInvalid => Validity {
                 adds: false,
                 ..full
             },
-            ApplyFault::UpdateInvalid => Validity {
+            Refusal::UpdateInvalid => Validity {
                 updates: false,
                 ..full
             },
-            ApplyFault::RemoveInvalid => Validity {
+            Refusal::RemoveInvalid => Validity {
                 removes: false,
                 ..full
             },
-            ApplyFault::ContextExtensionsInvalid => Validity {
+            Refusal::ContextExtensionsInvalid => Validity {
                 extensions: false,
                 ..full
             },
-            ApplyFault::PskInvalid => Validity {
+            Refusal::PskInvalid => Validity {
                 psks: false,
                 ..full
             },
-            ApplyFault::ReInitInvalid => Validity {
+            Refusal::ReInitInvalid => Validity {
                 reinits: false,
                 ..full
             },
-            ApplyFault::ExternalInitMisplaced => Validity {
+            Refusal::ExternalInitMisplaced => Validity {
                 external_inits: false,
                 ..full
             },
@@ -149,8 +148,8 @@ fn entry_validity<C: SignatureCheck>(
     let sender = Sender::Member(committer);
     match check_proposal(alloc, &epoch, sender, proposal, checker) {
         Ok(()) => Ok(Validity::full()),
-        Err(ApplyFault::OutOfMemory) => Err(AllocError),
-        Err(fault) => Ok(Validity::without(fault)),
+        Err(Refusal::OutOfMemory) => Err(AllocError),
+        Err(refusal) => Ok(Validity::without(refusal)),
     }
 }
 

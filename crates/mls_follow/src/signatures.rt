@@ -11,7 +11,7 @@ ghost use Rattle.mls_follow.specs.MessageSignatures.{AreSignaturesOf, message_si
 use crate::follower::Follower;
 use crate::framed_content_rules::read_message;
 use crate::group::Group;
-use crate::refusal::Refusal;
+use mls_apply::Refusal;
 use mls_check::{OutOfMemory, SignatureCheck};
 use mls_msgs::Message;
 use mls_signatures::{GroupEpoch, SignatureList, message_signatures};

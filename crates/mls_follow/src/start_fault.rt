@@ -39,7 +39,7 @@ pub enum StartFault {
 
 impl StartFault {
     ghost use Rattle.std.specs.Prelude.{◌≡◌};
-    ghost use Rattle.mls_follow.specs.RefusalNumbers.{start_number_of};
+    ghost use Rattle.mls_follow.specs.StartNumbers.{start_number_of};
 
     /// Returns the number by which reports name the fault: 0 for `OutOfMemory`, else from 1 on in the order of the
     /// variants.

@@ -1,6 +1,6 @@
 //! How a group processes what its members, external senders and new members have sent.
 
-ghost use Rattle.std.specs.Prelude.{◌≡◌, ◌<◌, Some, None, IsSome, IsTrue, IfOk, IfErr, OnOk, OnErr, option_and_then, option_map, unwrap_or};
+ghost use Rattle.std.specs.Prelude.{◌≡◌, ◌<◌, Some, IsSome, IsTrue, option_and_then, option_map, unwrap_or};
 ghost use Rattle.mls_tree.specs.Tree.{leaf_at};
 ghost use Rattle.mls_msgs.specs.Layout.{is_commit};
 ghost use Rattle.mls_msgs.specs.Tbs.{confirmed_input};
@@ -19,7 +19,7 @@ ghost use Rattle.mls_follow.specs.MessageRules.{changed_tree, if_full, joiner_ru
 ghost use Rattle.mls_follow.specs.MessageRulesInternal.{external_commit_refusal, frame_refusal, handshake_refusal, joiner_refusal, outside_refusal, proposal_refusal, sender_refusal};
 ghost use Rattle.mls_follow.specs.NextState.{after_commit, after_content, after_join, after_outside, after_proposal, after_sender, after_tree, with_list};
 ghost use Rattle.mls_follow.specs.State.{EncodesMessage, last_epoch};
-ghost use Rattle.mls_follow.specs.AcceptanceInternal.{FailsWithRule};
+ghost use Rattle.mls_follow.specs.AcceptanceInternal.{Takes};
 ghost use Rattle.mls_follow.specs.Runs.{IsTransition};
 
 use crate::changed_tree_check::TreeRules;
@@ -31,10 +31,9 @@ use crate::group::Group;
 use crate::next_extensions::{proposed_requirements, required_after};
 use crate::proposal_message::check_proposal_message;
 use crate::received_frame::ReceivedFrame;
-use crate::refusal::Refusal;
 use crate::resolved::{MemberMessage, ReceivedCommit, ResolvedCommit, SentProposal};
 use crate::taken::Taken;
-use mls_apply::{PendingProposals, has_reinit};
+use mls_apply::{PendingProposals, Refusal, has_reinit};
 use mls_check::SignatureCheck;
 use mls_msgs::{Authenticated, Commit, Content, Message, Profile, Proposal, Sender};
 use mls_nodes::RequiredCapabilities;
@@ -52,15 +51,11 @@ impl Group {
     ) -> Result<Taken, Refusal>
         requires present { IsTrue (is_present self.old.tree.tree sent.now.sender) }
         requires referenced { IsSome (reference_of self.old.context sent.now.auth.now) }
-        ensures rules_hold { OnOk result (proposal_refusal (C.meaning checker.now) (group_state self.old)
-            sent.now.auth.now sent.now.sender sent.now.proposal.now ≡ None) }
-        ensures next { IfOk result (λ taken. option_map
-            (after_proposal (group_state self.old) sent.now.sender sent.now.proposal.now)
-            (reference_of self.old.context sent.now.auth.now)
-            ≡ Some (record { taken = taken; state = group_state self.new })) }
-        ensures refused { IfErr result (FailsWithRule (proposal_refusal (C.meaning checker.now) (group_state self.old)
-            sent.now.auth.now sent.now.sender sent.now.proposal.now)) }
-        ensures unchanged_on_error { OnErr result (group_state self.new ≡ group_state self.old) }
+        ensures { let s = group_state self.old in
+            Takes (proposal_refusal (C.meaning checker.now) s sent.now.auth.now sent.now.sender sent.now.proposal.now)
+            (option_map (after_proposal s sent.now.sender sent.now.proposal.now) (reference_of self.old.context
+            sent.now.auth.now))
+            s result (group_state self.new) }
     {
         let reference = check_proposal_message(alloc, self, checker, sent)?;
         Ok(self.store_proposal(alloc, reference, sent.sender, sent.proposal)?)
@@ -77,16 +72,11 @@ impl Group {
     ) -> Result<Taken, Refusal>
         requires member { IsSome (leaf_at 0 self.old.tree.tree message.now.sender) }
         requires referenced { IsSome (reference_of self.old.context message.now.auth.now) }
-        ensures rules_hold { OnOk result (handshake_refusal (C.meaning checker.now)
-            (group_state self.old) self.old.required
-            message.now.auth.now message.now.sender (contents.Proposal proposal.now) ≡ None) }
-        ensures next { IfOk result (λ taken. after_content (group_state self.old) message.now.auth.now message.now.sender
-            (contents.Proposal proposal.now) ≡ Some
-            (record { taken = taken; state = group_state self.new })) }
-        ensures refused { IfErr result (FailsWithRule (handshake_refusal (C.meaning checker.now)
-            (group_state self.old)
-            self.old.required message.now.auth.now message.now.sender (contents.Proposal proposal.now))) }
-        ensures unchanged_on_error { OnErr result (group_state self.new ≡ group_state self.old) }
+        ensures { let s = group_state self.old in
+            Takes (handshake_refusal (C.meaning checker.now) s self.old.required message.now.auth.now
+            message.now.sender (contents.Proposal proposal.now))
+            (after_content s message.now.auth.now message.now.sender (contents.Proposal proposal.now))
+            s result (group_state self.new) }
     {
         let sent = SentProposal {
             auth: message.auth,
@@ -111,21 +101,15 @@ impl Group {
         requires requirements { required_after self.old.required (proposed_extensions commit.now.items.items)
             ≡ Some (unwrap_or required self.old.required) }
         requires checked { HasUniqueKeysAndValidLeaves (C.meaning checker.now) (group_state self.old) }
-        ensures rules_hold { let o = outcome commit.now.items.items self.old.tree.tree in
-            OnOk result (first_failing (applied_tree_rules (C.meaning checker.now)
-            (group_state self.old) (unwrap_or required self.old.required)
-            commit.now.committer commit.now.path.now o) ≡ None) }
-        ensures next { let o = outcome commit.now.items.items self.old.tree.tree in
+        ensures { let s = group_state self.old in
+            let o = outcome commit.now.items.items self.old.tree.tree in
             let H = hash_of self.old.context.cipher_suite in
-            let s = with_list (group_state self.old) (Some commit.now.items.items) in
-            IfOk result (λ taken. option_and_then (after_tree s commit.now.auth.now)
-            (changed_tree H commit.now.committer commit.now.path.now o)
-            ≡ Some (record { taken = taken; state = group_state self.new })) }
-        ensures refused { let o = outcome commit.now.items.items self.old.tree.tree in
-            IfErr result (FailsWithRule (first_failing (applied_tree_rules (C.meaning checker.now)
-            (group_state self.old) (unwrap_or required self.old.required)
-            commit.now.committer commit.now.path.now o))) }
-        ensures unchanged_on_error { OnErr result (group_state self.new ≡ group_state self.old) }
+            let listed = with_list s (Some commit.now.items.items) in
+            Takes (first_failing (applied_tree_rules (C.meaning checker.now) s (unwrap_or required self.old.required)
+            commit.now.committer commit.now.path.now o))
+            (option_and_then (after_tree listed commit.now.auth.now) (changed_tree H commit.now.committer
+            commit.now.path.now o))
+            s result (group_state self.new) }
     {
         let transcript = match self.transcript(alloc, commit.auth) {
             Ok(transcript) => transcript,
@@ -163,21 +147,16 @@ impl Group {
         requires present { IsTrue (is_present self.old.tree.tree commit.now.committer) }
         requires not_last_epoch { self.old.context.epoch < last_epoch }
         requires checked { HasUniqueKeysAndValidLeaves (C.meaning checker.now) (group_state self.old) }
-        ensures rules_hold { let o = outcome commit.now.items.items self.old.tree.tree in
+        ensures { let s = group_state self.old in
+            let o = outcome commit.now.items.items self.old.tree.tree in
             let required = required_after self.old.required (proposed_extensions commit.now.items.items) in
-            OnOk result (first_failing (rules_with_requirements (C.meaning checker.now)
-            (group_state self.old) commit.now.committer commit.now.path.now o required) ≡ None) }
-        ensures next { let o = outcome commit.now.items.items self.old.tree.tree in
             let H = hash_of self.old.context.cipher_suite in
-            let s = with_list (group_state self.old) (Some commit.now.items.items) in
-            IfOk result (λ taken. option_and_then (after_tree s commit.now.auth.now)
-            (changed_tree H commit.now.committer commit.now.path.now o)
-            ≡ Some (record { taken = taken; state = group_state self.new })) }
-        ensures refused { let o = outcome commit.now.items.items self.old.tree.tree in
-            let required = required_after self.old.required (proposed_extensions commit.now.items.items) in
-            IfErr result (FailsWithRule (first_failing (rules_with_requirements (C.meaning checker.now)
-            (group_state self.old) commit.now.committer commit.now.path.now o required))) }
-        ensures unchanged_on_error { OnErr result (group_state self.new ≡ group_state self.old) }
+            let listed = with_list s (Some commit.now.items.items) in
+            Takes (first_failing (rules_with_requirements (C.meaning checker.now) s commit.now.committer
+            commit.now.path.now o required))
+            (option_and_then (after_tree listed commit.now.auth.now) (changed_tree H commit.now.committer
+            commit.now.path.now o))
+            s result (group_state self.new) }
     {
         let required = proposed_requirements(alloc, commit.items.as_slice())?;
         self.apply_commit(alloc, checker, commit, required)
@@ -196,17 +175,12 @@ impl Group {
         requires hashed { IsSome (confirmed_input auth.now) }
         requires commit { IsTrue (is_commit auth.now.content.content) }
         requires checked { HasUniqueKeysAndValidLeaves (C.meaning checker.now) (group_state self.old) }
-        ensures rules_hold { OnOk result (handshake_refusal (C.meaning checker.now)
-            (with_known (group_state self.old) received.now.known.now) self.old.required
-            auth.now received.now.committer (contents.Commit received.now.commit.now) ≡ None) }
-        ensures next { IfOk result (λ taken. after_content
-            (with_known (group_state self.old) received.now.known.now) auth.now received.now.committer
-            (contents.Commit received.now.commit.now) ≡ Some
-            (record { taken = taken; state = group_state self.new })) }
-        ensures refused { IfErr result (FailsWithRule (handshake_refusal (C.meaning checker.now)
-            (with_known (group_state self.old) received.now.known.now) self.old.required
-            auth.now received.now.committer (contents.Commit received.now.commit.now))) }
-        ensures unchanged_on_error { OnErr result (group_state self.new ≡ group_state self.old) }
+        ensures { let s = group_state self.old in
+            Takes (handshake_refusal (C.meaning checker.now) (with_known s received.now.known.now) self.old.required
+            auth.now received.now.committer (contents.Commit received.now.commit.now))
+            (after_content (with_known s received.now.known.now) auth.now received.now.committer (contents.Commit
+            received.now.commit.now))
+            s result (group_state self.new) }
     {
         let items = check_items(alloc, self, checker, received)?;
         let resolved = ResolvedCommit {
@@ -233,16 +207,11 @@ impl Group {
         requires hashed { IsSome (confirmed_input message.now.auth.now) }
         requires commit { IsTrue (is_commit message.now.auth.now.content.content) }
         requires checked { HasUniqueKeysAndValidLeaves (C.meaning checker.now) (group_state self.old) }
-        ensures rules_hold { OnOk result (handshake_refusal (C.meaning checker.now)
-            (group_state self.old) self.old.required
-            message.now.auth.now message.now.sender (contents.Commit commit.now) ≡ None) }
-        ensures next { IfOk result (λ taken. after_content (group_state self.old) message.now.auth.now message.now.sender
-            (contents.Commit commit.now) ≡ Some
-            (record { taken = taken; state = group_state self.new })) }
-        ensures refused { IfErr result (FailsWithRule (handshake_refusal (C.meaning checker.now)
-            (group_state self.old)
-            self.old.required message.now.auth.now message.now.sender (contents.Commit commit.now))) }
-        ensures unchanged_on_error { OnErr result (group_state self.new ≡ group_state self.old) }
+        ensures { let s = group_state self.old in
+            Takes (handshake_refusal (C.meaning checker.now) s self.old.required message.now.auth.now
+            message.now.sender (contents.Commit commit.now))
+            (after_content s message.now.auth.now message.now.sender (contents.Commit commit.now))
+            s result (group_state self.new) }
     {
         let known = replace(&mut self.known, PendingProposals::new(alloc));
         let received = ReceivedCommit {
@@ -270,14 +239,10 @@ impl Group {
         requires hashed { IsSome (confirmed_input frame.now) }
         requires referenced { IsSome (reference_of self.old.context frame.now) }
         requires checked { HasUniqueKeysAndValidLeaves (C.meaning checker.now) (group_state self.old) }
-        ensures rules_hold { OnOk result (sender_refusal (C.meaning checker.now) (group_state self.old)
-            self.old.required frame.now (Member sender) ≡ None) }
-        ensures next { IfOk result (λ taken. after_sender (group_state self.old) frame.now
-            (Member sender)
-            ≡ Some (record { taken = taken; state = group_state self.new })) }
-        ensures refused { IfErr result (FailsWithRule (sender_refusal (C.meaning checker.now) (group_state self.old)
-            self.old.required frame.now (Member sender))) }
-        ensures unchanged_on_error { OnErr result (group_state self.new ≡ group_state self.old) }
+        ensures { let s = group_state self.old in
+            Takes (sender_refusal (C.meaning checker.now) s self.old.required frame.now (Member sender))
+            (after_sender s frame.now (Member sender))
+            s result (group_state self.new) }
     {
         check_member_frame(alloc, self, checker, frame, sender)?;
         let auth = frame.auth();
@@ -301,14 +266,10 @@ impl Group {
     ) -> Result<Taken, Refusal>
         requires present { IsTrue (is_present self.old.tree.tree frame.now.content.sender) }
         requires referenced { IsSome (reference_of self.old.context frame.now) }
-        ensures rules_hold { OnOk result (outside_refusal (C.meaning checker.now) (group_state self.old)
-            frame.now frame.now.content.sender ≡ None) }
-        ensures next { IfOk result (λ taken. after_outside (group_state self.old) frame.now frame.now.content.sender
-            frame.now.content.content
-            ≡ Some (record { taken = taken; state = group_state self.new })) }
-        ensures refused { IfErr result (FailsWithRule (outside_refusal (C.meaning checker.now) (group_state self.old)
-            frame.now frame.now.content.sender)) }
-        ensures unchanged_on_error { OnErr result (group_state self.new ≡ group_state self.old) }
+        ensures { let s = group_state self.old in
+            Takes (outside_refusal (C.meaning checker.now) s frame.now frame.now.content.sender)
+            (after_outside s frame.now frame.now.content.sender frame.now.content.content)
+            s result (group_state self.new) }
     {
         let proposal = check_outside_frame(alloc, self, checker, frame)?;
         let auth = frame.auth();
@@ -330,14 +291,11 @@ impl Group {
     ) -> Result<Taken, Refusal>
         requires present { IsTrue (is_present self.old.tree.tree frame.now.content.sender) }
         requires referenced { IsSome (reference_of self.old.context frame.now) }
-        ensures rules_hold { OnOk result (first_failing (if_full self.old.profile (outside_rules
-            (C.meaning checker.now) (group_state self.old) frame.now frame.now.content.sender)) ≡ None) }
-        ensures next { IfOk result (λ taken. after_outside (group_state self.old) frame.now frame.now.content.sender
-            frame.now.content.content
-            ≡ Some (record { taken = taken; state = group_state self.new })) }
-        ensures refused { IfErr result (FailsWithRule (first_failing (if_full self.old.profile (outside_rules
-            (C.meaning checker.now) (group_state self.old) frame.now frame.now.content.sender)))) }
-        ensures unchanged_on_error { OnErr result (group_state self.new ≡ group_state self.old) }
+        ensures { let s = group_state self.old in
+            Takes (first_failing (if_full self.old.profile (outside_rules (C.meaning checker.now) s frame.now
+            frame.now.content.sender)))
+            (after_outside s frame.now frame.now.content.sender frame.now.content.content)
+            s result (group_state self.new) }
     {
         match self.profile {
             Profile::Members => Err(Refusal::SenderNotMember),
@@ -358,14 +316,10 @@ impl Group {
         requires hashed { IsSome (confirmed_input auth.now) }
         requires commit { IsTrue (is_commit auth.now.content.content) }
         requires checked { HasUniqueKeysAndValidLeaves (C.meaning checker.now) (group_state self.old) }
-        ensures rules_hold { OnOk result (external_commit_refusal (C.meaning checker.now) (group_state self.old)
-            self.old.required commit.now ≡ None) }
-        ensures next { IfOk result (λ taken. after_commit (group_state self.old) auth.now NewMemberCommit commit.now
-            (Some (join_items commit.now.proposals))
-            ≡ Some (record { taken = taken; state = group_state self.new })) }
-        ensures refused { IfErr result (FailsWithRule (external_commit_refusal (C.meaning checker.now)
-            (group_state self.old) self.old.required commit.now)) }
-        ensures unchanged_on_error { OnErr result (group_state self.new ≡ group_state self.old) }
+        ensures { let s = group_state self.old in
+            Takes (external_commit_refusal (C.meaning checker.now) s self.old.required commit.now)
+            (after_commit s auth.now NewMemberCommit commit.now (Some (join_items commit.now.proposals)))
+            s result (group_state self.new) }
     {
         let items = check_join_items(alloc, self, commit)?;
         let resolved = ResolvedCommit {
@@ -388,13 +342,10 @@ impl Group {
     ) -> Result<Taken, Refusal>
         requires hashed { IsSome (confirmed_input frame.now) }
         requires checked { HasUniqueKeysAndValidLeaves (C.meaning checker.now) (group_state self.old) }
-        ensures rules_hold { OnOk result (joiner_refusal (C.meaning checker.now) (group_state self.old)
-            self.old.required frame.now frame.now.content.content ≡ None) }
-        ensures next { IfOk result (λ taken. after_join (group_state self.old) frame.now frame.now.content.content
-            ≡ Some (record { taken = taken; state = group_state self.new })) }
-        ensures refused { IfErr result (FailsWithRule (joiner_refusal (C.meaning checker.now) (group_state self.old)
-            self.old.required frame.now frame.now.content.content)) }
-        ensures unchanged_on_error { OnErr result (group_state self.new ≡ group_state self.old) }
+        ensures { let s = group_state self.old in
+            Takes (joiner_refusal (C.meaning checker.now) s self.old.required frame.now frame.now.content.content)
+            (after_join s frame.now frame.now.content.content)
+            s result (group_state self.new) }
     {
         let commit = check_joiner_frame(alloc, self, checker, frame)?;
         self.take_external_commit(alloc, checker, frame.auth(), commit)
@@ -411,13 +362,11 @@ impl Group {
     ) -> Result<Taken, Refusal>
         requires hashed { IsSome (confirmed_input frame.now) }
         requires checked { HasUniqueKeysAndValidLeaves (C.meaning checker.now) (group_state self.old) }
-        ensures rules_hold { OnOk result (first_failing (if_full self.old.profile (joiner_rules
-            (C.meaning checker.now) (group_state self.old) self.old.required frame.now frame.now.content.content)) ≡ None) }
-        ensures next { IfOk result (λ taken. after_join (group_state self.old) frame.now frame.now.content.content
-            ≡ Some (record { taken = taken; state = group_state self.new })) }
-        ensures refused { IfErr result (FailsWithRule (first_failing (if_full self.old.profile (joiner_rules
-            (C.meaning checker.now) (group_state self.old) self.old.required frame.now frame.now.content.content)))) }
-        ensures unchanged_on_error { OnErr result (group_state self.new ≡ group_state self.old) }
+        ensures { let s = group_state self.old in
+            Takes (first_failing (if_full self.old.profile (joiner_rules (C.meaning checker.now) s self.old.required
+            frame.now frame.now.content.content)))
+            (after_join s frame.now frame.now.content.content)
+            s result (group_state self.new) }
     {
         match self.profile {
             Profile::Members => Err(Refusal::SenderNotMember),
@@ -436,16 +385,10 @@ impl Group {
         requires hashed { IsSome (confirmed_input frame.now) }
         requires referenced { IsSome (reference_of self.old.context frame.now) }
         requires checked { HasUniqueKeysAndValidLeaves (C.meaning checker.now) (group_state self.old) }
-        ensures rules_hold { OnOk result (frame_refusal (C.meaning checker.now)
-            (group_state self.old) self.old.required
-            frame.now ≡ None) }
-        ensures next { IfOk result (λ taken. after_sender
-            (group_state self.old) frame.now frame.now.content.sender
-            ≡ Some (record { taken = taken; state = group_state self.new })) }
-        ensures refused { IfErr result (FailsWithRule (frame_refusal (C.meaning checker.now)
-            (group_state self.old)
-            self.old.required frame.now)) }
-        ensures unchanged_on_error { OnErr result (group_state self.new ≡ group_state self.old) }
+        ensures { let s = group_state self.old in
+            Takes (frame_refusal (C.meaning checker.now) s self.old.required frame.now)
+            (after_sender s frame.now frame.now.content.sender)
+            s result (group_state self.new) }
     {
         check_header(self, frame)?;
         match frame.auth().content().sender {

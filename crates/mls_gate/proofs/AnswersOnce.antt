@@ -6,14 +6,15 @@ use Rattle.mls_follow.specs.State.{State}
 use Rattle.mls_follow.proofs.Answering.{only_answer}
 use Rattle.mls_follow.proofs.StoredStates.{one_file}
 use Rattle.mls_report.specs.Finding.{finding_line}
-use Rattle.mls_report.specs.declared.finding.Finding.{Finding}
+use Rattle.mls_start.proofs.FirstStates.{one_first, first_or_refuses, one_refusal}
+use Rattle.mls_start.specs.Inputs.{Inputs}
+use Rattle.mls_start.specs.declared.finding.Finding.{Finding}
 use Rattle.mls_report.proofs.SignaturesOnce.{one_needed}
 use Rattle.mls_gate.specs.Answers.{Outcome, Goes, Ends, Begins, StoresState, Answers, Responds, message_answer_line, message_query, ready_line, stored_line}
-use Rattle.mls_gate.specs.Phases.{Inputs, Phase, Opening, Following}
+use Rattle.mls_gate.specs.Phases.{Phase, Opening, Following}
 use Rattle.mls_gate.specs.Requests.{request_of}
 use Rattle.mls_gate.specs.declared.request.Request.{Request}
 use Rattle.mls_gate.specs.declared.request.Request.TheVariants.{Learn, Begin, Query, Process, Store}
-use Rattle.mls_gate.proofs.FirstStates.{one_first, first_or_refuses, one_refusal}
 
 one_begin : (i : Inputs) (G : VerifyFn) (o u : Outcome) → Begins i G o → Begins i G u → o ≡ u
 one_begin i G o u (inl a) (inl b) =

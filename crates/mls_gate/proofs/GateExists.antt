@@ -1,12 +1,12 @@
 -- A gate has a report, whatever the bytes of its inputs.
 use Rattle.std.proofs.Common.{◌≡◌, ◌≢◌, ◌∙◌, ℕ, zero, suc, List, [], ◌∷◌, ◌++◌, drop, Option, Some, None, Result, Ok, Err, refl, sym, ap, subst, inl, inr, arith, append_assoc}
-use Rattle.std.specs.Prelude.{option_map}
 use Rattle.mls_check.specs.Signatures.{VerifyFn}
+use Rattle.mls_follow.specs.CoveredLogs.{all_good}
 use Rattle.mls_follow.specs.MessageSignatures.{message_signatures_in_state}
 use Rattle.mls_follow.specs.Runs.{IsAnswer, HasAnswer}
 use Rattle.mls_follow.specs.State.{State}
-use Rattle.mls_follow.specs.declared.refusal.Refusal.{Refusal}
-use Rattle.mls_follow.specs.declared.refusal.Refusal.TheVariants.{OutOfMemory}
+use Rattle.mls_apply.specs.declared.refusal.Refusal.{Refusal}
+use Rattle.mls_apply.specs.declared.refusal.Refusal.TheVariants.{OutOfMemory}
 use Rattle.mls_follow.specs.declared.taken.Taken.{Taken}
 use Rattle.mls_follow.specs.RisingRuns.{last_meaning}
 use Rattle.mls_follow.proofs.Deciding.{an_answer}
@@ -14,27 +14,26 @@ use Rattle.mls_follow.proofs.Holding.{run_steady}
 use Rattle.mls_follow.proofs.RisingRuns.{as_run}
 use Rattle.mls_follow.proofs.StoredFiles.{some_file}
 use Rattle.mls_signatures.specs.declared.signature_to_verify.SignatureToVerify.{SignatureToVerify}
+use Rattle.mls_start.proofs.FirstStates.{first_or_declined, first_or_refused, first_starts, first_steady}
+use Rattle.mls_start.specs.Inputs.{Inputs}
+use Rattle.mls_start.specs.ReceiptBytes.{having_learnt}
 use Rattle.mls_report.specs.Finding.{finding_line}
 use Rattle.mls_report.specs.SignaturesReport.{HasSignatures}
-use Rattle.mls_report.specs.StartInputs.{ReadsBoth}
 use Rattle.mls_show.specs.declared.verdict.Verdict.{Verdict}
 use Rattle.mls_show.specs.declared.verdict.Verdict.TheVariants.{No}
 use Rattle.mls_report.proofs.LogsExist.{Begins, Breaks, comes}
-use Rattle.mls_report.proofs.ReplaysExist.{read_input, read_optional_tree}
 use Rattle.mls_gate.specs.Answers as specs
 use Rattle.mls_gate.specs.Answers.{Outcome, Goes, Ends, Answers, Responds, query_text, message_query, message_answer_line, ready_line, stored_line, no_file_line, broken_line}
-use Rattle.mls_gate.specs.FirstStates.{ReadsGroup, ReadsState}
-use Rattle.mls_gate.specs.GateReport.{Turn, phase_after, answers, record_limit, IsEnding, GatesOf}
-use Rattle.mls_gate.specs.GateReports.{GateExists, StateGateExists}
+use Rattle.mls_gate.specs.GateReport.{Turn, phase_after, answers, record_limit, IsEnding}
+use Rattle.mls_gate.specs.GateReports.{GateExists}
 use Rattle.mls_gate.specs.GateRuns.{HasStarted}
-use Rattle.mls_gate.specs.GateSteps.{AreReadableInputs}
-use Rattle.mls_gate.specs.Phases.{GroupFiles, Inputs, OfGroup, OfState, Phase, Opening, Following, end_verdict}
-use Rattle.mls_gate.specs.Requests.{request_of, having_learnt}
+use Rattle.mls_gate.specs.GateSteps.{IsReady}
+use Rattle.mls_gate.specs.Phases.{Phase, Opening, Following, end_verdict}
+use Rattle.mls_gate.specs.Requests.{request_of}
 use Rattle.mls_gate.specs.declared.request.Request.{Request}
 use Rattle.mls_gate.specs.declared.request.Request.TheVariants.{Learn, Begin, Query, Process, Store}
-use Rattle.mls_gate.proofs.FirstStates.{first_or_refused, readable, starts_or_declined, first_steady}
 use Rattle.mls_gate.proofs.RecordsOnce.{RecordLines}
-use Rattle.mls_gate.proofs.Rising.{Reached, reached-none, reached-on}
+use Rattle.mls_gate.proofs.Rising.{Reached, ready-reached, reached-none, reached-on}
 
 -- ---- a message
 
@@ -55,7 +54,7 @@ some_needed G s bytes (Err e) new h =
 
 -- ---- a record
 
-module _ (i : Inputs) (G : VerifyFn) (can_read : AreReadableInputs i) where
+module _ (i : Inputs) (G : VerifyFn) (can_start : IsReady (Some (Opening i G))) where
   abbrev Here : Phase → Type 0
   Here = Reached i G
 
@@ -67,9 +66,9 @@ module _ (i : Inputs) (G : VerifyFn) (can_read : AreReadableInputs i) where
       let steady = run_steady L h.first run.calls s (first_steady h.known i h.first h.started) run.run in
       subst (λ (M : VerifyFn). HasAnswer M s bytes) h.run.meaning (an_answer L s steady.required bytes steady.held steady.requires)
 
-  some_begin : (j : Inputs) (K : VerifyFn) → AreReadableInputs j → (o : Outcome) × specs.Begins j K o
+  some_begin : (j : Inputs) (K : VerifyFn) → IsReady (Some (Opening j K)) → (o : Outcome) × specs.Begins j K o
   some_begin j K r =
-      elim (first_or_refused K j r) [
+      elim (first_or_refused K j r.0 r.1) [
         | inl s ↦ (Goes (ready_line s.0) (Following K s.0), inl (s.0, s.1, refl))
         | inr f ↦ (Ends (finding_line f.0), inr (f.0, f.1, refl))
       ]
@@ -83,7 +82,7 @@ module _ (i : Inputs) (G : VerifyFn) (can_read : AreReadableInputs i) where
 
   some_response : (p : Phase) (request : Option Request) (rest : List ℕ) → Here p → (o : Outcome) × Responds p request rest o
   some_response (Opening j K) (Some Learn) rest r = (Goes [] (Opening j (having_learnt K rest)), refl)
-  some_response (Opening j K) (Some Begin) rest r = some_begin j K (subst AreReadableInputs (sym r.0) can_read)
+  some_response (Opening j K) (Some Begin) rest r = some_begin j K (ready-reached i G can_start (Opening j K) r)
   some_response (Opening j K) (Some Query) rest r = (Ends broken_line, refl)
   some_response (Opening j K) (Some Process) rest r = (Ends broken_line, refl)
   some_response (Opening j K) (Some Store) rest r = (Ends broken_line, refl)
@@ -199,65 +198,47 @@ module _ (i : Inputs) (G : VerifyFn) (can_read : AreReadableInputs i) where
 
 -- ---- the report
 
--- a report of inputs that were read
-record HasReport (Reads : Inputs → Type 0) (G : VerifyFn) (records : List ℕ) : Type 0 where
-  text : List ℕ
-  verdict : Verdict
-  left : Option (List ℕ)
-  gates : GatesOf Reads G (Some records) left (Some []) (Some text) verdict
-
-has_report : (Reads : Inputs → Type 0) (G : VerifyFn) (i : Inputs) (records : List ℕ) → Reads i → HasReport Reads G records
-has_report Reads G i records read =
-    elim (starts_or_declined i) [
-      | inl s ↦
-          (let can_read = readable i s.0 s.1 in
-          let all : IsServed i G can_read record_limit (Opening i G) records = served i G can_read record_limit (Opening i G) records (reached-none i G) in
-          record {
-            text = query_text G s.0 ++ (answers all.turns ++ all.text);
-            verdict = all.verdict;
-            left = Some all.lines.left;
-            gates = inr (record {
-              i = i;
-              read = read;
-              signatures = s.0;
-              can_start = s.1;
-              between = Some (query_text G s.0);
-              wrote = refl;
-              reports = record {
-                turns = all.turns;
-                rest = all.lines.rest;
-                text = all.text;
-                serves = record {
-                  answered = all.lines.answered;
-                  bounded = all.lines.bounded;
-                  records = all.lines.records;
-                  are_records = all.lines.are_records;
-                  all_read = all.lines.read;
-                };
-                ending = all.lines.ending;
-                wrote = refl;
-              };
-            });
-          })
-      | inr f ↦ record {
-        text = finding_line f.0;
-        verdict = No;
-        left = Some records;
-        gates = inl (record { i = i; read = read; finding = f.0; declines = f.1; unread = refl; wrote = refl; verdict_is = refl });
-      }
-    ]
-
 pub some_gate : GateExists
-some_gate profile G info_bytes tree_bytes records =
-    let info = read_input info_bytes in
-    let tree = read_optional_tree tree_bytes in
-    let files : GroupFiles = record { profile = profile; info = info.bytes; tree = tree.bytes } in
-    let both : ReadsBoth (Some info_bytes) (Some info.left) (option_map Some tree_bytes) tree.left info.bytes tree.bytes = record { info = info.reads; tree = tree.reads } in
-    let made = has_report (ReadsGroup profile (Some info_bytes) (Some info.left) (option_map Some tree_bytes) tree.left) G (OfGroup files) records (refl, both) in
-    (made.text, made.verdict, record { info_left = Some info.left; tree_left = tree.left; records_left = made.left; before = []; gates = made.gates })
-
-pub some_state_gate : StateGateExists
-some_state_gate G state_bytes records =
-    let state = read_input state_bytes in
-    let made = has_report (ReadsState (Some state_bytes) (Some state.left)) G (OfState state.bytes) records state.reads in
-    (made.text, made.verdict, record { state_left = Some state.left; records_left = made.left; before = []; gates = made.gates })
+some_gate G i records =
+    elim (first_or_declined all_good i) [
+      | inl s ↦
+          (let starts = first_starts i s.0 s.1 in
+          let all : IsServed i G s record_limit (Opening i G) records = served i G s record_limit (Opening i G) records (reached-none i G) in (
+            query_text G starts.0 ++ (answers all.turns ++ all.text),
+            all.verdict,
+            record {
+              records_left = Some all.lines.left;
+              before = [];
+              gates = inr (record {
+                state = s.0;
+                signatures = starts.0;
+                can_start = starts.1;
+                between = Some (query_text G starts.0);
+                wrote = refl;
+                reports = record {
+                  turns = all.turns;
+                  rest = all.lines.rest;
+                  text = all.text;
+                  serves = record {
+                    answered = all.lines.answered;
+                    bounded = all.lines.bounded;
+                    records = all.lines.records;
+                    are_records = all.lines.are_records;
+                    all_read = all.lines.read;
+                  };
+                  ending = all.lines.ending;
+                  wrote = refl;
+                };
+              });
+            },
+          ))
+      | inr f ↦ (
+        finding_line f.0,
+        No,
+        record {
+          records_left = Some records;
+          before = [];
+          gates = inl (record { finding = f.0; declines = f.1; unread = refl; wrote = refl; verdict_is = refl });
+        },
+      )
+    ]

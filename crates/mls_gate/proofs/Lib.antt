@@ -1,14 +1,11 @@
-pub mod Learnt
-pub mod Starting
-pub mod OpeningLines
-pub mod QueryLines
-pub mod FirstStates
+pub mod VerifyLines
 pub mod Answering
 pub mod Replying
 pub mod Querying
-pub mod Serving
 pub mod Rising
+pub mod Serving
 pub mod AnswersOnce
 pub mod RecordsOnce
+pub mod Openings
 pub mod GateOnce
 pub mod GateExists

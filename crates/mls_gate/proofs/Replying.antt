@@ -1,64 +1,116 @@
--- What requests are answered. `text` and `last` are the lines of an answer, and whether they end the gate.
-use Rattle.std.proofs.Common.{◌≡◌, ℕ, List, [], drop, Bool, true, false, Option, Some, None, Result, Ok, Err, refl, sym, subst}
-use Rattle.std.specs.Prelude.{IfOk}
+-- What requests are answered.
+use Rattle.std.proofs.Common.{◌≡◌, ℕ, ◌-◌, List, [], ◌++◌, length, take, drop, Bool, false, Option, Some, None, Result, Ok, Err, refl, sym, subst}
+use Rattle.std.specs.Prelude.{IfOk, IfErr}
+use Rattle.std.proofs.Math.Seq.{take-length}
+use Rattle.std.proofs.lemmas.List.{length-drop}
+use Rattle.std.specs.Io.KnownBytes.{Appends}
+use Rattle.mls_wire.specs.Devices.{AppendsPrefix}
+use Rattle.mls_wire.proofs.KnownBytes.{Appends-trans}
 use Rattle.mls_check.specs.Signatures.{VerifyFn}
 use Rattle.mls_follow.specs.State.{State}
-use Rattle.mls_gate.specs.Answers.{Outcome, Goes, Ends, broken_line}
-use Rattle.mls_gate.specs.GateSteps.{Replies, RespondsIn, AnswersIn, IsOutcome}
-use Rattle.mls_gate.specs.Phases.{Inputs, Phase, Opening, Following}
-use Rattle.mls_gate.specs.Requests.{request_of, having_learnt}
+use Rattle.mls_start.specs.Inputs.{Inputs, inputs_of}
+use Rattle.mls_start.specs.ReceiptBytes.{having_learnt}
+use Rattle.mls_report.proofs.Replaying.{Appends-nil}
+use Rattle.mls_report.proofs.StartLines.{prefix-behind}
+use Rattle.mls_show.specs.declared.verdict.RunFault.{RunFault}
+use Rattle.mls_show.specs.declared.verdict.RunFault.TheVariants.{Write}
+use Rattle.mls_gate.specs.Answers.{Outcome, Ends, Responds, broken_line}
+use Rattle.mls_gate.specs.GateSteps.{phase_of, Replies, RespondsIn, AnswersIn, Gives, GivesBehind, Answered, StopsAnswering, text_of, is_last}
+use Rattle.mls_gate.specs.Phases.{Phase, Opening, Following}
+use Rattle.mls_gate.specs.Requests.{request_of}
+use Rattle.mls_gate.specs.declared.phase.Answer.{Answer}
+use Rattle.mls_gate.specs.declared.phase.Answer.TheVariants as said
+use Rattle.mls_gate.specs.declared.phase.GatePhase.{GatePhase}
+use Rattle.mls_gate.specs.declared.phase.GatePhase.TheVariants as phases
 use Rattle.mls_gate.specs.declared.request.Request.{Request}
-use Rattle.mls_gate.specs.declared.request.Request.TheVariants.{Learn}
+use Rattle.mls_gate.specs.declared.request.Request.TheVariants.{Learn, Begin}
 
-module _ {V E : Type 0} (text : V → List ℕ) (last : V → Bool) where
-  -- an answer that has these lines, and ends the gate or not
-  pub replies-of : (r : Result V E) (Meets : Outcome → Type 0) (printed : List ℕ) (ends : Bool) (after : Option Phase) → Replies Meets printed ends after
-      → IfOk r (λ a. text a ≡ printed) → IfOk r (λ a. last a ≡ ends) → IfOk r (λ a. Replies Meets (text a) (last a) after)
-  replies-of (Ok a) Meets printed ends after n t l = record {
-    outcome = n.outcome;
-    meets = n.meets;
-    is = subst (λ (x : List ℕ). IsOutcome n.outcome x (last a) after) (sym t) (subst (λ (x : Bool). IsOutcome n.outcome printed x after) (sym l) n.is);
-  }
-  replies-of (Err e) Meets printed ends after n t l = tt
+-- ---- in a phase that is known
 
-  -- a request that has no answer in the phase
-  pub broken-at : (r : Result V E) (o p : Option Phase) (request : Option Request) (rest : List ℕ) (after : Option Phase) → o ≡ p
-      → RespondsIn p request rest (Ends broken_line) → IfOk r (λ a. text a ≡ broken_line) → IfOk r (λ a. last a ≡ true)
-      → IfOk r (λ a. Replies (RespondsIn o request rest) (text a) (last a) after)
-  broken-at r o p request rest after e meets t l =
-      replies-of r (RespondsIn o request rest) broken_line true after
-      (record { outcome = Ends broken_line; meets = subst (λ (q : Option Phase). RespondsIn q request rest (Ends broken_line)) (sym e) meets; is = (refl, refl) })
-      t l
+pub replies-at : (o p : Option Phase) → o ≡ p → (request : Option Request) (rest : List ℕ) (after : Option Phase) (text : List ℕ) (last : Bool)
+    → Replies (RespondsIn p request rest) text last after → Replies (RespondsIn o request rest) text last after
+replies-at o p at request rest after text last r = subst (λ (q : Option Phase). Replies (RespondsIn q request rest) text last after) (sym at) r
+
+-- a phase in which no follower has started
+module _ {C : Type 0} {g : _} (meaning : C → VerifyFn) (phase : GatePhase C g) (none : (follower : _) → phase ≡ phases.Following follower → ⊥) where
+  pub unstarted : (request : Option Request) (rest : List ℕ) → ((i : Inputs) (G : VerifyFn) → Responds (Opening i G) request rest (Ends broken_line))
+      → RespondsIn (phase_of meaning phase) request rest (Ends broken_line)
+  unstarted request rest opening = broken-of phase none
+    where
+      broken-of : (p : GatePhase C g) → ((follower : _) → p ≡ phases.Following follower → ⊥) → RespondsIn (phase_of meaning p) request rest (Ends broken_line)
+      broken-of (phases.Opening start checker) own = opening (inputs_of start) (meaning checker)
+      broken-of (phases.Following follower) own = absurd (own follower refl)
+      broken-of phases.Over own = refl
+
+-- a phase in which one has, or that has ended
+pub unopened : {C : Type 0} {g : _} (meaning : C → VerifyFn) (phase : GatePhase C g) → ((start : _) (checker : _) → phase ≡ phases.Opening start checker → ⊥) → (rest : List ℕ)
+    → RespondsIn (phase_of meaning phase) (Some Begin) rest (Ends broken_line)
+unopened meaning (phases.Opening start checker) own rest = absurd (own start checker refl)
+unopened meaning (phases.Following follower) own rest = refl
+unopened meaning phases.Over own rest = refl
+
+-- receipts are learnt before the follower has started
+pub learnt-opening : (o : Option Phase) (i : Inputs) (G K : VerifyFn) (receipts : List ℕ) → o ≡ Some (Opening i G) → K ≡ having_learnt G receipts
+    → Gives (RespondsIn o (Some Learn) receipts) (Some (Opening i K)) said.Silent
+learnt-opening o i G K receipts at learnt =
+    replies-at o (Some (Opening i G)) at (Some Learn) receipts (Some (Opening i K)) [] false
+    (Opening i (having_learnt G receipts), refl, λ k. Some (Opening i (learnt k)))
+
+-- and after it
+pub learnt-following : (o : Option Phase) (G K : VerifyFn) (s new : State) (receipts : List ℕ) → o ≡ Some (Following G s) → K ≡ having_learnt G receipts → new ≡ s
+    → Gives (RespondsIn o (Some Learn) receipts) (Some (Following K new)) said.Silent
+learnt-following o G K s new receipts at learnt stays =
+    replies-at o (Some (Following G s)) at (Some Learn) receipts (Some (Following K new)) [] false
+    (Following (having_learnt G receipts) s, refl, λ k. Some (Following (learnt k) (stays k)))
 
 -- the request of no record
-pub none-broken : (o : Option Phase) (rest : List ℕ) → RespondsIn o None rest (Ends broken_line)
+none-broken : (o : Option Phase) (rest : List ℕ) → RespondsIn o None rest (Ends broken_line)
 none-broken None rest = refl
 none-broken (Some (Opening i G)) rest = refl
 none-broken (Some (Following G s)) rest = refl
 
--- receipts are learnt before the follower has started
-pub learnt-opening : (text : List ℕ) (last : Bool) (o : Option Phase) (i : Inputs) (G K : VerifyFn) (receipts : List ℕ) → o ≡ Some (Opening i G) → text ≡ []
-    → last ≡ false → K ≡ having_learnt G receipts → Replies (RespondsIn o (Some Learn) receipts) text last (Some (Opening i K))
-learnt-opening text last o i G K receipts e t l k =
-    let phase = Opening i (having_learnt G receipts) in
-    record {
-      outcome = Goes [] phase;
-      meets = subst (λ (q : Option Phase). RespondsIn q (Some Learn) receipts (Goes [] phase)) (sym e) refl;
-      is = (t, l, λ j. Some (Opening i (k j)));
-    }
-
--- and after it
-pub learnt-following : (text : List ℕ) (last : Bool) (o : Option Phase) (G K : VerifyFn) (s new : State) (receipts : List ℕ) → o ≡ Some (Following G s) → text ≡ []
-    → last ≡ false → K ≡ having_learnt G receipts → new ≡ s → Replies (RespondsIn o (Some Learn) receipts) text last (Some (Following K new))
-learnt-following text last o G K s new receipts e t l k stays =
-    let phase = Following (having_learnt G receipts) s in
-    record {
-      outcome = Goes [] phase;
-      meets = subst (λ (q : Option Phase). RespondsIn q (Some Learn) receipts (Goes [] phase)) (sym e) refl;
-      is = (t, l, λ j. Some (Following (k j) (stays j)));
-    }
-
--- a body that is no request
 pub broken-body : (o : Option Phase) (body : List ℕ) → request_of body ≡ None → AnswersIn o body (Ends broken_line)
 broken-body o body e =
     subst (λ (q : Option Request). RespondsIn o q (drop 1 body) (Ends broken_line)) (sym e) (none-broken o (drop 1 body))
+
+-- ---- an answer, and what is written of it
+
+-- what is behind the letter of a record is the rest of its bytes
+pub behind-letter : (body : List ℕ) → take (length body - 1) (drop 1 body) ≡ drop 1 body
+behind-letter body = subst (λ (n : ℕ). take n (drop 1 body) ≡ drop 1 body) (length-drop 1 body) (take-length (drop 1 body))
+
+module _ (o : Option Phase) (body rest : List ℕ) (same : rest ≡ drop 1 body) (request : Option Request) (is : request_of body ≡ request) (after : Option Phase) where
+  -- nothing is written yet
+  pub all-behind : (r : Result Answer RunFault) (w : Option (List ℕ)) → IfOk r (Gives (RespondsIn o request rest) after) → IfOk r (GivesBehind (AnswersIn o body) after w w)
+  all-behind (Ok a) w gives = record {
+    lines = [];
+    wrote = Appends-nil w;
+    replies = subst (λ (q : Option Request). Gives (RespondsIn o q (drop 1 body)) after a) (sym is) (subst (λ (l : List ℕ). Gives (RespondsIn o request l) after a) same gives);
+  }
+  all-behind (Err e) w gives = tt
+
+  pub stops-answering : (r : Result Answer RunFault) (w0 w1 : Option (List ℕ)) → IfErr r (StopsAnswering (RespondsIn o request rest) after w0 w1)
+      → IfErr r (StopsAnswering (AnswersIn o body) after w0 w1)
+  stops-answering r w0 w1 stops =
+      subst (λ (q : Option Request). IfErr r (StopsAnswering (RespondsIn o q (drop 1 body)) after w0 w1)) (sym is)
+      (subst (λ (l : List ℕ). IfErr r (StopsAnswering (RespondsIn o request l) after w0 w1)) same stops)
+
+module _ (Meets : Outcome → Type 0) (after : Option Phase) where
+  pub gives-behind : (w : Option (List ℕ)) (a : Answer) → Gives Meets after a → GivesBehind Meets after w w a
+  gives-behind w a gives = record { lines = []; wrote = Appends-nil w; replies = gives }
+
+  module _ (w0 w1 w2 : Option (List ℕ)) (a : Answer) (behind : GivesBehind Meets after w0 w1 a) where
+    pub answered-behind : (last : Bool) → last ≡ is_last a → Appends w1 w2 (text_of a) → Answered Meets after w0 w2 last
+    answered-behind last same wrote = record {
+      text = behind.lines ++ text_of a;
+      replies = subst (λ (b : Bool). Replies Meets (behind.lines ++ text_of a) b after) (sym same) behind.replies;
+      wrote = Appends-trans w0 w1 w2 behind.lines (text_of a) behind.wrote wrote;
+    }
+
+    pub stopped-behind : AppendsPrefix w1 w2 (text_of a) → StopsAnswering Meets after w0 w2 Write
+    stopped-behind part = record {
+      text = behind.lines ++ text_of a;
+      last = is_last a;
+      replies = behind.replies;
+      wrote = prefix-behind w0 w1 w2 behind.lines (text_of a) behind.wrote part;
+    }

@@ -3,29 +3,33 @@ use Rattle.std.proofs.Common.{◌≡◌, ◌∙◌, ℕ, zero, suc, ◌/◌, Lis
 use Rattle.mls_check.specs.ReceiptSets.{with_receipt}
 use Rattle.mls_check.specs.Signatures.{VerifyFn, Extends}
 use Rattle.mls_check.proofs.ReceiptSets.{with_receipt_extends}
+use Rattle.mls_follow.specs.CoveredLogs.{all_good}
 use Rattle.mls_follow.specs.RisingRuns.{Event, IsRisingRun, last_meaning}
 use Rattle.mls_follow.specs.RisingRuns.Event.{Received, Learned}
 use Rattle.mls_follow.specs.Runs.{Call, IsTransition, IsAnswer}
 use Rattle.mls_follow.specs.State.{State}
 use Rattle.mls_follow.specs.StoredRuns.{IsResumable}
-use Rattle.mls_follow.specs.declared.refusal.Refusal.{Refusal}
+use Rattle.mls_apply.specs.declared.refusal.Refusal.{Refusal}
 use Rattle.mls_follow.specs.declared.taken.Taken.{Taken}
 use Rattle.mls_follow.proofs.CoveredLogs.{covered_answers}
 use Rattle.mls_follow.proofs.Resumable.{run_resumable}
 use Rattle.mls_follow.proofs.ResumableStays.{resumable_stays}
 use Rattle.mls_follow.proofs.RisingRuns.{as_run, rising_extends}
 use Rattle.mls_follow.proofs.StoredRuns.{resumable_resumes}
+use Rattle.mls_start.proofs.FirstStates.{first_resumable}
+use Rattle.mls_start.specs.Inputs.{Inputs}
+use Rattle.mls_start.specs.ReceiptBytes.{with_receipts, having_learnt}
+use Rattle.mls_start.specs.StartFindings.{IsFirstState}
 use Rattle.mls_report.specs.Finding.{finding_line}
 use Rattle.mls_gate.specs.Answers.{Goes, Answers, Responds, broken_line, message_answer_line, message_query, ready_line, stored_line, no_file_line}
-use Rattle.mls_gate.specs.FirstStates.{IsFirstState}
 use Rattle.mls_gate.specs.GateReport.{Turn, AreAnswered, phase_after}
 use Rattle.mls_gate.specs.GateRuns.{HasStarted, GatesRise, GatesAreValid, GateAnswersAreTrusted, GateStatesResume}
-use Rattle.mls_gate.specs.Phases.{Inputs, Phase, Opening, Following}
-use Rattle.mls_gate.specs.Requests.{request_of, with_receipts, having_learnt}
+use Rattle.mls_gate.specs.GateSteps.{IsReady}
+use Rattle.mls_gate.specs.Phases.{Phase, Opening, Following}
+use Rattle.mls_gate.specs.Requests.{request_of}
 use Rattle.mls_gate.specs.declared.request.Request.{Request}
 use Rattle.mls_gate.specs.declared.request.Request.TheVariants.{Learn, Begin, Query, Process, Store}
 use Rattle.mls_gate.proofs.Answering.{one_phase, no_end}
-use Rattle.mls_gate.proofs.FirstStates.{first_resumable}
 
 -- ---- learning extends
 
@@ -144,12 +148,17 @@ module _ (i : Inputs) (G : VerifyFn) where
   pub reached-on : (now new : Phase) (body text : List ℕ) → Reached now → Answers now body (Goes text new) → Reached new
   reached-on now new body text r a = by_request now new (request_of body) (drop 1 body) text r a
 
-  reached-all : (now : Phase) (turns : List Turn) → Reached now → AreAnswered now turns → Reached (phase_after now turns)
+  pub reached-all : (now : Phase) (turns : List Turn) → Reached now → AreAnswered now turns → Reached (phase_after now turns)
   reached-all now [] r a = r
   reached-all now (turn ∷ turns) r a = reached-all turn.phase turns (reached-on now turn.phase turn.body turn.text r a.0) a.1
 
   pub reached-none : Reached (Opening i G)
   reached-none = (refl, extends_itself G)
+
+  -- a gate from such inputs can answer in each of them
+  pub ready-reached : IsReady (Some (Opening i G)) → (now : Phase) → Reached now → IsReady (Some now)
+  ready-reached r (Opening j K) reached = (r.0, subst (λ (x : Inputs). IsFirstState all_good x r.0) (sym reached.0) r.1)
+  ready-reached r (Following K s) reached = tt
 
   pub has_started : (turns : List Turn) (K : VerifyFn) (s : State) → AreAnswered (Opening i G) turns → phase_after (Opening i G) turns ≡ Following K s → HasStarted i G K s
   has_started turns K s a e = subst Reached e (reached-all (Opening i G) turns reached-none a)

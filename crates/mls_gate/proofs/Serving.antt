@@ -5,6 +5,7 @@ use Rattle.std.specs.Io.KnownBytes.{Appends, Consumes, IsAtEnd}
 use Rattle.mls_wire.specs.Devices.{AppendsPrefix}
 use Rattle.mls_wire.proofs.KnownBytes.{Appends-trans, Consumes-trans}
 use Rattle.mls_wire.specs.Logs.{IsRecord, IsBrokenAt, IsIncomplete}
+use Rattle.mls_start.specs.Inputs.{Inputs}
 use Rattle.mls_report.specs.Replay.{AreRecords}
 use Rattle.mls_show.specs.declared.verdict.RunFault.{RunFault}
 use Rattle.mls_show.specs.declared.verdict.RunFault.TheVariants.{Read, Write, Memory}
@@ -13,12 +14,11 @@ use Rattle.mls_show.specs.declared.verdict.Verdict.TheVariants.{No}
 use Rattle.mls_report.proofs.Replaying.{Consumes-nil, Appends-nil}
 use Rattle.mls_report.specs.ReplaySteps.{ReadsUndecided}
 use Rattle.mls_check.specs.Signatures.{VerifyFn}
-use Rattle.mls_signatures.specs.declared.signature_to_verify.SignatureToVerify.{SignatureToVerify}
-use Rattle.mls_gate.specs.Answers.{Outcome, Goes, Ends, Answers, verify_lines, query_text, broken_line}
+use Rattle.mls_gate.specs.Answers.{Goes, Ends, Answers, query_text, broken_line}
 use Rattle.mls_gate.specs.GateReport.{Turn, AreAnswered, phase_after, answers, records_to_come, record_limit, Serves, IsEnding, ReportsRecords, RecordsPart}
-use Rattle.mls_gate.specs.GateSteps.{IsReady, verdict_at, IsOutcome, Replies, AnswersIn, AnswersRecord, StopsAtRecord}
-use Rattle.mls_gate.specs.Phases.{Phase}
-use Rattle.mls_gate.proofs.Answering.{goes-on, ends-there, ready-goes}
+use Rattle.mls_gate.specs.GateSteps.{IsReady, verdict_at, Replies, AnswersIn, Answered, StopsAnswering}
+use Rattle.mls_gate.specs.Phases.{Phase, Opening}
+use Rattle.mls_gate.proofs.Rising.{ready-reached, reached-all, reached-none}
 
 -- ---- one turn more
 
@@ -71,14 +71,20 @@ pub record SoFar (p : Phase) (r0 r1 w0 w1 : Option (List ℕ)) (now : Option Pha
   pub is : now ≡ Some (phase_after p turns)
   pub count : n ≡ length turns
 
-pub so_far-none : (p : Phase) (r w : Option (List ℕ)) (now : Option Phase) → now ≡ Some p → SoFar p r r w w now 0
-so_far-none p r w now e = record {
+pub so_far-none : (p : Phase) (r w : Option (List ℕ)) → SoFar p r r w w (Some p) 0
+so_far-none p r w = record {
   turns = [];
   serves = record { answered = tt; bounded = omega arith; records = []; are_records = refl; all_read = Consumes-nil r };
   wrote = Appends-nil w;
-  is = e;
+  is = refl;
   count = refl;
 }
+
+-- the gate is ready if it was at its opening
+pub ready-so_far : (i : Inputs) (G : VerifyFn) (r0 r1 w0 w1 : Option (List ℕ)) (now : Option Phase) (n : ℕ) → IsReady (Some (Opening i G))
+    → SoFar (Opening i G) r0 r1 w0 w1 now n → IsReady now
+ready-so_far i G r0 r1 w0 w1 now n r f =
+    subst IsReady (sym f.is) (ready-reached i G r (phase_after (Opening i G) f.turns) (reached-all i G (Opening i G) f.turns (reached-none i G) f.serves.answered))
 
 module _ (p : Phase) (r0 r1 r2 w0 w1 : Option (List ℕ)) (now : Option Phase) (n : ℕ) (f : SoFar p r0 r1 w0 w1 now n) (body read : List ℕ) (below : n < record_limit)
     (is_record : IsRecord read body) (taken : Consumes r1 r2 read) (after : Option Phase) (w2 : Option (List ℕ)) where
@@ -88,91 +94,70 @@ module _ (p : Phase) (r0 r1 r2 w0 w1 : Option (List ℕ)) (now : Option Phase) (
   fewer : length f.turns < record_limit
   fewer = let count = f.count in omega arith
 
-  pub so_far-snoc : (last : Bool) → last ≡ false → AnswersRecord now body after w1 w2 last → SoFar p r0 r2 w0 w2 after (n + 1)
-  so_far-snoc last e printed =
-      let g = goes-on here body printed.text last after e (subst (λ (o : Option Phase). Replies (AnswersIn o body) printed.text last after) f.is printed.replies) in
-      let t : Turn = record { body = body; text = printed.text; phase = g.new } in
+  abbrev turn-of : (text : List ℕ) → Phase → Turn
+  turn-of text phase = record { body = body; text = text; phase = phase }
+
+  with-turn : (text : List ℕ) (phase : Phase) → Answers here body (Goes text phase) → Serves p r0 r2 (f.turns ++ turn-of text phase ∷ []) []
+  with-turn text phase answers = serves-snoc p r0 r1 r2 f.turns (turn-of text phase) read f.serves fewer is_record taken answers
+
+  in-phase : (text : List ℕ) (last : Bool) → Replies (AnswersIn now body) text last after → Replies (Answers here body) text last after
+  in-phase text last r = subst (λ (o : Option Phase). Replies (AnswersIn o body) text last after) f.is r
+
+  pub so_far-snoc : Answered (AnswersIn now body) after w1 w2 false → SoFar p r0 r2 w0 w2 after (n + 1)
+  so_far-snoc printed =
+      let g = in-phase printed.text false printed.replies in
+      let t = turn-of printed.text g.0 in
       let count = f.count in
       record {
         turns = f.turns ++ t ∷ [];
-        serves = serves-snoc p r0 r1 r2 f.turns t read f.serves fewer is_record taken g.answers;
+        serves = with-turn printed.text g.0 g.1;
         wrote = subst (Appends w0 w2) (sym (answers-snoc f.turns t)) (Appends-trans w0 w1 w2 _ _ f.wrote printed.wrote);
-        is = g.is ∙ ap (λ (q : Phase). Some q) (sym (phase_after-snoc p f.turns t));
+        is = g.2 ∙ ap (λ (q : Phase). Some q) (sym (phase_after-snoc p f.turns t));
         count = omega (arith, length-append f.turns (t ∷ []));
       }
-
-  pub ready-snoc : (last : Bool) → last ≡ false → IsReady now → AnswersRecord now body after w1 w2 last → IsReady after
-  ready-snoc last e ready printed =
-      let g = goes-on here body printed.text last after e (subst (λ (o : Option Phase). Replies (AnswersIn o body) printed.text last after) f.is printed.replies) in
-      subst IsReady (sym g.is) (ready-goes here g.new body printed.text (subst IsReady f.is ready) g.answers)
 
   ending : (text : List ℕ) → Answers here body (Ends text) → IsEnding here (records_to_come f.turns) read r2 text No
   ending text answers =
       let less = fewer in
       inr (inr (record { body = body; allowed = omega arith; is_record = is_record; answers = answers; verdict_is = refl }))
 
-  pub printed-last : (last : Bool) → last ≡ true → AnswersRecord now body after w1 w2 last → ReportsRecords p r0 r2 w0 w2 No
-  printed-last last e printed =
-      let answers = ends-there here body printed.text last after e (subst (λ (o : Option Phase). Replies (AnswersIn o body) printed.text last after) f.is printed.replies) in
-      record {
-        turns = f.turns;
-        rest = read;
-        text = printed.text;
-        serves = serves-read p r0 r1 r2 f.turns read f.serves taken;
-        ending = ending printed.text answers;
-        wrote = Appends-trans w0 w1 w2 _ _ f.wrote printed.wrote;
-      }
-
-  -- the output failed in the answer
-  in-answer : (text : List ℕ) (o : Outcome) (last : Bool) → Answers here body o → IsOutcome o text last after → AppendsPrefix w1 w2 text → RecordsPart p r0 r2 w0 w2 Write
-  in-answer text (Goes printed new) last answers is part =
-      let t : Turn = record { body = body; text = printed; phase = new } in
-      inl (record {
-        turns = f.turns;
-        last = t;
-        serves = serves-snoc p r0 r1 r2 f.turns t read f.serves fewer is_record taken answers;
-        part = part.0;
-        more = part.1;
-        text_is = sym is.0 ∙ part.2;
-        wrote = Appends-trans w0 w1 w2 _ _ f.wrote part.3;
-      })
-  in-answer text (Ends printed) last answers is part = inr (record {
+  pub printed-last : Answered (AnswersIn now body) after w1 w2 true → ReportsRecords p r0 r2 w0 w2 No
+  printed-last printed = record {
     turns = f.turns;
     rest = read;
-    text = printed;
-    verdict = No;
+    text = printed.text;
     serves = serves-read p r0 r1 r2 f.turns read f.serves taken;
-    ending = ending printed answers;
+    ending = ending printed.text (in-phase printed.text true printed.replies);
+    wrote = Appends-trans w0 w1 w2 _ _ f.wrote printed.wrote;
+  }
+
+  -- the output failed in the answer
+  in-answer : (text : List ℕ) (last : Bool) → Replies (Answers here body) text last after → AppendsPrefix w1 w2 text → RecordsPart p r0 r2 w0 w2 Write
+  in-answer text false r part = inl (record {
+    turns = f.turns;
+    last = turn-of text r.0;
+    serves = with-turn text r.0 r.1;
     part = part.0;
     more = part.1;
-    text_is = sym is.0 ∙ part.2;
+    text_is = part.2;
+    wrote = Appends-trans w0 w1 w2 _ _ f.wrote part.3;
+  })
+  in-answer text true r part = inr (record {
+    turns = f.turns;
+    rest = read;
+    text = text;
+    verdict = No;
+    serves = serves-read p r0 r1 r2 f.turns read f.serves taken;
+    ending = ending text r;
+    part = part.0;
+    more = part.1;
+    text_is = part.2;
     wrote = Appends-trans w0 w1 w2 _ _ f.wrote part.3;
   })
 
-  -- memory ran out in the lines of a query
-  in-query :
-      (known : VerifyFn) (front rest : List SignatureToVerify) → Replies (AnswersIn (Some here) body) (query_text known (front ++ rest)) false after
-      → Appends w1 w2 (verify_lines known front) → RecordsPart p r0 r2 w0 w2 Memory
-  in-query known front rest r wrote =
-      let text = query_text known (front ++ rest) in
-      let g = goes-on here body text false after refl r in
-      let t : Turn = record { body = body; text = text; phase = g.new } in
-      inr (record {
-        turns = f.turns;
-        last = t;
-        serves = serves-snoc p r0 r1 r2 f.turns t read f.serves fewer is_record taken g.answers;
-        known = known;
-        front = front;
-        rest = rest;
-        text_is = refl;
-        wrote = Appends-trans w0 w1 w2 _ _ f.wrote wrote;
-      })
-
-  pub part-record : (e : RunFault) → StopsAtRecord now body after w1 w2 e → RecordsPart p r0 r2 w0 w2 e
+  pub part-record : (e : RunFault) → StopsAnswering (AnswersIn now body) after w1 w2 e → RecordsPart p r0 r2 w0 w2 e
   part-record Read stops = absurd stops
-  part-record Write stops =
-      let r = subst (λ (o : Option Phase). Replies (AnswersIn o body) stops.text stops.last after) f.is stops.replies in
-      in-answer stops.text r.outcome stops.last r.meets r.is stops.wrote
+  part-record Write stops = in-answer stops.text stops.last (in-phase stops.text stops.last stops.replies) stops.wrote
   part-record Memory (inl stops) = inl (record {
     turns = f.turns;
     rest = read;
@@ -181,8 +166,18 @@ module _ (p : Phase) (r0 r1 r2 w0 w1 : Option (List ℕ)) (now : Option Phase) (
     wrote = subst (Appends w0 w2) (append-nil (answers f.turns)) (Appends-trans w0 w1 w2 _ _ f.wrote stops);
   })
   part-record Memory (inr stops) =
-      let r = subst (λ (o : Option Phase). Replies (AnswersIn o body) (query_text stops.known (stops.front ++ stops.rest)) false after) f.is stops.replies in
-      in-query stops.known stops.front stops.rest r stops.wrote
+      let text = query_text stops.known (stops.front ++ stops.rest) in
+      let g = in-phase text false stops.replies in
+      inr (record {
+        turns = f.turns;
+        last = turn-of text g.0;
+        serves = with-turn text g.0 g.1;
+        known = stops.known;
+        front = stops.front;
+        rest = stops.rest;
+        text_is = refl;
+        wrote = Appends-trans w0 w1 w2 _ _ f.wrote stops.wrote;
+      })
 
 -- ---- where it stops
 
@@ -226,13 +221,13 @@ module _ (p : Phase) (r0 r1 r2 w0 w1 : Option (List ℕ)) (now : Option Phase) (
       verdict_is = refl;
     }))
 
-    pub printed-broken : (verdict : Verdict) → verdict ≡ No → Appends w1 w2 broken_line → ReportsRecords p r0 r2 w0 w2 verdict
-    printed-broken verdict is wrote = record {
+    pub printed-broken : Appends w1 w2 broken_line → ReportsRecords p r0 r2 w0 w2 No
+    printed-broken wrote = record {
       turns = f.turns;
       rest = read;
       text = broken_line;
       serves = serves-read p r0 r1 r2 f.turns read f.serves consumed;
-      ending = subst (IsEnding (phase_after p f.turns) (records_to_come f.turns) read r2 broken_line) (sym is) is-broken;
+      ending = is-broken;
       wrote = Appends-trans w0 w1 w2 _ _ f.wrote wrote;
     }
 

@@ -5,12 +5,12 @@ use Rattle.std.specs.Fmt.{decimal}
 use Rattle.mls_tree.specs.Tree.{member_count}
 use Rattle.mls_check.specs.Signatures.{VerifyFn}
 use Rattle.mls_signatures.specs.declared.signature_to_verify.SignatureToVerify.{SignatureToVerify}
-use Rattle.mls_follow.specs.RefusalNumbers.{number_of}
+use Rattle.mls_apply.specs.Refusals.{name_of, number_of}
 use Rattle.mls_follow.specs.Runs.{IsAnswer}
 use Rattle.mls_follow.specs.State.{State}
 use Rattle.mls_follow.specs.StoredState.{EncodesState, HasNoFile}
-use Rattle.mls_follow.specs.declared.refusal.Refusal.{Refusal}
-use Rattle.mls_follow.specs.declared.refusal.Refusal.TheVariants as refusals
+use Rattle.mls_apply.specs.declared.refusal.Refusal.{Refusal}
+use Rattle.mls_apply.specs.declared.refusal.Refusal.TheVariants.{Member}
 use Rattle.mls_follow.specs.declared.taken.Taken.{Taken}
 use Rattle.mls_follow.specs.declared.taken.Taken.TheVariants.{Proposal, Commit}
 use Rattle.mls_report.specs.FaultText.{member_fault_text}
@@ -18,10 +18,12 @@ use Rattle.mls_report.specs.Finding.{finding_line}
 use Rattle.mls_report.specs.Replay.{ended_text}
 use Rattle.mls_report.specs.SignaturesReport.{HasSignatures, signature_line}
 use Rattle.mls_show.specs.ValueTexts.{hex_text}
-use Rattle.mls_report.specs.declared.finding.Finding.{Finding}
-use Rattle.mls_gate.specs.FirstStates.{IsFirstState, Refuses}
-use Rattle.mls_gate.specs.Phases.{Inputs, Phase, Opening, Following}
-use Rattle.mls_gate.specs.Requests.{request_of, having_learnt}
+use Rattle.mls_start.specs.Inputs.{Inputs}
+use Rattle.mls_start.specs.ReceiptBytes.{having_learnt}
+use Rattle.mls_start.specs.StartFindings.{IsFirstState, Refuses}
+use Rattle.mls_start.specs.declared.finding.Finding.{Finding}
+use Rattle.mls_gate.specs.Phases.{Phase, Opening, Following}
+use Rattle.mls_gate.specs.Requests.{request_of}
 use Rattle.mls_gate.specs.declared.request.Request.{Request}
 use Rattle.mls_gate.specs.declared.request.Request.TheVariants.{Learn, Begin, Query, Process, Store}
 
@@ -70,46 +72,10 @@ ready_line s =
     ++ (codes " members " ++ (decimal (member_count s.tree)
     ++ (codes " tree " ++ (hex_text s.context.tree_hash ++ codes "\n")))))
 
--- `refusal_name e` is the name of a refusal (docs/FORMATS.md).
+-- `refusal_name e` is the name of a refusal, and for 25 also that of the fault of the leaf node (docs/FORMATS.md).
 abbrev pub refusal_name : Refusal → List ℕ
-refusal_name refusals.Malformed = codes "Malformed"
-refusal_name refusals.NotPublic = codes "NotPublic"
-refusal_name refusals.WrongGroup = codes "WrongGroup"
-refusal_name refusals.WrongEpoch = codes "WrongEpoch"
-refusal_name refusals.SenderNotMember = codes "SenderNotMember"
-refusal_name refusals.NotHandshake = codes "NotHandshake"
-refusal_name refusals.BadSignature = codes "BadSignature"
-refusal_name refusals.KnownProposal = codes "KnownProposal"
-refusal_name refusals.AddInvalid = codes "AddInvalid"
-refusal_name refusals.UpdateInvalid = codes "UpdateInvalid"
-refusal_name refusals.RemoveInvalid = codes "RemoveInvalid"
-refusal_name refusals.LastEpoch = codes "LastEpoch"
-refusal_name refusals.UnknownReference = codes "UnknownReference"
-refusal_name refusals.UpdateByCommitter = codes "UpdateByCommitter"
-refusal_name refusals.RemovesCommitter = codes "RemovesCommitter"
-refusal_name refusals.SameLeafTwice = codes "SameLeafTwice"
-refusal_name refusals.PathMissing = codes "PathMissing"
-refusal_name refusals.TooManyLeaves = codes "TooManyLeaves"
-refusal_name refusals.PathLength = codes "PathLength"
-refusal_name refusals.PathSource = codes "PathSource"
-refusal_name refusals.PathKeyUsed = codes "PathKeyUsed"
-refusal_name refusals.CiphertextCount = codes "CiphertextCount"
-refusal_name refusals.PathParentHash = codes "PathParentHash"
-refusal_name refusals.KeyRepeated = codes "KeyRepeated"
-refusal_name (refusals.Member fault) = codes "Member " ++ member_fault_text fault
-refusal_name refusals.TwoContextExtensions = codes "TwoContextExtensions"
-refusal_name refusals.ContextExtensionsInvalid = codes "ContextExtensionsInvalid"
-refusal_name refusals.GroupOver = codes "GroupOver"
-refusal_name refusals.UnknownExternal = codes "UnknownExternal"
-refusal_name refusals.SenderContent = codes "SenderContent"
-refusal_name refusals.PskInvalid = codes "PskInvalid"
-refusal_name refusals.ReInitInvalid = codes "ReInitInvalid"
-refusal_name refusals.ExternalInitMisplaced = codes "ExternalInitMisplaced"
-refusal_name refusals.PskTwice = codes "PskTwice"
-refusal_name refusals.ReInitNotAlone = codes "ReInitNotAlone"
-refusal_name refusals.JoinList = codes "JoinList"
-refusal_name refusals.ResyncInvalid = codes "ResyncInvalid"
-refusal_name refusals.OutOfMemory = codes "OutOfMemory"
+refusal_name (Member fault) = codes "Member " ++ member_fault_text fault
+refusal_name e = name_of e
 
 -- `message_answer_line answer s` is the line of a processed message: the reference of a proposal (RFC 9420, 5.2); of a
 -- commit the epoch that it begins, the tree hash and the confirmed transcript hash of that epoch (8.1), and whether the

@@ -1,25 +1,26 @@
 -- The report `gate`: the signatures of the start, and then an answer to each record of the input, before the next one
 -- is read. `records0` and `records1` are what the input has left before and after, `written0` and `written1` what the
--- output holds; `info0`, `info1`, `tree0`, `tree1` are as in the report `replay`, and `state0` and `state1` are what the
--- file of a state has left. Used by contracts.
+-- output holds. Used by contracts.
 use Rattle.std.specs.Prelude.{◌≡◌, ◌⊎◌, ℕ, ◌-◌, ◌≤◌, ◌<◌, List, [], ◌∷◌, ◌++◌, length, map, Option}
 use Rattle.std.specs.Io.KnownBytes.{Appends, Consumes, IsAtEnd}
 use Rattle.mls_wire.specs.Devices.{AppendsPrefix}
 use Rattle.mls_wire.specs.Logs.{IsRecord, IsBrokenAt, IsIncomplete}
 use Rattle.mls_check.specs.Signatures.{VerifyFn}
-use Rattle.mls_msgs.specs.declared.profile.Profile.{Profile}
 use Rattle.mls_signatures.specs.declared.signature_to_verify.SignatureToVerify.{SignatureToVerify}
 use Rattle.mls_follow.specs.CoveredLogs.{all_good}
+use Rattle.mls_follow.specs.State.{State}
+use Rattle.mls_start.specs.Inputs.{Inputs}
+use Rattle.mls_start.specs.StartFindings.{Declines}
+use Rattle.mls_start.specs.StartSignatures.{StartsWith}
+use Rattle.mls_start.specs.declared.finding.Finding.{Finding}
 use Rattle.mls_report.specs.Finding.{finding_line}
 use Rattle.mls_report.specs.Replay.{AreRecords, IsLeftOver, ReportsNothing}
-use Rattle.mls_report.specs.declared.finding.Finding.{Finding}
 use Rattle.mls_show.specs.declared.verdict.RunFault.{RunFault}
 use Rattle.mls_show.specs.declared.verdict.RunFault.TheVariants.{Read, Write, Memory}
 use Rattle.mls_show.specs.declared.verdict.Verdict.{Verdict}
 use Rattle.mls_show.specs.declared.verdict.Verdict.TheVariants.{No}
 use Rattle.mls_gate.specs.Answers.{Answers, Goes, Ends, verify_lines, query_text, broken_line}
-use Rattle.mls_gate.specs.FirstStates.{CanStart, Declines, ReadsGroup, ReadsState}
-use Rattle.mls_gate.specs.Phases.{Inputs, Phase, Opening, end_verdict}
+use Rattle.mls_gate.specs.Phases.{Phase, Opening, end_verdict}
 
 -- The most records of an input: a limit of this library.
 abbrev pub record_limit : ℕ
@@ -171,127 +172,89 @@ RecordsPart phase records0 records1 written0 written1 Memory =
     GateStopsWithoutMemory phase records0 records1 written0 written1
     ⊎ GateStopsInQuery phase records0 records1 written0 written1
 
--- ---- the whole report. `Reads i`: the inputs were read to their ends, and `i` is their bytes
+-- ---- the whole report of a gate from the inputs `i`
 
--- `DeclinesGate Reads ..`: no follower starts although each signature is good. No record was read, and one line says
--- why.
-pub record DeclinesGate (Reads : Inputs → Type 0) (records0 records1 written0 written1 : Option (List ℕ))
-    (verdict : Verdict) : Type 0 where
-  pub i : Inputs
-  pub read : Reads i
+-- `DeclinesGate i ..`: no follower starts or resumes although each signature is good. No record was read, and one line
+-- says why.
+pub record DeclinesGate (i : Inputs) (records0 records1 written0 written1 : Option (List ℕ)) (verdict : Verdict)
+    : Type 0 where
   pub finding : Finding
   pub declines : Declines all_good i finding
   pub unread : records1 ≡ records0
   pub wrote : Appends written0 written1 (finding_line finding)
   pub verdict_is : verdict ≡ No
 
--- `OpensGate Reads G ..`: the signatures of the start that `G` does not accept were listed, and the records answered.
-pub record OpensGate (Reads : Inputs → Type 0) (G : VerifyFn)
-    (records0 records1 written0 written1 : Option (List ℕ)) (verdict : Verdict) : Type 0 where
-  pub i : Inputs
-  pub read : Reads i
+-- `OpensGate G i ..`: the signatures of the start that `G` does not accept were listed, and the records answered.
+pub record OpensGate (G : VerifyFn) (i : Inputs) (records0 records1 written0 written1 : Option (List ℕ))
+    (verdict : Verdict) : Type 0 where
+  pub state : State
   pub signatures : List SignatureToVerify
-  pub can_start : CanStart i signatures
+  pub can_start : StartsWith i state signatures
   pub between : Option (List ℕ)
   pub wrote : Appends written0 between (query_text G signatures)
   pub reports : ReportsRecords (Opening i G) records0 records1 between written1 verdict
 
--- `GatesOf Reads G ..`: the report was written whole. Either no follower starts although each signature is good, or the
--- records were answered.
-abbrev pub GatesOf : (Inputs → Type 0) → VerifyFn → Option (List ℕ) → Option (List ℕ) → Option (List ℕ)
-    → Option (List ℕ) → Verdict → Type 0
-GatesOf Reads G records0 records1 written0 written1 verdict =
-    DeclinesGate Reads records0 records1 written0 written1 verdict
-    ⊎ OpensGate Reads G records0 records1 written0 written1 verdict
-
--- `Gates profile G info0 info1 tree0 tree1 ..`: the report from a GroupInfo, and a tree if one is passed. The group is
--- followed in the profile.
-abbrev pub Gates : Profile → VerifyFn → Option (List ℕ) → Option (List ℕ) → Option (Option (List ℕ))
-    → Option (Option (List ℕ)) → Option (List ℕ) → Option (List ℕ) → Option (List ℕ) → Option (List ℕ) → Verdict
+-- `Gates G i ..`: the report was written whole. Either no follower starts or resumes although each signature is good, or
+-- the records were answered.
+abbrev pub Gates : VerifyFn → Inputs → Option (List ℕ) → Option (List ℕ) → Option (List ℕ) → Option (List ℕ) → Verdict
     → Type 0
-Gates profile G info0 info1 tree0 tree1 records0 records1 written0 written1 verdict =
-    GatesOf (ReadsGroup profile info0 info1 tree0 tree1) G records0 records1 written0 written1 verdict
-
--- `GatesState G state0 state1 ..`: the report from the file of a state.
-abbrev pub GatesState : VerifyFn → Option (List ℕ) → Option (List ℕ) → Option (List ℕ) → Option (List ℕ)
-    → Option (List ℕ) → Option (List ℕ) → Verdict → Type 0
-GatesState G state0 state1 records0 records1 written0 written1 verdict =
-    GatesOf (ReadsState state0 state1) G records0 records1 written0 written1 verdict
+Gates G i records0 records1 written0 written1 verdict =
+    DeclinesGate i records0 records1 written0 written1 verdict
+    ⊎ OpensGate G i records0 records1 written0 written1 verdict
 
 -- ---- a part of the report
 
--- `StopsDeclining Reads ..`: the output failed in the line that says why no follower starts.
-pub record StopsDeclining (Reads : Inputs → Type 0) (records0 records1 written0 written1 : Option (List ℕ))
-    : Type 0 where
-  pub i : Inputs
-  pub read : Reads i
+-- `StopsDeclining i ..`: the output failed in the line that says why no follower starts or resumes.
+pub record StopsDeclining (i : Inputs) (records0 records1 written0 written1 : Option (List ℕ)) : Type 0 where
   pub finding : Finding
   pub declines : Declines all_good i finding
   pub unread : records1 ≡ records0
   pub wrote : AppendsPrefix written0 written1 (finding_line finding)
 
--- `StopsInQuery Reads G ..`: the output failed in the lines of the start, before a record was read.
-pub record StopsInQuery (Reads : Inputs → Type 0) (G : VerifyFn)
-    (records0 records1 written0 written1 : Option (List ℕ)) : Type 0 where
-  pub i : Inputs
-  pub read : Reads i
+-- `StopsOpening G i ..`: the output failed in the lines of the start, before a record was read.
+pub record StopsOpening (G : VerifyFn) (i : Inputs) (records0 records1 written0 written1 : Option (List ℕ))
+    : Type 0 where
+  pub state : State
   pub signatures : List SignatureToVerify
-  pub can_start : CanStart i signatures
+  pub can_start : StartsWith i state signatures
   pub unread : records1 ≡ records0
   pub wrote : AppendsPrefix written0 written1 (query_text G signatures)
 
--- `QueryWithoutMemory Reads G ..`: memory ran out in the lines of the start, before a record was read. The lines of the
+-- `OpensWithoutMemory G i ..`: memory ran out in the lines of the start, before a record was read. The lines of the
 -- signatures before were written whole.
-pub record QueryWithoutMemory (Reads : Inputs → Type 0) (G : VerifyFn)
-    (records0 records1 written0 written1 : Option (List ℕ)) : Type 0 where
-  pub i : Inputs
-  pub read : Reads i
+pub record OpensWithoutMemory (G : VerifyFn) (i : Inputs) (records0 records1 written0 written1 : Option (List ℕ))
+    : Type 0 where
+  pub state : State
   pub front : List SignatureToVerify
   pub rest : List SignatureToVerify
-  pub can_start : CanStart i (front ++ rest)
+  pub can_start : StartsWith i state (front ++ rest)
   pub unread : records1 ≡ records0
   pub wrote : Appends written0 written1 (verify_lines G front)
 
--- `GateBefore Reads G .. fault`: no record was read, by the fault that is returned.
-abbrev pub GateBefore : (Inputs → Type 0) → VerifyFn → Option (List ℕ) → Option (List ℕ) → Option (List ℕ)
-    → Option (List ℕ) → RunFault → Type 0
-GateBefore Reads G records0 records1 written0 written1 Read = ReportsNothing records0 records1 written0 written1
-GateBefore Reads G records0 records1 written0 written1 Write =
-    StopsDeclining Reads records0 records1 written0 written1
-    ⊎ StopsInQuery Reads G records0 records1 written0 written1
-GateBefore Reads G records0 records1 written0 written1 Memory =
+-- `GateBefore G i .. fault`: no record was read, by the fault that is returned.
+abbrev pub GateBefore : VerifyFn → Inputs → Option (List ℕ) → Option (List ℕ) → Option (List ℕ) → Option (List ℕ)
+    → RunFault → Type 0
+GateBefore G i records0 records1 written0 written1 Read = ⊥
+GateBefore G i records0 records1 written0 written1 Write =
+    StopsDeclining i records0 records1 written0 written1 ⊎ StopsOpening G i records0 records1 written0 written1
+GateBefore G i records0 records1 written0 written1 Memory =
     ReportsNothing records0 records1 written0 written1
-    ⊎ QueryWithoutMemory Reads G records0 records1 written0 written1
+    ⊎ OpensWithoutMemory G i records0 records1 written0 written1
 
--- `GateAfter Reads G .. fault`: the lines of the start were written, and not each record was answered.
-pub record GateAfter (Reads : Inputs → Type 0) (G : VerifyFn)
-    (records0 records1 written0 written1 : Option (List ℕ)) (fault : RunFault) : Type 0 where
-  pub i : Inputs
-  pub read : Reads i
+-- `GateAfter G i .. fault`: the lines of the start were written, and not each record was answered.
+pub record GateAfter (G : VerifyFn) (i : Inputs) (records0 records1 written0 written1 : Option (List ℕ))
+    (fault : RunFault) : Type 0 where
+  pub state : State
   pub signatures : List SignatureToVerify
-  pub can_start : CanStart i signatures
+  pub can_start : StartsWith i state signatures
   pub between : Option (List ℕ)
   pub wrote : Appends written0 between (query_text G signatures)
   pub reports : RecordsPart (Opening i G) records0 records1 between written1 fault
 
--- `GatesPartOf Reads G .. fault`: what was written if the report was not written whole, by the fault that is returned. It
--- is a prefix of what the bytes that were read determine.
-abbrev pub GatesPartOf : (Inputs → Type 0) → VerifyFn → Option (List ℕ) → Option (List ℕ) → Option (List ℕ)
-    → Option (List ℕ) → RunFault → Type 0
-GatesPartOf Reads G records0 records1 written0 written1 fault =
-    GateBefore Reads G records0 records1 written0 written1 fault
-    ⊎ GateAfter Reads G records0 records1 written0 written1 fault
-
--- `GatesPart profile G info0 info1 tree0 tree1 .. fault`: a part of the report from a GroupInfo, and a tree if one is
--- passed.
-abbrev pub GatesPart : Profile → VerifyFn → Option (List ℕ) → Option (List ℕ) → Option (Option (List ℕ))
-    → Option (Option (List ℕ)) → Option (List ℕ) → Option (List ℕ) → Option (List ℕ) → Option (List ℕ) → RunFault
-    → Type 0
-GatesPart profile G info0 info1 tree0 tree1 records0 records1 written0 written1 fault =
-    GatesPartOf (ReadsGroup profile info0 info1 tree0 tree1) G records0 records1 written0 written1 fault
-
--- `GatesStatePart G state0 state1 .. fault`: a part of the report from the file of a state.
-abbrev pub GatesStatePart : VerifyFn → Option (List ℕ) → Option (List ℕ) → Option (List ℕ) → Option (List ℕ)
-    → Option (List ℕ) → Option (List ℕ) → RunFault → Type 0
-GatesStatePart G state0 state1 records0 records1 written0 written1 fault =
-    GatesPartOf (ReadsState state0 state1) G records0 records1 written0 written1 fault
+-- `GatesPart G i .. fault`: what was written if the report was not written whole, by the fault that is returned. It is a
+-- prefix of what the inputs and the bytes that were read determine.
+abbrev pub GatesPart : VerifyFn → Inputs → Option (List ℕ) → Option (List ℕ) → Option (List ℕ) → Option (List ℕ)
+    → RunFault → Type 0
+GatesPart G i records0 records1 written0 written1 fault =
+    GateBefore G i records0 records1 written0 written1 fault
+    ⊎ GateAfter G i records0 records1 written0 written1 fault

@@ -8,11 +8,12 @@ use Rattle.mls_follow.specs.Runs.{IsAnswer}
 use Rattle.mls_follow.specs.State.{State}
 use Rattle.mls_follow.specs.StoredState.{EncodesState}
 use Rattle.mls_follow.specs.Validity.{IsValidState}
-use Rattle.mls_follow.specs.declared.refusal.Refusal.{Refusal}
+use Rattle.mls_apply.specs.declared.refusal.Refusal.{Refusal}
 use Rattle.mls_follow.specs.declared.taken.Taken.{Taken}
-use Rattle.mls_gate.specs.FirstStates.{IsFirstState}
+use Rattle.mls_start.specs.Inputs.{Inputs}
+use Rattle.mls_start.specs.StartFindings.{IsFirstState}
 use Rattle.mls_gate.specs.GateReport.{Turn, AreAnswered, phase_after}
-use Rattle.mls_gate.specs.Phases.{Inputs, Opening, Following}
+use Rattle.mls_gate.specs.Phases.{Opening, Following}
 
 -- `IsGateRun G first K last`: a rising run leads from one state to another, and its verification function is `G` before
 -- it and `K` after it.

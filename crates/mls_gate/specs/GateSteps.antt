@@ -1,70 +1,43 @@
 -- The contracts of the steps of the gate. `meaning` is the verification function of a checker. Internal: no public
 -- contract uses this.
-use Rattle.std.specs.Prelude.{◌≡◌, ◌⊎◌, ℕ, List, [], ◌++◌, drop, Bool, true, false, Option, Some, None, option_map}
+use Rattle.std.specs.Prelude.{◌≡◌, ◌⊎◌, ℕ, List, [], ◌++◌, drop, Bool, true, false, Option, Some, None, string_bytes}
 use Rattle.std.specs.Io.KnownBytes.{Appends}
 use Rattle.mls_wire.specs.Devices.{AppendsPrefix}
-use Rattle.mls_tree.specs.RatchetTree.{RatchetTree}
 use Rattle.mls_check.specs.Signatures.{VerifyFn}
-use Rattle.mls_msgs.specs.declared.group_info.GroupInfo.{GroupInfo}
-use Rattle.mls_signatures.specs.SignaturesToVerify.{resumption_signatures}
 use Rattle.mls_signatures.specs.declared.signature_to_verify.SignatureToVerify.{SignatureToVerify}
 use Rattle.mls_follow.specs.CoveredLogs.{all_good}
 use Rattle.mls_follow.specs.FollowerModel.{checker_of, state_of}
-use Rattle.mls_follow.specs.Resumption.{IsResumed}
 use Rattle.mls_follow.specs.State.{State}
+use Rattle.mls_start.specs.Inputs.{inputs_of}
+use Rattle.mls_start.specs.StartFindings.{IsFirstState}
 use Rattle.mls_report.specs.SignaturesReport.{HasSignatures}
 use Rattle.mls_report.specs.SignaturesSteps.{LinesWithoutMemory}
-use Rattle.mls_report.specs.StartInputs.{IsReadAs}
 use Rattle.mls_show.specs.declared.verdict.RunFault.{RunFault}
 use Rattle.mls_show.specs.declared.verdict.RunFault.TheVariants.{Read, Write, Memory}
 use Rattle.mls_show.specs.declared.verdict.Verdict.{Verdict}
 use Rattle.mls_show.specs.declared.verdict.Verdict.TheVariants.{No}
 use Rattle.mls_gate.specs.Answers.{Outcome, Goes, Ends, Responds, verify_lines, query_text, message_query, broken_line}
-use Rattle.mls_gate.specs.Phases.{GroupFiles, Inputs, OfGroup, OfState, Phase, Opening, Following, end_verdict}
+use Rattle.mls_gate.specs.Phases.{Phase, Opening, Following, end_verdict}
 use Rattle.mls_gate.specs.Requests.{request_of}
-use Rattle.mls_gate.specs.declared.gate_inputs.GateInputs.{GateInputs}
-use Rattle.mls_gate.specs.declared.gate_inputs.GateInputs.TheVariants as gates
-use Rattle.mls_gate.specs.declared.gate_inputs.GroupBytes.{GroupBytes}
+use Rattle.mls_gate.specs.declared.phase.Answer.{Answer}
+use Rattle.mls_gate.specs.declared.phase.Answer.TheVariants as said
 use Rattle.mls_gate.specs.declared.phase.GatePhase.{GatePhase}
 use Rattle.mls_gate.specs.declared.phase.GatePhase.TheVariants as phases
 use Rattle.mls_gate.specs.declared.request.Request.{Request}
 
 -- ---- the phase
 
--- The profile, and the bytes of a GroupInfo, and of a tree if there is a file of it.
-abbrev pub files_of : GroupBytes → GroupFiles
-files_of b = record {
-  profile = b.profile;
-  info = b.bytes.info.items;
-  tree = option_map (λ v. v.items) b.bytes.tree;
-}
-
--- The bytes of the inputs.
-abbrev pub inputs_of : GateInputs → Inputs
-inputs_of (gates.Group files) = OfGroup (files_of files)
-inputs_of (gates.State bytes) = OfState bytes.items
-
 -- The phase that the gate is in. None if it has ended.
 abbrev pub phase_of : {C : Type 0} {g : _} → (C → VerifyFn) → GatePhase C g → Option Phase
-phase_of meaning (phases.Opening inputs checker) = Some (Opening (inputs_of inputs) (meaning checker))
+phase_of meaning (phases.Opening start checker) = Some (Opening (inputs_of start) (meaning checker))
 phase_of meaning (phases.Following follower) = Some (Following (meaning (checker_of follower)) (state_of follower))
 phase_of meaning phases.Over = None
 
--- A GroupInfo, and a tree if there is a file of it, can be read.
-pub record AreReadableFiles (files : GroupFiles) : Type 0 where
-  pub info : GroupInfo
-  pub supplied : Option RatchetTree
-  pub is_read : IsReadAs files.profile files.info files.tree info supplied
-
--- The inputs can be read. The file of a state leads to a follower, each signature being good.
-abbrev pub AreReadableInputs : Inputs → Type 0
-AreReadableInputs (OfGroup files) = AreReadableFiles files
-AreReadableInputs (OfState bytes) = (s : State) × IsResumed all_good bytes s
-
--- The gate can answer a record: it has not ended, and the inputs of a start can be read.
+-- The gate can answer a record: it has not ended, and a follower starts or resumes from the inputs, each signature being
+-- good.
 abbrev pub IsReady : Option Phase → Type 0
 IsReady None = ⊥
-IsReady (Some (Opening i G)) = AreReadableInputs i
+IsReady (Some (Opening i G)) = (s : State) × IsFirstState all_good i s
 IsReady (Some (Following G s)) = Unit {0}
 
 -- The verdict if the input ends between two records.
@@ -83,16 +56,35 @@ RespondsIn (Some phase) request rest outcome = Responds phase request rest outco
 abbrev pub AnswersIn : Option Phase → List ℕ → Outcome → Type 0
 AnswersIn phase body outcome = RespondsIn phase (request_of body) (drop 1 body) outcome
 
--- The outcome has this text. It ends the gate if `last` is true, and otherwise leads to this phase.
-abbrev pub IsOutcome : Outcome → List ℕ → Bool → Option Phase → Type 0
-IsOutcome (Goes printed phase) text last after = (text ≡ printed) × (last ≡ false) × (after ≡ Some phase)
-IsOutcome (Ends printed) text last after = (text ≡ printed) × (last ≡ true)
+-- The text is that of such an outcome. It ends the gate if the flag is true, and otherwise leads to this phase.
+abbrev pub Replies : (Outcome → Type 0) → List ℕ → Bool → Option Phase → Type 0
+Replies Meets text false after = (phase : Phase) × Meets (Goes text phase) × (after ≡ Some phase)
+Replies Meets text true after = Meets (Ends text)
 
--- What was answered is such an outcome.
-pub record Replies (Meets : Outcome → Type 0) (text : List ℕ) (last : Bool) (after : Option Phase) : Type 0 where
-  pub outcome : Outcome
-  pub meets : Meets outcome
-  pub is : IsOutcome outcome text last after
+-- What is still to be written of an answer.
+abbrev pub text_of : Answer → List ℕ
+text_of said.Silent = []
+text_of (said.Goes text) = string_bytes text
+text_of (said.Ends text) = string_bytes text
+text_of said.Broken = broken_line
+
+-- Whether an answer ends the gate.
+abbrev pub is_last : Answer → Bool
+is_last said.Silent = false
+is_last (said.Goes text) = false
+is_last (said.Ends text) = true
+is_last said.Broken = true
+
+-- The answer is such an outcome.
+abbrev pub Gives : (Outcome → Type 0) → Option Phase → Answer → Type 0
+Gives Meets after answer = Replies Meets (text_of answer) (is_last answer) after
+
+-- Some lines were written, and with them the answer is such an outcome.
+pub record GivesBehind (Meets : Outcome → Type 0) (after : Option Phase) (written0 written1 : Option (List ℕ))
+    (answer : Answer) : Type 0 where
+  pub lines : List ℕ
+  pub wrote : Appends written0 written1 lines
+  pub replies : Replies Meets (lines ++ text_of answer) (is_last answer) after
 
 -- An answer that is such an outcome was written.
 pub record Answered (Meets : Outcome → Type 0) (after : Option Phase) (written0 written1 : Option (List ℕ)) (last : Bool)
@@ -125,34 +117,16 @@ StopsAnswering Meets after written0 written1 Write = StopsInText Meets after wri
 StopsAnswering Meets after written0 written1 Memory =
     Appends written0 written1 [] ⊎ StopsInQuery Meets after written0 written1
 
--- A record was answered.
-abbrev pub AnswersRecord : Option Phase → List ℕ → Option Phase → Option (List ℕ) → Option (List ℕ) → Bool → Type 0
-AnswersRecord phase body after written0 written1 last = Answered (AnswersIn phase body) after written0 written1 last
-
--- A record was not answered, with this fault.
-abbrev pub StopsAtRecord : Option Phase → List ℕ → Option Phase → Option (List ℕ) → Option (List ℕ) → RunFault → Type 0
-StopsAtRecord phase body after written0 written1 fault = StopsAnswering (AnswersIn phase body) after written0 written1 fault
-
 -- The list is that of a query of a message in a state.
 pub record IsQueried (s : State) (message : List ℕ) (needed : List SignatureToVerify) : Type 0 where
   pub signatures : Option (List SignatureToVerify)
   pub has_signatures : HasSignatures s message signatures
   pub same : (G : VerifyFn) → query_text G needed ≡ message_query G signatures
 
--- ---- the start
+-- ---- lines of signatures
 
--- The lines of a start were not written whole, with this fault.
-abbrev pub StopsInStartLines : VerifyFn → List SignatureToVerify → Option (List ℕ) → Option (List ℕ) → RunFault → Type 0
-StopsInStartLines G signatures written0 written1 Read = ⊥
-StopsInStartLines G signatures written0 written1 Write = AppendsPrefix written0 written1 (query_text G signatures)
-StopsInStartLines G signatures written0 written1 Memory = LinesWithoutMemory (verify_lines G) signatures written0 written1
-
--- The signatures of resuming in a state.
-abbrev pub signatures_of : State → List SignatureToVerify
-signatures_of s = resumption_signatures s.context s.tree s.known
-
--- ---- the report, from the bytes of the inputs on
-
--- The inputs have these bytes.
-abbrev pub Are : Inputs → Inputs → Type 0
-Are i j = j ≡ i
+-- The lines of signatures and the last one were not written whole, with this fault.
+abbrev pub StopsInQueryText : VerifyFn → List SignatureToVerify → Option (List ℕ) → Option (List ℕ) → RunFault → Type 0
+StopsInQueryText G signatures written0 written1 Read = ⊥
+StopsInQueryText G signatures written0 written1 Write = AppendsPrefix written0 written1 (query_text G signatures)
+StopsInQueryText G signatures written0 written1 Memory = LinesWithoutMemory (verify_lines G) signatures written0 written1

@@ -1,6 +1,5 @@
 pub mod Requests
 pub mod Phases
-pub mod FirstStates
 pub mod Answers
 pub mod GateReport
 pub mod GateReports

@@ -1,20 +1,18 @@
 //! Properties of the gate's definitions. No caller needs to run these functions.
 
-ghost use Rattle.mls_gate.specs.GateReports.{GateIsUnique, StateGateIsUnique, GateExists, StateGateExists};
+ghost use Rattle.mls_gate.specs.GateReports.{GateIsUnique, GateExists};
 ghost use Rattle.mls_gate.specs.GateRuns.{GatesRise, GatesAreValid, GateAnswersAreTrusted, GateStatesResume};
 
 /// What a gate writes, and its verdict, are determined by the bytes of its inputs and the verification function of the
-/// checker, however the bytes are divided among reads.
+/// checker, however the bytes of its records are divided among reads.
 pub fn gates_are_determined()
-    ensures groups { GateIsUnique }
-    ensures states { StateGateIsUnique }
+    ensures { GateIsUnique }
 {}
 
 /// A gate has a report for any bytes and any checker. So contracts that allow `Memory`, `Read` and `Write` never allow
 /// only these.
 pub fn gate_reports_exist()
-    ensures groups { GateExists }
-    ensures states { StateGateExists }
+    ensures { GateExists }
 {}
 
 /// The records of a gate are a rising run of its follower, so all theorems on these hold

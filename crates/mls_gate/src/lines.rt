@@ -1,16 +1,18 @@
 //! The lines of the gate.
 
-ghost use Rattle.std.specs.Prelude.{◌≡◌, ◌≤◌, ◌++◌, codes, IfOk, string_bytes};
+ghost use Rattle.std.specs.Prelude.{◌≡◌, ◌++◌, codes, IfOk, string_bytes};
 ghost use Rattle.std.specs.Fmt.{decimal};
 ghost use Rattle.mls_follow.specs.FollowerModel.{state_of};
-ghost use Rattle.mls_follow.specs.RefusalNumbers.{number_of};
+ghost use Rattle.mls_apply.specs.Refusals.{number_of};
 ghost use Rattle.mls_report.specs.FaultText.{member_fault_text};
 ghost use Rattle.mls_report.specs.Replay.{ended_text};
+ghost use Rattle.mls_report.specs.SignaturesReport.{signature_line};
 ghost use Rattle.mls_show.specs.ValueTexts.{hex_text};
 ghost use Rattle.mls_gate.specs.Answers as answers;
 
+use mls_apply::Refusal;
 use mls_check::{MemberFault, SignatureCheck};
-use mls_follow::{Follower, Refusal, Taken};
+use mls_follow::{Follower, Taken};
 use mls_nodes::GroupContext;
 use mls_report::fault_text::member_fault_text;
 use mls_report::replay_text::ended_text;
@@ -21,7 +23,7 @@ use mls_tree::HashValue;
 use std::alloc::{AllocError, Global};
 
 /// Returns whether the checker accepts a signature.
-fn is_known<C: SignatureCheck>(needed: &SignatureToVerify, checker: &C) -> bool
+pub(crate) fn is_known<C: SignatureCheck>(needed: &SignatureToVerify, checker: &C) -> bool
     ensures { result ≡ answers.is_known (C.meaning checker.now) needed.now }
 {
     let key = needed.key.as_slice();
@@ -29,52 +31,15 @@ fn is_known<C: SignatureCheck>(needed: &SignatureToVerify, checker: &C) -> bool
     checker.good(needed.suite, key, &[content], needed.signature.as_slice())
 }
 
-/// Appends the line of a signature, unless the checker accepts it. Returns how many lines it appended.
-pub(crate) fn put_verify_line<C: SignatureCheck>(
-    alloc: Global,
-    text: &mut String,
-    needed: &SignatureToVerify,
-    checker: &C,
-) -> Result<usize, AllocError>
-    ensures line { IfOk result (λ _. string_bytes text.new
-        ≡ string_bytes text.old ++ answers.verify_line (C.meaning checker.now) needed.now) }
-    ensures unknown { IfOk result
-        (λ count. count ≡ answers.unknown_one (C.meaning checker.now) needed.now) }
-    ensures most { IfOk result (λ count. count ≤ 1) }
+/// Returns the line of a signature that the checker does not accept.
+pub(crate) fn verify_line(alloc: Global, needed: &SignatureToVerify) -> Result<String, AllocError>
+    ensures { IfOk result
+        (λ text. string_bytes text ≡ codes "verify " ++ signature_line needed.now) }
 {
-    if is_known(needed, checker) {
-        return Ok(0);
-    }
     let line = signature_line(alloc, needed)?;
-    text.push_str("verify ")?;
+    let mut text = String::from_str(alloc, "verify ")?;
     text.push_str(line.as_str())?;
-    Ok(1)
-}
-
-/// The lines of signatures that a checker does not accept, and their number.
-#[derive(Drop)]
-pub(crate) struct VerifyLines {
-    pub(crate) text: String,
-    pub(crate) count: usize,
-}
-
-/// Returns the lines of the signatures that the checker does not accept.
-pub(crate) fn verify_lines<C: SignatureCheck>(
-    alloc: Global,
-    signatures: &[SignatureToVerify],
-    checker: &C,
-) -> Result<VerifyLines, AllocError>
-    ensures text { IfOk result (λ lines. string_bytes lines.text
-        ≡ answers.verify_lines (C.meaning checker.now) signatures.now) }
-    ensures count { IfOk result
-        (λ lines. lines.count ≡ answers.unknown_count (C.meaning checker.now) signatures.now) }
-{
-    let mut text = String::new(alloc);
-    let mut count: usize = 0;
-    for signature in signatures {
-        count += put_verify_line(alloc, &mut text, signature, checker)?;
-    }
-    Ok(VerifyLines { text, count })
+    Ok(text)
 }
 
 /// Returns the line with the number of signatures that the checker does not accept.
@@ -112,44 +77,8 @@ fn refusal_name(alloc: Global, refusal: &Refusal) -> Result<String, AllocError>
     ensures { IfOk result (λ text. string_bytes text ≡ answers.refusal_name refusal.now) }
 {
     match refusal {
-        Refusal::Malformed => String::from_str(alloc, "Malformed"),
-        Refusal::NotPublic => String::from_str(alloc, "NotPublic"),
-        Refusal::WrongGroup => String::from_str(alloc, "WrongGroup"),
-        Refusal::WrongEpoch => String::from_str(alloc, "WrongEpoch"),
-        Refusal::SenderNotMember => String::from_str(alloc, "SenderNotMember"),
-        Refusal::NotHandshake => String::from_str(alloc, "NotHandshake"),
-        Refusal::BadSignature => String::from_str(alloc, "BadSignature"),
-        Refusal::KnownProposal => String::from_str(alloc, "KnownProposal"),
-        Refusal::AddInvalid => String::from_str(alloc, "AddInvalid"),
-        Refusal::UpdateInvalid => String::from_str(alloc, "UpdateInvalid"),
-        Refusal::RemoveInvalid => String::from_str(alloc, "RemoveInvalid"),
-        Refusal::LastEpoch => String::from_str(alloc, "LastEpoch"),
-        Refusal::UnknownReference => String::from_str(alloc, "UnknownReference"),
-        Refusal::UpdateByCommitter => String::from_str(alloc, "UpdateByCommitter"),
-        Refusal::RemovesCommitter => String::from_str(alloc, "RemovesCommitter"),
-        Refusal::SameLeafTwice => String::from_str(alloc, "SameLeafTwice"),
-        Refusal::PathMissing => String::from_str(alloc, "PathMissing"),
-        Refusal::TooManyLeaves => String::from_str(alloc, "TooManyLeaves"),
-        Refusal::PathLength => String::from_str(alloc, "PathLength"),
-        Refusal::PathSource => String::from_str(alloc, "PathSource"),
-        Refusal::PathKeyUsed => String::from_str(alloc, "PathKeyUsed"),
-        Refusal::CiphertextCount => String::from_str(alloc, "CiphertextCount"),
-        Refusal::PathParentHash => String::from_str(alloc, "PathParentHash"),
-        Refusal::KeyRepeated => String::from_str(alloc, "KeyRepeated"),
         Refusal::Member(fault) => member_name(alloc, *fault),
-        Refusal::TwoContextExtensions => String::from_str(alloc, "TwoContextExtensions"),
-        Refusal::ContextExtensionsInvalid => String::from_str(alloc, "ContextExtensionsInvalid"),
-        Refusal::GroupOver => String::from_str(alloc, "GroupOver"),
-        Refusal::UnknownExternal => String::from_str(alloc, "UnknownExternal"),
-        Refusal::SenderContent => String::from_str(alloc, "SenderContent"),
-        Refusal::PskInvalid => String::from_str(alloc, "PskInvalid"),
-        Refusal::ReInitInvalid => String::from_str(alloc, "ReInitInvalid"),
-        Refusal::ExternalInitMisplaced => String::from_str(alloc, "ExternalInitMisplaced"),
-        Refusal::PskTwice => String::from_str(alloc, "PskTwice"),
-        Refusal::ReInitNotAlone => String::from_str(alloc, "ReInitNotAlone"),
-        Refusal::JoinList => String::from_str(alloc, "JoinList"),
-        Refusal::ResyncInvalid => String::from_str(alloc, "ResyncInvalid"),
-        Refusal::OutOfMemory => String::from_str(alloc, "OutOfMemory"),
+        _ => String::from_str(alloc, refusal.name()),
     }
 }
 

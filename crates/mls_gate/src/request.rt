@@ -1,6 +1,6 @@
 //! The requests of records.
 
-ghost use Rattle.std.specs.Prelude.{◌≡◌, ◌≢◌, false, true, Some};
+ghost use Rattle.std.specs.Prelude.{◌≡◌};
 ghost use Rattle.mls_gate.specs.Requests.{request_of};
 
 /// The request of a record of the gate's input.
@@ -33,20 +33,5 @@ pub(crate) fn request_of(body: &[u8]) -> Option<Request>
         b'm' => Some(Request::Process),
         b's' if rest.is_empty() => Some(Request::Store),
         _ => None,
-    }
-}
-
-/// Returns whether a record with this body has the request [`Request::Query`].
-pub(crate) fn is_query(body: &[u8]) -> bool
-    ensures query { result ≡ true → request_of body.now ≡ Some Request.Query }
-    ensures other { result ≡ false → request_of body.now ≢ Some Request.Query }
-{
-    match request_of(body) {
-        Some(Request::Query) => true,
-        Some(Request::Learn) => false,
-        Some(Request::Begin) => false,
-        Some(Request::Process) => false,
-        Some(Request::Store) => false,
-        None => false,
     }
 }

@@ -11,7 +11,7 @@ use mls_check::{TreeFault, validate_tree};
 use mls_hash::{Suite, tree_hash};
 use mls_msgs::{Message, Profile, decode_message_in, encode_message};
 use mls_nodes::{GroupContext, NodeFault, decode_context};
-use mls_report::Verdict;
+use mls_show::Verdict;
 use mls_tree::{PublicTree, root};
 use mls_vectors::{CheckKind, run_check};
 use mls_wire::{CodecFault, MemorySink, MemorySource, Opaque};

@@ -4,10 +4,10 @@
 //! First it makes calls of the libraries, and prints a line for each with the answer. A call that runs out of memory
 //! must leave its arguments and the state unchanged. It is then repeated, and must give the usual answer. The first
 //! number is how often a piece of memory is allocated and freed before: if the n-th allocation of a run fails, this
-//! number moves the failure through the calls, so that one build serves for all of them. `examples/refused.sh` does so.
+//! number moves the failure through the calls, so that one build serves for all of them. `tests/refused.sh` does so.
 //!
 //! Then it changes inputs at random and passes them to the libraries: as many as the third number, beginning with the
-//! one of the second number. A refused input must leave a follower unchanged. `examples/changed.sh` tries many.
+//! one of the second number. A refused input must leave a follower unchanged. `tests/changed.sh` tries many.
 //!
 //! The exit status is 0 if no allocation failed, 2 if one failed outside of the calls, 3 if a call ran out of memory
 //! and all is as it must be, and 1 if something is not.
@@ -114,41 +114,37 @@ const CALLS: &[(&str, Call, &str)] = &[
         Call::FollowInFull(&[JOIN_COMMIT, RESYNC_COMMIT], JOIN_RECEIPTS),
         JOIN_ANSWERS,
     ),
-    ("run_replay", Call::Report(Report::Replay), "no, 294 bytes"),
+    ("replay", Call::Report(Report::Replay), "no, 294 bytes"),
     ("run_check", Call::Report(Report::Check), "yes, 35 bytes"),
+    ("validate", Call::Report(Report::Validate), "yes, 94 bytes"),
     (
-        "run_validate",
-        Call::Report(Report::Validate),
-        "yes, 94 bytes",
-    ),
-    (
-        "run_validate_tree",
+        "validate_tree",
         Call::Report(Report::ValidateTree),
         "yes, 71 bytes",
     ),
     (
-        "run_signatures",
+        "signatures",
         Call::Report(Report::Signatures),
         "no, 1821 bytes",
     ),
     (
-        "run_signatures_state",
+        "signatures of a state",
         Call::Report(Report::SignaturesState),
         "no, 1134 bytes",
     ),
-    ("run_gate", Call::Report(Report::Gate), "no, 2555 bytes"),
+    ("gate", Call::Report(Report::Gate), "no, 2555 bytes"),
     (
-        "run_gate_state",
+        "gate of a state",
         Call::Report(Report::GateState),
         "yes, 1703 bytes",
     ),
     (
-        "run_validate_state",
+        "validate of a state",
         Call::Report(Report::ValidateState),
         "yes, 94 bytes",
     ),
     (
-        "replay_state and encode_state",
+        "replay of a state, and encode_state",
         Call::Report(Report::ReplayState),
         "no, 200 bytes",
     ),

@@ -6,14 +6,13 @@ use crate::group::{
     TREE_CONTEXT, VALIDATED, VALIDATED_TREE, VECTORS,
 };
 use crate::output::{Output, Stop, have};
-use mls_audit::{
-    replay_state, run_replay, run_signatures, run_signatures_state, run_validate,
-    run_validate_state, run_validate_tree,
-};
 use mls_check::{Receipts, Trusting};
 use mls_follow::Follower;
-use mls_gate::{run_gate, run_gate_state};
-use mls_report::{RunFault, Verdict};
+use mls_gate::gate;
+use mls_msgs::Profile;
+use mls_report::{Replayed, replay, signatures, validate, validate_tree};
+use mls_show::{RunFault, Verdict};
+use mls_start::StartBytes;
 use mls_vectors::{CheckKind, run_check};
 use mls_wire::{CodecFault, MemorySink, MemorySource};
 use std::alloc::Global;
@@ -46,17 +45,41 @@ pub(crate) enum Report {
 /// How a report ends, and what is written then.
 type Ended = (Result<Verdict, RunFault>, MemorySink);
 
+/// Returns a start from the GroupInfo of the group of member 0 alone, in the members' profile.
+fn info_start(alloc: Global) -> Result<StartBytes, Stop> {
+    Ok(StartBytes::Info {
+        profile: Profile::Members,
+        info: have(hex::decode(alloc, GROUP_INFO))?,
+        tree: None,
+    })
+}
+
+/// Returns a start from the state with a pending proposal.
+fn state_start(alloc: Global) -> Result<StartBytes, Stop> {
+    Ok(StartBytes::State(have(hex::decode(alloc, STATE))?))
+}
+
+/// Returns the verdict of a replay, or its fault.
+fn verdict_of(replayed: Result<Replayed<Trusting>, RunFault>) -> Result<Verdict, RunFault> {
+    match replayed {
+        Ok(replayed) => {
+            let verdict = replayed.verdict;
+            drop(replayed);
+            Ok(verdict)
+        }
+        Err(fault) => Err(fault),
+    }
+}
+
 /// Returns how `replay` ends.
 fn replay_ended(alloc: Global) -> Result<Ended, Stop> {
     let Ok(mut out) = MemorySink::new(alloc, 1000, 40, None) else {
         return Err(Stop::Memory);
     };
-    let info = have(hex::decode(alloc, GROUP_INFO))?;
     let log = have(hex::decode(alloc, LOG))?;
-    let mut info = MemorySource::new(info.as_slice(), 40, None);
-    let mut tree: Option<MemorySource> = None;
+    let start = info_start(alloc)?;
     let mut log = MemorySource::new(log.as_slice(), 40, None);
-    let outcome = run_replay(alloc, &mut info, &mut tree, &mut log, Trusting, &mut out);
+    let outcome = verdict_of(replay(alloc, start, &mut log, Trusting, &mut out));
     Ok((outcome, out))
 }
 
@@ -75,10 +98,8 @@ fn validate_ended(alloc: Global) -> Result<Ended, Stop> {
     let Ok(mut out) = MemorySink::new(alloc, 1000, 40, None) else {
         return Err(Stop::Memory);
     };
-    let info = have(hex::decode(alloc, GROUP_INFO))?;
-    let mut info = MemorySource::new(info.as_slice(), 40, None);
-    let mut tree: Option<MemorySource> = None;
-    let outcome = run_validate(alloc, &mut info, &mut tree, Trusting, &mut out);
+    let start = info_start(alloc)?;
+    let outcome = validate(alloc, start, Trusting, &mut out);
     Ok((outcome, out))
 }
 
@@ -89,9 +110,7 @@ fn validate_tree_ended(alloc: Global) -> Result<Ended, Stop> {
     };
     let context = have(hex::decode(alloc, TREE_CONTEXT))?;
     let tree = have(hex::decode(alloc, TREE))?;
-    let mut context = MemorySource::new(context.as_slice(), 40, None);
-    let mut tree = MemorySource::new(tree.as_slice(), 40, None);
-    let outcome = run_validate_tree(alloc, &mut context, &mut tree, &Trusting, &mut out);
+    let outcome = validate_tree(alloc, context.as_slice(), tree, &Trusting, &mut out);
     Ok((outcome, out))
 }
 
@@ -101,12 +120,10 @@ fn signatures_ended(alloc: Global) -> Result<Ended, Stop> {
         return Err(Stop::Memory);
     };
     let receipts = Receipts::new(alloc);
-    let info = have(hex::decode(alloc, GROUP_INFO))?;
     let log = have(hex::decode(alloc, LOG))?;
-    let mut info = MemorySource::new(info.as_slice(), 40, None);
-    let mut tree: Option<MemorySource> = None;
+    let start = info_start(alloc)?;
     let mut log = Some(MemorySource::new(log.as_slice(), 40, None));
-    let outcome = run_signatures(alloc, &mut info, &mut tree, &mut log, &receipts, &mut out);
+    let outcome = signatures(alloc, start, &mut log, &receipts, &mut out);
     Ok((outcome, out))
 }
 
@@ -129,11 +146,10 @@ fn signatures_state_ended(alloc: Global) -> Result<Ended, Stop> {
         return Err(Stop::Memory);
     };
     let receipts = Receipts::new(alloc);
-    let state = have(hex::decode(alloc, STATE))?;
     let log = commit_log(alloc)?;
-    let mut state = MemorySource::new(state.as_slice(), 40, None);
+    let start = state_start(alloc)?;
     let mut log = Some(MemorySource::new(log.as_slice(), 40, None));
-    let outcome = run_signatures_state(alloc, &mut state, &mut log, &receipts, &mut out);
+    let outcome = signatures(alloc, start, &mut log, &receipts, &mut out);
     Ok((outcome, out))
 }
 
@@ -142,13 +158,11 @@ fn gate_ended(alloc: Global) -> Result<Ended, Stop> {
     let Ok(mut out) = MemorySink::new(alloc, 3000, 40, None) else {
         return Err(Stop::Memory);
     };
-    let info = have(hex::decode(alloc, GROUP_INFO))?;
     let records = have(hex::decode(alloc, GATE_RECORDS))?;
-    let mut info = MemorySource::new(info.as_slice(), 40, None);
-    let mut tree: Option<MemorySource> = None;
+    let start = info_start(alloc)?;
     let mut records = MemorySource::new(records.as_slice(), 40, None);
     let known = Receipts::new(alloc);
-    let outcome = run_gate(alloc, &mut info, &mut tree, &mut records, known, &mut out);
+    let outcome = gate(alloc, start, &mut records, known, &mut out);
     Ok((outcome, out))
 }
 
@@ -157,12 +171,11 @@ fn gate_state_ended(alloc: Global) -> Result<Ended, Stop> {
     let Ok(mut out) = MemorySink::new(alloc, 3000, 40, None) else {
         return Err(Stop::Memory);
     };
-    let state = have(hex::decode(alloc, STATE))?;
     let records = have(hex::decode(alloc, STATE_RECORDS))?;
-    let mut state = MemorySource::new(state.as_slice(), 40, None);
+    let start = state_start(alloc)?;
     let mut records = MemorySource::new(records.as_slice(), 40, None);
     let known = Receipts::new(alloc);
-    let outcome = run_gate_state(alloc, &mut state, &mut records, known, &mut out);
+    let outcome = gate(alloc, start, &mut records, known, &mut out);
     Ok((outcome, out))
 }
 
@@ -171,9 +184,8 @@ fn validate_state_ended(alloc: Global) -> Result<Ended, Stop> {
     let Ok(mut out) = MemorySink::new(alloc, 1000, 40, None) else {
         return Err(Stop::Memory);
     };
-    let state = have(hex::decode(alloc, STATE))?;
-    let mut state = MemorySource::new(state.as_slice(), 40, None);
-    let outcome = run_validate_state(alloc, &mut state, Trusting, &mut out);
+    let start = state_start(alloc)?;
+    let outcome = validate(alloc, start, Trusting, &mut out);
     Ok((outcome, out))
 }
 
@@ -198,12 +210,11 @@ fn replay_state_ended(alloc: Global) -> Result<Ended, Stop> {
     let Ok(mut out) = MemorySink::new(alloc, 1000, 40, None) else {
         return Err(Stop::Memory);
     };
-    let state = have(hex::decode(alloc, STATE))?;
     let needed = have(hex::decode(alloc, NEXT_STATE))?;
     let log = commit_log(alloc)?;
-    let mut state = MemorySource::new(state.as_slice(), 40, None);
+    let start = state_start(alloc)?;
     let mut log = MemorySource::new(log.as_slice(), 40, None);
-    let outcome = match replay_state(alloc, &mut state, &mut log, Trusting, &mut out) {
+    let outcome = match replay(alloc, start, &mut log, Trusting, &mut out) {
         Ok(replayed) => {
             let ended = stored_ended(replayed.verdict, &replayed.follower, needed.as_slice());
             drop(replayed);

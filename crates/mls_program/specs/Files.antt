@@ -1,5 +1,5 @@
 -- Files that are opened by name and read, or stored. Used by contracts.
-use Rattle.std.specs.Prelude.{ℕ, List, [], Bool, true, Option, Some, None, Err, ◌≡◌, ◌≢◌, ◌↔◌, ◌⊎◌}
+use Rattle.std.specs.Prelude.{ℕ, List, [], Bool, true, false, Option, Some, None, Err, ◌≡◌, ◌≢◌, ◌↔◌, ◌⊎◌}
 use Rattle.std.specs.Io.KnownBytes.{Appends}
 use Rattle.mls_program.specs.ReportResult.{ReportResult}
 use Rattle.mls_show.specs.ReadAll.{ReadsAll, ReadsSome}
@@ -18,18 +18,29 @@ pub record Opener (File : Type 0) : Type 1 where
   pub left : File → Option (List ℕ)
   pub is_failed : File → Bool
 
--- `opener` puts these six together.
-abbrev pub opener : {File : Type 0} → (List ℕ → File → Type 0) → (List ℕ → Type 0) → (List ℕ → List ℕ → Type 0)
-    → (List ℕ → List ℕ → Type 0) → (File → Option (List ℕ)) → (File → Bool) → Opener File
-opener gives lacks stores refuses left is_failed =
-    record { gives = gives; lacks = lacks; stores = stores; refuses = refuses; left = left; is_failed = is_failed }
+-- `unknown left is_failed` is an opener of which nothing is known, except what is left in an open file and whether it has
+-- failed.
+abbrev pub unknown : {File : Type 0} → (File → Option (List ℕ)) → (File → Bool) → Opener File
+unknown left is_failed =
+    record {
+      gives = λ name file. Unit {0};
+      lacks = λ name. Unit {0};
+      stores = λ name bytes. Unit {0};
+      refuses = λ name bytes. Unit {0};
+      left = left;
+      is_failed = is_failed;
+    }
+
+-- `EndsUnread Lost written0 written1 outcome`: a file cannot be read, which is a fault of which `Lost` holds. Nothing is
+-- written.
+pub record EndsUnread (Lost : RunFault → Type 0) (written0 written1 : Option (List ℕ)) (outcome : ReportResult)
+    : Type 0 where
+  pub fault : RunFault
+  pub lost : Lost fault
+  pub outcome_is : outcome ≡ Err fault
+  pub wrote : Appends written0 written1 []
 
 module _ {File : Type 0} (F : Opener File) where
-  -- `Opens name`: a file with this name was opened.
-  pub record Opens (name : List ℕ) : Type 0 where
-    pub opened : File
-    pub given : F.gives name opened
-
   -- `CannotOpen name ..`: a file with this name cannot be opened, which is a fault of reading. Nothing is written.
   pub record CannotOpen (name : List ℕ) (written0 written1 : Option (List ℕ))
       (outcome : ReportResult) : Type 0 where
@@ -43,11 +54,6 @@ module _ {File : Type 0} (F : Opener File) where
   IsOpened None (Some opened) = ⊥
   IsOpened (Some name) None = ⊥
   IsOpened (Some name) (Some opened) = F.gives name opened
-
-  -- `OpensNamed name`: the file with an optional name was opened, if there is a name.
-  pub record OpensNamed (name : Option (List ℕ)) : Type 0 where
-    pub opened : Option File
-    pub given : IsOpened name opened
 
   -- `NamedFileIsMissing name`: there is a name, and the file may be one that cannot be opened.
   abbrev pub NamedFileIsMissing : Option (List ℕ) → Type 0
@@ -68,6 +74,7 @@ module _ {File : Type 0} (F : Opener File) where
     pub ended : File
     pub given : F.gives name opened
     pub read : ReadsAll (F.left opened) (F.left ended) bytes
+    pub not_failed : F.is_failed ended ≡ false
 
   -- `FailsFile name fault`: a file with this name was opened, and could not be read to its end. It failed, or memory
   -- ran out.
@@ -82,3 +89,14 @@ module _ {File : Type 0} (F : Opener File) where
   -- `CannotReadFile name fault`: a file with this name cannot be opened, or cannot be read to its end.
   abbrev pub CannotReadFile : List ℕ → RunFault → Type 0
   CannotReadFile name fault = (F.lacks name × (fault ≡ Read)) ⊎ FailsFile name fault
+
+  -- `ReadsNamed name bytes`: the file with an optional name was read to its end, if there is a name.
+  abbrev pub ReadsNamed : Option (List ℕ) → Option (List ℕ) → Type 0
+  ReadsNamed None None = Unit {0}
+  ReadsNamed (Some name) (Some bytes) = ReadsFile name bytes
+  ReadsNamed _ _ = ⊥
+
+  -- `CannotReadNamed name fault`: there is a name, and the file cannot be opened or read.
+  abbrev pub CannotReadNamed : Option (List ℕ) → RunFault → Type 0
+  CannotReadNamed None fault = ⊥
+  CannotReadNamed (Some name) fault = CannotReadFile name fault

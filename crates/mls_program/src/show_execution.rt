@@ -1,7 +1,6 @@
 //! Executing the command `show`: the file that it names is opened, and its report is made of it.
 
 ghost use Rattle.std.specs.Prelude.{◌≡◌, ◌↔◌, false, true, Err};
-ghost use Rattle.mls_program.specs.Files.{opener};
 ghost use Rattle.mls_program.specs.ShowExecution.{ExecutesShow};
 
 use crate::files::Files;
@@ -26,9 +25,7 @@ pub fn execute_show<F: Files, K: Sink>(
     out: &mut K,
 ) -> Result<Verdict, RunFault>
     requires { K.is_failed out.old ≡ false }
-    ensures executed { ExecutesShow
-        (opener (F.gives files.now) (F.lacks files.now) (F.stores files.now) (F.refuses files.now)
-        F.File.left F.File.is_failed)
+    ensures executed { ExecutesShow (F.opener files.now)
         profile kind file.now (K.written out.old) (K.written out.new) result }
     ensures write { (result ≡ Err RunFault.Write) ↔ (K.is_failed out.new ≡ true) }
 {

@@ -1,7 +1,6 @@
 //! The program that has the command `show` alone, except what opens real files and ends the process.
 
 ghost use Rattle.std.specs.Prelude.{◌≡◌, false, map, string_bytes};
-ghost use Rattle.mls_program.specs.Files.{opener};
 ghost use Rattle.mls_program.specs.ShowProgram.{EndsShowOrder, RunsShowProgram};
 
 use crate::endings::{end, note, run_fault};
@@ -24,9 +23,7 @@ fn run_show_order<F: Files, K: Sink, N: Sink>(
 ) -> u8
     requires out { K.is_failed out.old ≡ false }
     requires notes { N.is_failed notes.old ≡ false }
-    ensures { EndsShowOrder
-        (opener (F.gives files.now) (F.lacks files.now) (F.stores files.now) (F.refuses files.now)
-        F.File.left F.File.is_failed)
+    ensures { EndsShowOrder (F.opener files.now)
         (K.written out.old) (K.written out.new) (K.is_failed out.new)
         (N.written notes.old) (N.written notes.new) (N.is_failed notes.new) result order.now }
 {
@@ -62,9 +59,7 @@ pub fn run_show_program<F: Files, K: Sink, N: Sink>(
 ) -> u8
     requires out { K.is_failed out.old ≡ false }
     requires notes { N.is_failed notes.old ≡ false }
-    ensures { RunsShowProgram
-        (opener (F.gives files.now) (F.lacks files.now) (F.stores files.now) (F.refuses files.now)
-        F.File.left F.File.is_failed)
+    ensures { RunsShowProgram (F.opener files.now)
         (K.written out.old) (K.written out.new) (K.is_failed out.new)
         (N.written notes.old) (N.written notes.new) (N.is_failed notes.new) result
         (map string_bytes words.now) }

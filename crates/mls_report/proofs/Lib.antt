@@ -1,17 +1,15 @@
-pub mod Hashes
 pub mod HexPieces
 pub mod Replaying
 pub mod Answered
-pub mod StartLists
 pub mod StartLines
-pub mod InOrder
-pub mod FindingsOnce
 pub mod InputsOnce
-pub mod StatesOnce
+pub mod ReplaysOnce
 pub mod SignaturesOnce
-pub mod StartsOnce
 pub mod TurnsOnce
-pub mod StartsExist
-pub mod FindingsExist
 pub mod LogsExist
 pub mod ReplaysExist
+pub mod SignaturesExist
+pub mod SignatureLogs
+mod ValidEpochs
+mod CoveredReports
+mod SavedStates

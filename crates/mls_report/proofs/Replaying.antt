@@ -1,7 +1,7 @@
 -- A replay, message by message.
-use Rattle.std.proofs.Common.{◌≡◌, ◌≢◌, ℕ, ◌+◌, ◌<◌, ◌≤◌, List, [], ◌∷◌, ◌++◌, length, map, Ok, Err, Result, Bool, true, false, refl, sym, ap, ◌∙◌, subst, append_assoc, append-nil, length-append, arith, inl, inr, is_ok}
-use Rattle.std.specs.Prelude.{Option, Some, None, IfErr, OnErr}
-use Rattle.std.specs.Io.KnownBytes.{Appends, Consumes, IsAtEnd}
+use Rattle.std.proofs.Common.{◌≡◌, ◌≢◌, ℕ, ◌+◌, ◌<◌, List, [], ◌∷◌, ◌++◌, length, map, Ok, Err, Result, Bool, true, refl, sym, ap, ◌∙◌, subst, append_assoc, append-nil, length-append, arith, inl, inr, is_ok}
+use Rattle.std.specs.Prelude.{Option, Some, None, IfErr, OnErr, if◌then◌else◌}
+use Rattle.std.specs.Io.KnownBytes.{Appends, Consumes}
 use Rattle.mls_wire.specs.Devices.{AppendsPrefix}
 use Rattle.mls_wire.proofs.KnownBytes.{Appends-trans, Consumes-trans}
 use Rattle.mls_wire.specs.Logs.{IsRecord, IsBrokenAt, IsIncomplete}
@@ -11,14 +11,13 @@ use Rattle.mls_follow.specs.State.{State}
 use Rattle.mls_show.specs.declared.verdict.RunFault.{RunFault}
 use Rattle.mls_show.specs.declared.verdict.RunFault.TheVariants.{Read, Write, Memory}
 use Rattle.mls_show.specs.declared.verdict.Verdict.{Verdict}
-use Rattle.mls_show.specs.declared.verdict.Verdict.TheVariants.{No}
-use Rattle.mls_report.specs.Replay.{ProcessedMessage, AreProcessed, state_after, processed_line, processed_lines, one_if, accepted_count, refused_count, message_limit, messages_to_come, AreRecords, Follows, ReportsPart, IsVerdict, last_lines, ending, ReplaysFrom, ReplaysTo, ReplaysPartFrom}
-use Rattle.mls_report.specs.ReplaySteps.{ReadsUndecided, ReportsMessage, StopsAtMessage, FollowsLog, ReplaysLog, ReturnsAfter, WritesDecline, WritesDeclinePart}
-use Rattle.mls_report.specs.Finding.{finding_verdict}
-use Rattle.mls_report.specs.StartSteps.{Says}
-use Rattle.mls_report.specs.declared.finding.Finding.{Finding}
-use Rattle.mls_report.specs.declared.read_inputs.StartFailure.{StartFailure}
-use Rattle.mls_report.specs.declared.read_inputs.StartFailure.TheVariants.{Found, Fault}
+use Rattle.mls_show.specs.declared.verdict.Verdict.TheVariants.{Yes, No}
+use Rattle.mls_start.specs.Inputs.{Inputs}
+use Rattle.mls_start.specs.StartFindings.{IsFirstState, Declines}
+use Rattle.mls_start.specs.declared.finding.Finding.{Finding}
+use Rattle.mls_report.specs.Replay.{ProcessedMessage, AreProcessed, state_after, processed_line, processed_lines, one_if, accepted_count, refused_count, message_limit, messages_to_come, AreRecords, Follows, ReportsPart, IsVerdict, last_lines, ending, ReportsDecline, ReportsReplay, StopsInDecline}
+use Rattle.mls_report.specs.ReplaySteps.{ReadsUndecided, ReportsMessage, StopsAtMessage, FollowsLog, ReplaysLog}
+use Rattle.mls_report.specs.Finding.{finding_line, finding_verdict}
 
 -- ---- one turn more
 
@@ -156,20 +155,6 @@ part-turn G s l0 l1 l2 w0 w1 w2 ts now n body read Memory f count below r taken 
   wrote = subst (Appends w0 w2) (append-nil (processed_lines 1 ts)) (Appends-trans w0 w1 w2 _ _ f.wrote stops);
 }
 
-pub followed-end : (G : VerifyFn) (s : State) (l0 l1 l2 w0 w1 : Option (List ℕ)) (ts : List ProcessedMessage) (now : State) (a r : ℕ)
-    → SoFar G s l0 l1 w0 w1 ts now → a ≡ accepted_count ts → a + r ≡ length ts → Consumes l1 l2 [] → IsAtEnd l2
-    → FollowsLog G s l0 l2 w0 w1 now a r false
-followed-end G s l0 l1 l2 w0 w1 ts now a r f taken counted read end = record {
-  turns = ts;
-  rest = [];
-  follows = follows-read G s l0 l1 l2 ts [] f.follows read;
-  log_end = (refl, end);
-  wrote = f.wrote;
-  state = f.state;
-  taken = taken;
-  counted = counted;
-}
-
 pub followed-broken : (G : VerifyFn) (s : State) (l0 l1 l2 w0 w1 : Option (List ℕ)) (ts : List ProcessedMessage) (now : State) (a r most : ℕ) (read : List ℕ)
     → SoFar G s l0 l1 w0 w1 ts now → a ≡ accepted_count ts → a + r ≡ length ts → most + length ts ≡ message_limit → Consumes l1 l2 read
     → IsBrokenAt most read l2 → FollowsLog G s l0 l2 w0 w1 now a r true
@@ -193,13 +178,6 @@ ending-is s now ts a r broken state taken counted =
     ap (λ k. last_lines broken k r now.context.epoch) taken
     ∙ ap (λ k. last_lines broken (accepted_count ts) k now.context.epoch) refused
     ∙ ap (λ (st : State). last_lines broken (accepted_count ts) (refused_count ts) st.context.epoch) state
-
-pub counts-bounded : (G : VerifyFn) (s : State) (l0 l1 w0 w1 : Option (List ℕ)) (now : State) (a r : ℕ) (broken : Bool)
-    → FollowsLog G s l0 l1 w0 w1 now a r broken → a + r ≤ message_limit
-counts-bounded G s l0 l1 w0 w1 now a r broken f =
-    let bound = f.follows.bounded in
-    let all = f.counted in
-    omega arith
 
 pub printed-log : (G : VerifyFn) (s : State) (l0 l1 w0 w1 w2 : Option (List ℕ)) (now : State) (a r : ℕ) (broken : Bool) (verdict : Verdict)
     → FollowsLog G s l0 l1 w0 w1 now a r broken → Appends w1 w2 (last_lines broken a r now.context.epoch) → IsVerdict broken r verdict
@@ -234,16 +212,6 @@ part-ending G s l0 l1 w0 w1 w2 now a r broken f p = inr (record {
   wrote = Appends-trans w0 w1 w2 _ _ f.wrote p.3;
 })
 
-pub part-followed : (G : VerifyFn) (s : State) (l0 l1 w0 w1 : Option (List ℕ)) (now : State) (a r : ℕ) (broken : Bool)
-    → FollowsLog G s l0 l1 w0 w1 now a r broken → ReportsPart G s l0 l1 w0 w1 Memory
-part-followed G s l0 l1 w0 w1 now a r broken f = record {
-  turns = f.turns;
-  rest = f.rest;
-  follows = f.follows;
-  left_over = inr (inr (broken, f.log_end));
-  wrote = f.wrote;
-}
-
 -- ---- one line
 
 -- what holds where one line was not written whole
@@ -255,55 +223,23 @@ line-part (Err Read) P part of_part memory of_memory own = absurd (own refl)
 line-part (Err Write) P part of_part memory of_memory own = of_part part
 line-part (Err Memory) P part of_part memory of_memory own = of_memory (memory refl)
 
--- ---- a follower has started, or none has
+-- ---- a follower has started or resumed, or none has
 
-pub says-map : (P Q : Finding → Type 0) → ((f : Finding) → P f → Q f) → (failure : StartFailure) → Says P failure → Says Q failure
-says-map P Q f (Found finding) h = f finding h
-says-map P Q f (Fault e) h = h
+pub replays-to : (G : VerifyFn) (i : Inputs) (K : VerifyFn) → K ≡ G → (s : State) → IsFirstState G i s → (l0 l1 w0 w1 : Option (List ℕ)) (verdict : Verdict) (last : State)
+    → ReplaysLog K s l0 l1 w0 w1 verdict last → ReportsReplay G i l0 l1 w0 w1 verdict last
+replays-to G i K same s starts l0 l1 w0 w1 verdict last h =
+    let moved : ReplaysLog G s l0 l1 w0 w1 verdict last = subst (λ (g : VerifyFn). ReplaysLog g s l0 l1 w0 w1 verdict last) same h in
+    record { state = s; starts = starts; reports = moved.0; last_is = moved.1 }
 
-pub says-own : (P : Finding → Type 0) (failure : StartFailure) → Says P failure → Says (λ f. Unit {0}) failure
-says-own P failure h = says-map P (λ f. Unit {0}) (λ f p. tt) failure h
-
-module _ (K G : VerifyFn) (same : K ≡ G) (Starts : State → Type 0) (Declines : Finding → Type 0) (s : State) (starts : Starts s) (l0 l1 w0 w1 : Option (List ℕ)) where
-  pub replays-to : (verdict : Verdict) (last : Option State) → ReturnsAfter K s l0 l1 w0 w1 verdict last → ReplaysTo G Starts Declines l0 l1 w0 w1 verdict last
-  replays-to verdict None h = absurd h
-  replays-to verdict (Some last) h =
-      let moved : ReplaysLog G s l0 l1 w0 w1 verdict last = subst (λ (g : VerifyFn). ReplaysLog g s l0 l1 w0 w1 verdict last) same h in
-      (record { state = s; starts = starts; reports = moved.0 }, moved.1)
-
-  pub replays-after : (fault : RunFault) → ReportsPart K s l0 l1 w0 w1 fault → ReplaysPartFrom G Starts Declines l0 l1 w0 w1 fault
-  replays-after fault h = inr (record { state = s; starts = starts; reports = subst (λ (g : VerifyFn). ReportsPart g s l0 l1 w0 w1 fault) same h })
-
-module _ (G : VerifyFn) (Starts : State → Type 0) (Declines : Finding → Type 0) (no : (f : Finding) → Declines f → finding_verdict f ≡ No)
-    (failure : StartFailure) (declines : Says Declines failure) (l w0 w1 : Option (List ℕ)) where
-  declined : (finding : Finding) → failure ≡ Found finding → Declines finding
-  declined finding e = subst (Says Declines) e declines
-
-  pub replays-none : (verdict : Verdict) (last : Option State) → last ≡ None → WritesDecline failure w0 w1 verdict → ReplaysTo G Starts Declines l l w0 w1 verdict last
-  replays-none verdict (Some last) e p = absurd cc
-  replays-none verdict None e p = record {
-    finding = p.finding;
-    declines = declined p.finding p.failure_is;
+module _ {L : Type 0} (G : VerifyFn) (i : Inputs) (finding : Finding) (declines : Declines G i finding) (l : L) (w0 w1 : Option (List ℕ)) where
+  pub reports-decline : (verdict : Verdict) → Appends w0 w1 (finding_line finding) × (verdict ≡ finding_verdict finding) → ReportsDecline G i l l w0 w1 verdict
+  reports-decline verdict printed = record {
+    finding = finding;
+    declines = declines;
     unread = refl;
-    wrote = p.wrote;
-    verdict_is = p.verdict_is ∙ no p.finding (declined p.finding p.failure_is);
+    wrote = printed.0;
+    verdict_is = printed.1 ∙ ap (λ (b : Bool). if b then Yes else No) declines.not_valid;
   }
 
-  pub replays-before : (fault : RunFault) → WritesDeclinePart failure w0 w1 fault → ReplaysPartFrom G Starts Declines l l w0 w1 fault
-  replays-before Read p = absurd p
-  replays-before Write p =
-      inl (record { finding = p.finding; declines = declined p.finding p.failure_is; unread = refl; wrote = p.wrote })
-  replays-before Memory p = inl (record { unread = refl; wrote = p })
-
--- nothing was read of the log, and nothing was written
-pub replays-unread : (G : VerifyFn) (Starts : State → Type 0) (Declines : Finding → Type 0) (l w : Option (List ℕ)) (fault : RunFault) → fault ≢ Write
-    → ReplaysPartFrom G Starts Declines l l w w fault
-replays-unread G Starts Declines l w Read own = inl (record { unread = refl; wrote = Appends-nil w })
-replays-unread G Starts Declines l w Write own = absurd (own refl)
-replays-unread G Starts Declines l w Memory own = inl (record { unread = refl; wrote = Appends-nil w })
-
--- without the state after it
-pub replays-from : (G : VerifyFn) (Starts : State → Type 0) (Declines : Finding → Type 0) (l0 l1 w0 w1 : Option (List ℕ)) (verdict : Verdict) (last : Option State)
-    → ReplaysTo G Starts Declines l0 l1 w0 w1 verdict last → ReplaysFrom G Starts Declines l0 l1 w0 w1 verdict
-replays-from G Starts Declines l0 l1 w0 w1 verdict None h = inl h
-replays-from G Starts Declines l0 l1 w0 w1 verdict (Some last) h = inr h.0
+  pub in-decline : AppendsPrefix w0 w1 (finding_line finding) → StopsInDecline G i l l w0 w1
+  in-decline wrote = record { finding = finding; declines = declines; unread = refl; wrote = wrote }

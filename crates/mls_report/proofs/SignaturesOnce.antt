@@ -3,25 +3,19 @@ use Rattle.std.proofs.Common.{◌≡◌, ◌∙◌, ℕ, List, [], ◌∷◌, �
 use Rattle.std.specs.Prelude.{option_map}
 use Rattle.std.specs.Io.KnownBytes.{Appends}
 use Rattle.mls_check.specs.Signatures.{VerifyFn}
-use Rattle.mls_msgs.specs.declared.profile.Profile.{Profile}
 use Rattle.mls_follow.proofs.Answering.{one_message}
 use Rattle.mls_follow.specs.CoveredLogs.{all_good}
 use Rattle.mls_follow.specs.MessageSignatures.{message_signatures_in_state}
 use Rattle.mls_follow.specs.State.{State}
-use Rattle.mls_signatures.specs.SignaturesToVerify.{start_signatures}
 use Rattle.mls_signatures.specs.declared.signature_to_verify.SignatureToVerify.{SignatureToVerify}
-use Rattle.mls_report.proofs.FindingsOnce.{one_info}
-use Rattle.mls_report.proofs.InputsOnce.{written_is, one_input, one_decline, decline_or_start, one_opening}
-use Rattle.mls_report.proofs.StatesOnce.{one_state_decline, decline_or_resume, one_resuming}
+use Rattle.mls_start.proofs.FirstStates.{first_or_declines, one_first, one_list, starts_first}
+use Rattle.mls_start.specs.Inputs.{Inputs}
+use Rattle.mls_report.proofs.InputsOnce.{written_is}
+use Rattle.mls_report.proofs.ReplaysOnce.{both_decline}
 use Rattle.mls_report.proofs.TurnsOnce.{one_log}
-use Rattle.mls_report.specs.Finding.{finding_line}
 use Rattle.mls_report.specs.Replay.{ProcessedMessage}
-use Rattle.mls_report.specs.SignaturesReport.{HasSignatures, LoggedMessage, HaveSignatures, turns_of, log_lines, break_line, log_verdict, all_read, needed_lines, ReportsSignatureLog, ReportsLogIf, ReadsStartSignatures, ReadsStateSignatures, DeclinesSignatures, ReportsSignatures, SignaturesFrom}
-use Rattle.mls_report.specs.SignaturesSteps.{signatures_of_state}
-use Rattle.mls_report.specs.StartInputs.{IsInfo, ReadsAndStarts, ReadsAndDeclines}
-use Rattle.mls_report.specs.StateInputs.{ReadsAndDeclinesState}
-use Rattle.mls_report.specs.UniqueReports.{AreAlike, AreAlikeTexts, EndsLog, MessageSignaturesAreUnique, SignaturesAreUnique, StateSignaturesAreUnique}
-use Rattle.mls_report.specs.declared.finding.Finding.{Finding}
+use Rattle.mls_report.specs.SignaturesReport.{HasSignatures, LoggedMessage, HaveSignatures, turns_of, log_lines, break_line, log_verdict, all_read, needed_lines, ReportsSignatureLog, ReportsLogIf, ReportsSignatures, Signatures}
+use Rattle.mls_report.specs.UniqueReports.{AreAlikeTexts, EndsLog, MessageSignaturesAreUnique, SignaturesAreUnique}
 use Rattle.mls_show.specs.declared.verdict.Verdict.{Verdict}
 
 -- ---- the signatures of messages
@@ -85,110 +79,31 @@ written_both before (Some mid) text line more a b = written_is before text (line
 
 -- ---- the report
 
--- two pairs of relations under which a follower starts in one state with the same signatures, or none does for findings
--- that are alike
-module _ (R : VerifyFn) (log_bytes : Option (List ℕ)) (Starts More : State → List SignatureToVerify → Type 0) (Declines Others : Finding → Type 0)
-    (alike : (f g : Finding) → Declines f → Others g → AreAlike f g)
-    (apart : (f : Finding) (s : State) (ws : List SignatureToVerify) → Declines f → More s ws → ⊥)
-    (apart_too : (f : Finding) (s : State) (ws : List SignatureToVerify) → Others f → Starts s ws → ⊥)
-    (one_start : (s t : State) (ws vs : List SignatureToVerify) → Starts s ws → More t vs → (s ≡ t) × (ws ≡ vs)) where
+module _ (R : VerifyFn) (i : Inputs) (log_bytes : Option (List ℕ)) (l m : Option (Option (List ℕ))) (before after text other : List ℕ) (v o : Verdict) where
   abbrev Log : Option (Option (List ℕ))
   Log = option_map Some log_bytes
 
-  module _ (l m : Option (Option (List ℕ))) (before after text other : List ℕ) (v o : Verdict) where
-    -- no follower starts, twice
-    both_decline : DeclinesSignatures Declines Log l (Some before) (Some (before ++ text)) v
-        → DeclinesSignatures Others Log m (Some after) (Some (after ++ other)) o → AreAlikeTexts text other × (v ≡ o)
-    both_decline a b =
-        (inr (a.finding, b.finding, alike a.finding b.finding a.declines b.declines, written_is before text (finding_line a.finding) a.wrote, written_is after other (finding_line b.finding) b.wrote), a.verdict_is ∙ sym b.verdict_is)
+  -- a follower starts, twice
+  both_report : ReportsSignatures R i Log l (Some before) (Some (before ++ text)) v
+      → ReportsSignatures R i Log m (Some after) (Some (after ++ other)) o → AreAlikeTexts text other × (v ≡ o)
+  both_report a b =
+      let state = one_first all_good i a.state b.state (starts_first i a.state a.needed a.starts) (starts_first i b.state b.needed b.starts) in
+      let list = one_list i a.state b.state a.needed b.needed a.starts b.starts in
+      let moved = subst (λ (s : State). ReportsLogIf R s Log l a.between (Some (before ++ text)) v) state a.reports in
+      let tail = one_behind R b.state log_bytes l m a.between (Some (before ++ text)) b.between (Some (after ++ other)) v o moved b.reports in (
+        inl (written_both before a.between text (needed_lines R a.needed) tail.0 a.wrote tail.1
+            ∙ ap (λ (ws : List SignatureToVerify). needed_lines R ws ++ tail.0) list
+            ∙ sym (written_both after b.between other (needed_lines R b.needed) tail.0 b.wrote tail.2)),
+        tail.3,
+      )
 
-    -- a follower starts, twice
-    both_report : ReportsSignatures R Starts Log l (Some before) (Some (before ++ text)) v
-        → ReportsSignatures R More Log m (Some after) (Some (after ++ other)) o → AreAlikeTexts text other × (v ≡ o)
-    both_report a b =
-        let same = one_start a.state b.state a.needed b.needed a.opens b.opens in
-        let moved = subst (λ (s : State). ReportsLogIf R s Log l a.between (Some (before ++ text)) v) same.0 a.reports in
-        let tail = one_behind R b.state log_bytes l m a.between (Some (before ++ text)) b.between (Some (after ++ other)) v o moved b.reports in (
-          inl (written_both before a.between text (needed_lines R a.needed) tail.0 a.wrote tail.1
-              ∙ ap (λ (ws : List SignatureToVerify). needed_lines R ws ++ tail.0) same.1
-              ∙ sym (written_both after b.between other (needed_lines R b.needed) tail.0 b.wrote tail.2)),
-          tail.3,
-        )
+  either : Signatures R i Log l (Some before) (Some (before ++ text)) v → Signatures R i Log m (Some after) (Some (after ++ other)) o
+      → AreAlikeTexts text other × (v ≡ o)
+  either (inl a) (inl b) = both_decline all_good i Log l Log m before after text other v o a b
+  either (inl a) (inr b) = absurd (first_or_declines all_good i a.finding b.state a.declines (starts_first i b.state b.needed b.starts))
+  either (inr a) (inl b) = absurd (first_or_declines all_good i b.finding a.state b.declines (starts_first i a.state a.needed a.starts))
+  either (inr a) (inr b) = both_report a b
 
-    pub either : SignaturesFrom R Starts Declines Log l (Some before) (Some (before ++ text)) v
-        → SignaturesFrom R More Others Log m (Some after) (Some (after ++ other)) o → AreAlikeTexts text other × (v ≡ o)
-    either (inl a) (inl b) = both_decline a b
-    either (inl a) (inr b) = absurd (apart a.finding b.state b.needed a.declines b.opens)
-    either (inr a) (inl b) = absurd (apart_too b.finding a.state a.needed b.declines a.opens)
-    either (inr a) (inr b) = both_report a b
-
--- ---- from a GroupInfo
-
-module _ (profile : Profile) (info_bytes : List ℕ) (tree_bytes : Option (List ℕ)) where
-  abbrev Tree : Option (Option (List ℕ))
-  Tree = option_map Some tree_bytes
-
-  -- a follower starts
-  opened : (i : Option (List ℕ)) (t : Option (Option (List ℕ))) (s : State) (needed : List SignatureToVerify) → ReadsStartSignatures profile (Some info_bytes) i Tree t s needed
-      → ReadsAndStarts profile all_good (Some info_bytes) i Tree t s
-  opened i t s needed a = record {
-    info_bytes = a.info_bytes;
-    tree_bytes = a.tree_bytes;
-    both_read = a.both_read;
-    started = record { info = a.info; supplied = a.supplied; is_read = a.is_read; start = a.starts.start };
-  }
-
-  module _ (i j : Option (List ℕ)) (t u : Option (Option (List ℕ))) where
-    same_info : (s z : State) (needed others : List SignatureToVerify) (a : ReadsStartSignatures profile (Some info_bytes) i Tree t s needed)
-        (b : ReadsStartSignatures profile (Some info_bytes) j Tree u z others) → a.info ≡ b.info
-    same_info s z needed others a b =
-        let bytes = one_input info_bytes i j a.info_bytes b.info_bytes a.both_read.info b.both_read.info in
-        one_info profile b.info_bytes a.info b.info (subst (λ (x : List ℕ). IsInfo profile x a.info) bytes a.is_read.is_info) b.is_read.is_info
-
-    -- from one GroupInfo, and so with the same signatures
-    pub one_start_list : (s z : State) (needed others : List SignatureToVerify) → ReadsStartSignatures profile (Some info_bytes) i Tree t s needed
-        → ReadsStartSignatures profile (Some info_bytes) j Tree u z others → (s ≡ z) × (needed ≡ others)
-    one_start_list s z needed others a b =
-        let state = one_opening profile all_good info_bytes tree_bytes i j t u s z (opened i t s needed a) (opened j u z others b) in
-        let info = same_info s z needed others a b in
-        (state, a.starts.needed_is ∙ (λ k. start_signatures (info k) (state k).tree) ∙ sym b.starts.needed_is)
-
-    pub decline_or_list : (f : Finding) (s : State) (needed : List SignatureToVerify) → ReadsAndDeclines profile all_good (Some info_bytes) i Tree t f
-        → ReadsStartSignatures profile (Some info_bytes) j Tree u s needed → ⊥
-    decline_or_list f s needed a b = decline_or_start profile all_good info_bytes tree_bytes i j t u f s a (opened j u s needed b)
-
-pub one_report : SignaturesAreUnique
-one_report profile R info_bytes tree_bytes log_bytes text other verdict more a b =
-    either R log_bytes (ReadsStartSignatures profile (Some info_bytes) a.info_left Trees a.tree_left) (ReadsStartSignatures profile (Some info_bytes) b.info_left Trees b.tree_left)
-    (ReadsAndDeclines profile all_good (Some info_bytes) a.info_left Trees a.tree_left) (ReadsAndDeclines profile all_good (Some info_bytes) b.info_left Trees b.tree_left)
-    (one_decline profile all_good info_bytes tree_bytes a.info_left b.info_left a.tree_left b.tree_left)
-    (decline_or_list profile info_bytes tree_bytes a.info_left b.info_left a.tree_left b.tree_left)
-    (decline_or_list profile info_bytes tree_bytes b.info_left a.info_left b.tree_left a.tree_left)
-    (one_start_list profile info_bytes tree_bytes a.info_left b.info_left a.tree_left b.tree_left)
-    a.log_left b.log_left a.before b.before text other verdict more a.signatures b.signatures
-  where
-    Trees : Option (Option (List ℕ))
-    Trees = option_map Some tree_bytes
-
--- ---- from the file of a state
-
-module _ (state_bytes : List ℕ) (i j : Option (List ℕ)) where
-  one_state_list : (s z : State) (needed others : List SignatureToVerify) → ReadsStateSignatures (Some state_bytes) i s needed
-      → ReadsStateSignatures (Some state_bytes) j z others → (s ≡ z) × (needed ≡ others)
-  one_state_list s z needed others a b =
-      let state = one_resuming all_good state_bytes i j s z a.resumes b.resumes in
-      (state, a.needed_is ∙ ap signatures_of_state state ∙ sym b.needed_is)
-
-  decline_or_state : (f : Finding) (s : State) (needed : List SignatureToVerify) → ReadsAndDeclinesState all_good (Some state_bytes) i f
-      → ReadsStateSignatures (Some state_bytes) j s needed → ⊥
-  decline_or_state f s needed a b = decline_or_resume all_good state_bytes i j f s a b.resumes
-
-pub one_state_report : StateSignaturesAreUnique
-one_state_report R state_bytes log_bytes text other verdict more a b =
-    either R log_bytes (ReadsStateSignatures (Some state_bytes) a.state_left) (ReadsStateSignatures (Some state_bytes) b.state_left)
-    (ReadsAndDeclinesState all_good (Some state_bytes) a.state_left) (ReadsAndDeclinesState all_good (Some state_bytes) b.state_left)
-    (one_state_decline all_good state_bytes a.state_left b.state_left)
-    (decline_or_state state_bytes a.state_left b.state_left)
-    (decline_or_state state_bytes b.state_left a.state_left)
-    (one_state_list state_bytes a.state_left b.state_left)
-    a.log_left b.log_left a.before b.before text other verdict more a.signatures b.signatures
+pub one_signatures : SignaturesAreUnique
+one_signatures R i log_bytes text other verdict more a b =
+    either R i log_bytes a.log_left b.log_left a.before b.before text other verdict more a.signatures b.signatures

@@ -1,20 +1,13 @@
 -- Lines that are written one signature after the other.
-use Rattle.std.proofs.Common.{◌≡◌, ◌∙◌, ℕ, ◌+◌, ◌<◌, ◌≤◌, List, [], ◌∷◌, ◌++◌, length, take, drop, Option, Result, Ok, Err, refl, sym, ap, subst, arith, append_assoc, add-one}
-use Rattle.std.specs.Prelude.{OnErr, IfErr, slice_get}
-use Rattle.std.specs.Option.{option_to_list}
-use Rattle.std.proofs.lemmas.List.{take-append-drop, take_all}
+use Rattle.std.proofs.Common.{◌≡◌, ◌∙◌, ℕ, List, [], ◌∷◌, ◌++◌, Option, Result, Ok, Err, refl, sym, ap, subst, append_assoc}
+use Rattle.std.specs.Prelude.{OnErr, IfErr}
 use Rattle.std.specs.Io.KnownBytes.{Appends}
 use Rattle.mls_wire.proofs.KnownBytes.{Appends-trans}
 use Rattle.mls_wire.specs.Devices.{AppendsPrefix}
-use Rattle.mls_tree.specs.Tree.{leaf_count}
 use Rattle.mls_check.specs.Signatures.{VerifyFn}
-use Rattle.mls_signatures.proofs.Fronts.{front-more}
-use Rattle.mls_signatures.proofs.LeafLists.{of_leaf_in, signatures_below, signatures_from, below-from, tree-joined}
 use Rattle.mls_signatures.specs.declared.signature_to_verify.SignatureToVerify.{SignatureToVerify}
-use Rattle.mls_follow.specs.MessageSignatures.{state_signatures}
-use Rattle.mls_follow.specs.State.{State}
 use Rattle.mls_report.specs.SignaturesReport.{line_unless, needed_lines}
-use Rattle.mls_report.specs.SignaturesSteps.{signatures_of_leaf, StopsInLines}
+use Rattle.mls_report.specs.SignaturesSteps.{StopsInLines}
 use Rattle.mls_show.specs.declared.verdict.RunFault.{RunFault}
 use Rattle.mls_show.specs.declared.verdict.RunFault.TheVariants.{Read, Write, Memory}
 
@@ -27,26 +20,12 @@ pub prefix-behind : (a b c : Option (List ℕ)) (front text : List ℕ) → Appe
 prefix-behind a b c front text w p =
     (front ++ p.0, p.1, ap (λ (x : List ℕ). front ++ x) p.2 ∙ sym (append_assoc front p.0 p.1), Appends-trans a b c front p.0 w p.3)
 
--- ---- the leaves of a state's tree, below an index and from there on
+-- ---- the next of the signatures that are left
 
-abbrev pub leaves_below : State → ℕ → List SignatureToVerify
-leaves_below s n = signatures_below s.context.cipher_suite s.context.group_id s.tree n
-
-abbrev leaves_from : State → ℕ → List SignatureToVerify
-leaves_from s n = signatures_from s.context.cipher_suite s.context.group_id s.tree n
-
-pub leaves-more : (s : State) (n : ℕ) → leaves_below s (n + 1) ≡ leaves_below s n ++ signatures_of_leaf s n
-leaves-more s n =
-    let at : 0 + n ≡ n = omega arith in
-    ap (leaves_below s) (add-one n) ∙ ap (λ k. leaves_below s n ++ of_leaf_in s.context.cipher_suite s.context.group_id 0 s.tree k) at
-
-leaves-split : (s : State) (n : ℕ) → n ≤ leaf_count s.tree → state_signatures s ≡ leaves_below s n ++ leaves_from s n
-leaves-split s n le = below-from s.context.cipher_suite s.context.group_id s.tree n le
-
-pub leaves-all : (s : State) (n : ℕ) → n ≤ leaf_count s.tree → leaf_count s.tree ≤ n → leaves_below s n ≡ state_signatures s
-leaves-all s n low high =
-    let all : n ≡ leaf_count s.tree = omega (arith, low, high) in
-    ap (leaves_below s) all ∙ sym (tree-joined s.context.cipher_suite s.context.group_id 0 s.tree)
+pub split-next : (whole front left : List SignatureToVerify) (w : SignatureToVerify) (rest : List SignatureToVerify) → whole ≡ front ++ left → left ≡ w ∷ rest
+    → whole ≡ (front ++ w ∷ []) ++ rest
+split-next whole front left w rest split next =
+    split ∙ ap (λ (ws : List SignatureToVerify). front ++ ws) next ∙ sym (append_assoc front (w ∷ []) rest)
 
 -- ---- the lines of a list, which are those of its signatures one after the other
 
@@ -75,37 +54,12 @@ module _ (lines : List SignatureToVerify → List ℕ) (both : (ws vs : List Sig
     wrote = wrote-both a b c ws p.front w p.wrote;
   }
 
-  pub wrote-leaf : (a b c : Option (List ℕ)) (s : State) (n : ℕ) → Appends a b (lines (leaves_below s n)) → Appends b c (lines (signatures_of_leaf s n))
-      → Appends a c (lines (leaves_below s (n + 1)))
-  wrote-leaf a b c s n p q =
-      subst (λ (ws : List SignatureToVerify). Appends a c (lines ws)) (sym (leaves-more s n)) (wrote-both a b c (leaves_below s n) (signatures_of_leaf s n) p q)
-
-  pub stops-at-leaf : (a b c : Option (List ℕ)) (s : State) (n : ℕ) (fault : RunFault) → n < leaf_count s.tree → Appends a b (lines (leaves_below s n))
-      → StopsInLines lines (signatures_of_leaf s n) b c fault → StopsInLines lines (state_signatures s) a c fault
-  stops-at-leaf a b c s n fault low w p =
-      let split : state_signatures s ≡ (leaves_below s n ++ signatures_of_leaf s n) ++ leaves_from s (n + 1) =
-      leaves-split s (n + 1) (omega (arith, low)) ∙ ap (λ (ws : List SignatureToVerify). ws ++ leaves_from s (n + 1)) (leaves-more s n) in
+  -- a signature between those whose lines were written and those that are left
+  pub stops-next : (whole front : List SignatureToVerify) (w : SignatureToVerify) (rest : List SignatureToVerify) → whole ≡ (front ++ w ∷ []) ++ rest
+      → (a b c : Option (List ℕ)) (fault : RunFault) → Appends a b (lines front) → StopsInLines lines (w ∷ []) b c fault → StopsInLines lines whole a c fault
+  stops-next whole front w rest split a b c fault p stops =
       subst (λ (ws : List SignatureToVerify). StopsInLines lines ws a c fault) (sym split)
-      (stops-before a c (leaves_below s n ++ signatures_of_leaf s n) (leaves_from s (n + 1)) fault
-      (stops-behind a b c (leaves_below s n) (signatures_of_leaf s n) fault w p))
-
-  -- of a list, from its first signature on
-  module _ (ws : List SignatureToVerify) (n : ℕ) where
-    pub wrote-at : (a b c : Option (List ℕ)) → Appends a b (lines (take n ws)) → Appends b c (lines (option_to_list (slice_get ws n))) → Appends a c (lines (take (n + 1) ws))
-    wrote-at a b c p q =
-        subst (λ (vs : List SignatureToVerify). Appends a c (lines vs)) (sym (front-more ws n)) (wrote-both a b c (take n ws) (option_to_list (slice_get ws n)) p q)
-
-    pub stops-at : (a b c : Option (List ℕ)) (fault : RunFault) → Appends a b (lines (take n ws)) → StopsInLines lines (option_to_list (slice_get ws n)) b c fault
-        → StopsInLines lines ws a c fault
-    stops-at a b c fault w p =
-        let x : List SignatureToVerify = option_to_list (slice_get ws n) in
-        let split : ws ≡ (take n ws ++ x) ++ drop (n + 1) ws =
-        sym (take-append-drop (n + 1) ws) ∙ ap (λ (vs : List SignatureToVerify). vs ++ drop (n + 1) ws) (front-more ws n) in
-        subst (λ (vs : List SignatureToVerify). StopsInLines lines vs a c fault) (sym split)
-        (stops-before a c (take n ws ++ x) (drop (n + 1) ws) fault (stops-behind a b c (take n ws) x fault w p))
-
-  pub wrote-all : (ws : List SignatureToVerify) (n : ℕ) (a b : Option (List ℕ)) → length ws ≤ n → Appends a b (lines (take n ws)) → Appends a b (lines ws)
-  wrote-all ws n a b end p = subst (λ (vs : List SignatureToVerify). Appends a b (lines vs)) (take_all n ws end) p
+      (stops-before a c (front ++ w ∷ []) rest fault (stops-behind a b c front (w ∷ []) fault p stops))
 
 -- the text of the lines was not written whole
 pub stops-writing :

@@ -1,15 +1,16 @@
--- The line and the verdict of a finding: of what is found of a group's inputs. `written0` and `written1` are what the
--- output holds before and after. Used by contracts.
-use Rattle.std.specs.Prelude.{ℕ, List, [], ◌++◌, codes, Option, ◌≡◌, ◌⊎◌}
+-- The line and the verdict of a finding, that is, of what is found of a group's inputs (`mls_start`). `written0` and
+-- `written1` are what the output holds before and after. Used by contracts.
+use Rattle.std.specs.Prelude.{ℕ, List, [], ◌++◌, codes, if◌then◌else◌, Option, ◌≡◌, ◌⊎◌}
 use Rattle.std.specs.Fmt.{decimal}
 use Rattle.std.specs.Io.KnownBytes.{Appends}
 use Rattle.mls_wire.specs.Devices.{AppendsPrefix}
 use Rattle.mls_show.specs.FaultText.{wire_fault_text, node_fault_text}
-use Rattle.mls_report.specs.FaultText.{tree_fault_text, member_fault_text, start_fault_text, resume_fault_text}
 use Rattle.mls_show.specs.ValueTexts.{hex_text}
-use Rattle.mls_report.specs.declared.finding.Finding.{Finding}
-use Rattle.mls_report.specs.declared.finding.Finding.TheVariants.{ContextUnreadable, InfoUnreadable, NotGroupInfo, TreeUnreadable, UnsupportedVersion, UnsupportedSuite, RequirementsUnreadable, TreeRefused, MembersRefused, StartRefused, StateRefused, TreeValid, Starts}
-use Rattle.mls_report.specs.declared.finding.Started.{Started}
+use Rattle.mls_start.specs.Finding.{is_valid}
+use Rattle.mls_start.specs.declared.finding.Finding.{Finding}
+use Rattle.mls_start.specs.declared.finding.Finding.TheVariants.{ContextUnreadable, InfoUnreadable, NotGroupInfo, TreeUnreadable, UnsupportedVersion, UnsupportedSuite, RequirementsUnreadable, TreeRefused, MembersRefused, StartRefused, StateRefused, TreeValid, Starts}
+use Rattle.mls_start.specs.declared.finding.Started.{Started}
+use Rattle.mls_report.specs.FaultText.{tree_fault_text, member_fault_text, start_fault_text, resume_fault_text}
 use Rattle.mls_show.specs.declared.verdict.Verdict.{Verdict}
 use Rattle.mls_show.specs.declared.verdict.Verdict.TheVariants.{Yes, No}
 
@@ -41,11 +42,9 @@ finding_text (Starts started) = started_text started
 abbrev pub finding_line : Finding → List ℕ
 finding_line finding = finding_text finding ++ codes "\n"
 
--- `finding_verdict finding` is Yes for a valid tree and for a follower that starts, else No.
+-- `finding_verdict finding` is Yes for a valid tree and for a follower that starts or resumes, else No.
 abbrev pub finding_verdict : Finding → Verdict
-finding_verdict (TreeValid _) = Yes
-finding_verdict (Starts _) = Yes
-finding_verdict _ = No
+finding_verdict finding = if is_valid finding then Yes else No
 
 -- ---- the report of a finding
 

@@ -6,8 +6,7 @@ pub mod ReplaySteps
 pub mod SignaturesReport
 pub mod SignaturesSteps
 pub mod ReportsExist
-pub mod FailedStarts
-pub mod StartInputs
-pub mod StateInputs
-pub mod StartSteps
-pub mod ValidateTree
+pub mod UnreadableReceipts
+pub mod ValidEpochs
+pub mod CoveredReports
+pub mod SavedStates

@@ -1,26 +1,25 @@
--- The report `replay`: a line for each message of a log, and a last one. `log0` and `log1` are what the log has left
--- before and after, `written0` and `written1` what the output holds. G is the verification function of the checker,
--- `turns` are processed messages. Used by contracts.
+-- The report `replay`: a line for each message of a log, and a last one. `i` is what the group is followed from. `log0` and
+-- `log1` are what the log has left before and after, `written0` and `written1` what the output holds. G is the
+-- verification function of the checker, `turns` are processed messages. Used by contracts.
 use Rattle.std.specs.Prelude.{List, [], ◌∷◌, ℕ, ◌+◌, ◌-◌, ◌≤◌, ◌++◌, codes, length, map, Bool, true, false, Option, Some, None, Result, Ok, Err, is_ok, ◌≡◌, ◌≢◌, ◌⊎◌}
 use Rattle.std.specs.Fmt.{decimal}
 use Rattle.std.specs.Io.KnownBytes.{Appends, Consumes, IsAtEnd}
 use Rattle.mls_wire.specs.Devices.{AppendsPrefix}
 use Rattle.mls_wire.specs.Logs.{IsRecord, IsBrokenAt, IsIncomplete}
 use Rattle.mls_check.specs.Signatures.{VerifyFn}
-use Rattle.mls_msgs.specs.declared.profile.Profile.{Profile}
-use Rattle.mls_follow.specs.RefusalNumbers.{number_of}
+use Rattle.mls_apply.specs.Refusals.{number_of}
 use Rattle.mls_follow.specs.Runs.{IsAnswer}
 use Rattle.mls_follow.specs.State.{State}
-use Rattle.mls_follow.specs.declared.refusal.Refusal.{Refusal}
-use Rattle.mls_follow.specs.declared.refusal.Refusal.TheVariants.{Member}
+use Rattle.mls_apply.specs.declared.refusal.Refusal.{Refusal}
+use Rattle.mls_apply.specs.declared.refusal.Refusal.TheVariants.{Member}
 use Rattle.mls_follow.specs.declared.taken.Taken.{Taken}
 use Rattle.mls_follow.specs.declared.taken.Taken.TheVariants.{Proposal, Commit}
+use Rattle.mls_start.specs.Inputs.{Inputs}
+use Rattle.mls_start.specs.StartFindings.{IsFirstState, Declines}
+use Rattle.mls_start.specs.declared.finding.Finding.{Finding}
 use Rattle.mls_report.specs.FaultText.{member_number}
 use Rattle.mls_report.specs.Finding.{finding_line}
-use Rattle.mls_report.specs.StartInputs.{ReadsAndStarts, ReadsAndDeclines}
-use Rattle.mls_report.specs.StateInputs.{ReadsAndResumes, ReadsAndDeclinesState}
 use Rattle.mls_show.specs.ValueTexts.{hex_text}
-use Rattle.mls_report.specs.declared.finding.Finding.{Finding}
 use Rattle.mls_show.specs.declared.verdict.RunFault.{RunFault}
 use Rattle.mls_show.specs.declared.verdict.RunFault.TheVariants.{Read, Write, Memory}
 use Rattle.mls_show.specs.declared.verdict.Verdict.{Verdict}
@@ -222,126 +221,68 @@ ReportsPart G s log0 log1 written0 written1 Write =
     StopsInLine G s log0 log1 written0 written1 ⊎ StopsInEnding G s log0 log1 written0 written1
 ReportsPart G s log0 log1 written0 written1 Memory = StopsWithoutMemory G s log0 log1 written0 written1
 
--- ---- the whole report. `Starts s`: the inputs were read, and a follower starts or resumes from them in the state `s`.
--- `Declines finding`: the inputs were read, and no follower does, for this finding.
+-- ---- the whole report
 
--- `ReportsDecline Declines log0 log1 written0 written1 verdict`: no follower starts, the log was not read, and one line
--- says why.
-pub record ReportsDecline (Declines : Finding → Type 0) (log0 log1 written0 written1 : Option (List ℕ))
+-- `ReportsDecline G i log0 log1 written0 written1 verdict`: no follower starts or resumes from the inputs, the log was not
+-- read, and one line says why.
+pub record ReportsDecline {L : Type 0} (G : VerifyFn) (i : Inputs) (log0 log1 : L) (written0 written1 : Option (List ℕ))
     (verdict : Verdict) : Type 0 where
   pub finding : Finding
-  pub declines : Declines finding
+  pub declines : Declines G i finding
   pub unread : log1 ≡ log0
   pub wrote : Appends written0 written1 (finding_line finding)
   pub verdict_is : verdict ≡ No
 
--- `ReportsReplay G Starts log0 log1 written0 written1 verdict`: a follower starts, and the report of the log was
--- written.
-pub record ReportsReplay (G : VerifyFn) (Starts : State → Type 0) (log0 log1 written0 written1 : Option (List ℕ))
-    (verdict : Verdict) : Type 0 where
+-- `ReportsReplay G i log0 log1 written0 written1 verdict last`: a follower starts or resumes, the report of the log was
+-- written, and `last` is the state after the last whole message of the log.
+pub record ReportsReplay (G : VerifyFn) (i : Inputs) (log0 log1 written0 written1 : Option (List ℕ)) (verdict : Verdict)
+    (last : State) : Type 0 where
   pub state : State
-  pub starts : Starts state
+  pub starts : IsFirstState G i state
   pub reports : ReportsLog G state log0 log1 written0 written1 verdict
+  pub last_is : last ≡ state_after state reports.turns
 
--- `ReplaysFrom G Starts Declines log0 log1 written0 written1 verdict`: the report was written whole.
-abbrev pub ReplaysFrom : VerifyFn → (State → Type 0) → (Finding → Type 0) → Option (List ℕ) → Option (List ℕ)
-    → Option (List ℕ) → Option (List ℕ) → Verdict → Type 0
-ReplaysFrom G Starts Declines log0 log1 written0 written1 verdict =
-    ReportsDecline Declines log0 log1 written0 written1 verdict
-    ⊎ ReportsReplay G Starts log0 log1 written0 written1 verdict
-
--- `ReplaysTo G Starts Declines log0 log1 written0 written1 verdict last`: the report was written whole, and `last` is
--- the state after the last whole message of the log; None if no follower starts.
-abbrev pub ReplaysTo : VerifyFn → (State → Type 0) → (Finding → Type 0) → Option (List ℕ) → Option (List ℕ)
-    → Option (List ℕ) → Option (List ℕ) → Verdict → Option State → Type 0
-ReplaysTo G Starts Declines log0 log1 written0 written1 verdict None =
-    ReportsDecline Declines log0 log1 written0 written1 verdict
-ReplaysTo G Starts Declines log0 log1 written0 written1 verdict (Some last) =
-    (printed : ReportsReplay G Starts log0 log1 written0 written1 verdict)
-    × (last ≡ state_after printed.state printed.reports.turns)
+-- `Replays G i log0 log1 written0 written1 verdict last`: the report was written whole. `last` is the state after the last
+-- whole message of the log; None if no follower starts or resumes.
+abbrev pub Replays : VerifyFn → Inputs → Option (List ℕ) → Option (List ℕ) → Option (List ℕ) → Option (List ℕ)
+    → Verdict → Option State → Type 0
+Replays G i log0 log1 written0 written1 verdict None = ReportsDecline G i log0 log1 written0 written1 verdict
+Replays G i log0 log1 written0 written1 verdict (Some last) = ReportsReplay G i log0 log1 written0 written1 verdict last
 
 -- ---- a part of the report
 
 -- `ReportsNothing log0 log1 written0 written1`: nothing was written, and the log was not read.
-pub record ReportsNothing (log0 log1 written0 written1 : Option (List ℕ)) : Type 0 where
+pub record ReportsNothing {L : Type 0} (log0 log1 : L) (written0 written1 : Option (List ℕ)) : Type 0 where
   pub unread : log1 ≡ log0
   pub wrote : Appends written0 written1 []
 
--- `StopsInDecline Declines log0 log1 written0 written1`: the output failed in the line that says why no follower starts.
-pub record StopsInDecline (Declines : Finding → Type 0) (log0 log1 written0 written1 : Option (List ℕ)) : Type 0 where
+-- `StopsInDecline G i log0 log1 written0 written1`: the output failed in the line that says why no follower starts or
+-- resumes. The log was not read.
+pub record StopsInDecline {L : Type 0} (G : VerifyFn) (i : Inputs) (log0 log1 : L) (written0 written1 : Option (List ℕ))
+    : Type 0 where
   pub finding : Finding
-  pub declines : Declines finding
+  pub declines : Declines G i finding
   pub unread : log1 ≡ log0
   pub wrote : AppendsPrefix written0 written1 (finding_line finding)
 
--- `StopsBefore Declines log0 log1 written0 written1 fault`: no follower has started, by the fault that is returned.
-abbrev pub StopsBefore : (Finding → Type 0) → Option (List ℕ) → Option (List ℕ) → Option (List ℕ)
-    → Option (List ℕ) → RunFault → Type 0
-StopsBefore Declines log0 log1 written0 written1 Read = ReportsNothing log0 log1 written0 written1
-StopsBefore Declines log0 log1 written0 written1 Write =
-    StopsInDecline Declines log0 log1 written0 written1
-StopsBefore Declines log0 log1 written0 written1 Memory = ReportsNothing log0 log1 written0 written1
+-- `StopsBefore G i log0 log1 written0 written1 fault`: no follower has started or resumed, by the fault that is returned.
+abbrev pub StopsBefore : VerifyFn → Inputs → Option (List ℕ) → Option (List ℕ) → Option (List ℕ) → Option (List ℕ)
+    → RunFault → Type 0
+StopsBefore G i log0 log1 written0 written1 Read = ReportsNothing log0 log1 written0 written1
+StopsBefore G i log0 log1 written0 written1 Write = StopsInDecline G i log0 log1 written0 written1
+StopsBefore G i log0 log1 written0 written1 Memory = ReportsNothing log0 log1 written0 written1
 
--- `StopsAfter G Starts log0 log1 written0 written1 fault`: a follower has started, and the report of the log was not
+-- `StopsAfter G i log0 log1 written0 written1 fault`: a follower has started or resumed, and the report of the log was not
 -- written whole.
-pub record StopsAfter (G : VerifyFn) (Starts : State → Type 0) (log0 log1 written0 written1 : Option (List ℕ))
-    (fault : RunFault) : Type 0 where
+pub record StopsAfter (G : VerifyFn) (i : Inputs) (log0 log1 written0 written1 : Option (List ℕ)) (fault : RunFault)
+    : Type 0 where
   pub state : State
-  pub starts : Starts state
+  pub starts : IsFirstState G i state
   pub reports : ReportsPart G state log0 log1 written0 written1 fault
 
--- `ReplaysPartFrom G Starts Declines log0 log1 written0 written1 fault`: what was written if the report was not written
--- whole, by the fault that is returned. It is a prefix of what the bytes that were read determine.
-abbrev pub ReplaysPartFrom : VerifyFn → (State → Type 0) → (Finding → Type 0) → Option (List ℕ)
-    → Option (List ℕ) → Option (List ℕ) → Option (List ℕ) → RunFault → Type 0
-ReplaysPartFrom G Starts Declines log0 log1 written0 written1 fault =
-    StopsBefore Declines log0 log1 written0 written1 fault
-    ⊎ StopsAfter G Starts log0 log1 written0 written1 fault
-
--- ---- from a GroupInfo, and a tree if one is passed. The group is followed in `profile`
-
-module _ (profile : Profile) (G : VerifyFn) (info0 info1 : Option (List ℕ)) (tree0 tree1 : Option (Option (List ℕ)))
-    (log0 log1 written0 written1 : Option (List ℕ)) where
-  -- `Replays profile G info0 info1 tree0 tree1 log0 log1 written0 written1 verdict`: the report was written whole.
-  abbrev pub Replays : Verdict → Type 0
-  Replays =
-      ReplaysFrom G (ReadsAndStarts profile G info0 info1 tree0 tree1)
-      (ReadsAndDeclines profile G info0 info1 tree0 tree1)
-      log0 log1 written0 written1
-
-  -- `ReplaysGroupTo profile G info0 info1 tree0 tree1 log0 log1 written0 written1 verdict last`: moreover `last` is the
-  -- state after the last whole message; None if no follower starts.
-  abbrev pub ReplaysGroupTo : Verdict → Option State → Type 0
-  ReplaysGroupTo =
-      ReplaysTo G (ReadsAndStarts profile G info0 info1 tree0 tree1)
-      (ReadsAndDeclines profile G info0 info1 tree0 tree1)
-      log0 log1 written0 written1
-
-  -- `ReplaysPart profile G info0 info1 tree0 tree1 log0 log1 written0 written1 fault`: the report was not written whole.
-  abbrev pub ReplaysPart : RunFault → Type 0
-  ReplaysPart =
-      ReplaysPartFrom G (ReadsAndStarts profile G info0 info1 tree0 tree1)
-      (ReadsAndDeclines profile G info0 info1 tree0 tree1)
-      log0 log1 written0 written1
-
--- ---- from the file of a state
-
-module _ (G : VerifyFn) (state0 state1 log0 log1 written0 written1 : Option (List ℕ)) where
-  -- `ReplaysState G state0 state1 log0 log1 written0 written1 verdict`: the report was written whole.
-  abbrev pub ReplaysState : Verdict → Type 0
-  ReplaysState =
-      ReplaysFrom G (ReadsAndResumes G state0 state1) (ReadsAndDeclinesState G state0 state1)
-      log0 log1 written0 written1
-
-  -- `ReplaysStateTo G state0 state1 log0 log1 written0 written1 verdict last`: moreover `last` is the state after the
-  -- last whole message; None if no follower resumes.
-  abbrev pub ReplaysStateTo : Verdict → Option State → Type 0
-  ReplaysStateTo =
-      ReplaysTo G (ReadsAndResumes G state0 state1) (ReadsAndDeclinesState G state0 state1)
-      log0 log1 written0 written1
-
-  -- `ReplaysStatePart G state0 state1 log0 log1 written0 written1 fault`: the report was not written whole.
-  abbrev pub ReplaysStatePart : RunFault → Type 0
-  ReplaysStatePart =
-      ReplaysPartFrom G (ReadsAndResumes G state0 state1) (ReadsAndDeclinesState G state0 state1)
-      log0 log1 written0 written1
+-- `ReplaysPart G i log0 log1 written0 written1 fault`: what was written if the report was not written whole, by the fault
+-- that is returned. It is a prefix of what the bytes that were read determine.
+abbrev pub ReplaysPart : VerifyFn → Inputs → Option (List ℕ) → Option (List ℕ) → Option (List ℕ) → Option (List ℕ)
+    → RunFault → Type 0
+ReplaysPart G i log0 log1 written0 written1 fault =
+    StopsBefore G i log0 log1 written0 written1 fault ⊎ StopsAfter G i log0 log1 written0 written1 fault

@@ -1,5 +1,5 @@
--- The contracts of the steps of `replay`. Internal: no public contract uses this.
-use Rattle.std.specs.Prelude.{List, [], ℕ, ◌+◌, ◌++◌, codes, length, Bool, Option, Some, None, Result, is_ok, ◌≡◌}
+-- The contracts of the steps of `replay`, and of reading a record. Used by contracts.
+use Rattle.std.specs.Prelude.{List, [], ℕ, ◌+◌, ◌++◌, codes, length, Bool, Option, Result, is_ok, ◌≡◌}
 use Rattle.std.specs.Fmt.{decimal}
 use Rattle.std.specs.Io.KnownBytes.{Appends, Consumes}
 use Rattle.mls_wire.specs.Devices.{AppendsPrefix}
@@ -7,18 +7,15 @@ use Rattle.mls_wire.specs.Logs.{IsIncomplete}
 use Rattle.mls_check.specs.Signatures.{VerifyFn}
 use Rattle.mls_follow.specs.Runs.{IsAnswer}
 use Rattle.mls_follow.specs.State.{State}
-use Rattle.mls_follow.specs.declared.refusal.Refusal.{Refusal}
+use Rattle.mls_apply.specs.declared.refusal.Refusal.{Refusal}
 use Rattle.mls_follow.specs.declared.taken.Taken.{Taken}
-use Rattle.mls_report.specs.Finding.{finding_line, finding_verdict}
 use Rattle.mls_report.specs.Replay.{ProcessedMessage, Follows, IsLogEnd, ReportsLog, accepted_count, answer_text, state_after, messages_to_come, processed_lines}
-use Rattle.mls_report.specs.declared.finding.Finding.{Finding}
-use Rattle.mls_report.specs.declared.read_inputs.StartFailure.{StartFailure}
-use Rattle.mls_report.specs.declared.read_inputs.StartFailure.TheVariants.{Found}
 use Rattle.mls_show.specs.declared.verdict.RunFault.{RunFault}
 use Rattle.mls_show.specs.declared.verdict.RunFault.TheVariants.{Read, Write, Memory}
 use Rattle.mls_show.specs.declared.verdict.Verdict.{Verdict}
 
--- The bytes read of a log don't decide yet what comes next.
+-- `ReadsUndecided log0 log1 most`: the bytes read of a log, of which `most` messages may still come, don't decide yet what
+-- comes next.
 pub record ReadsUndecided (log0 log1 : Option (List ℕ)) (most : ℕ) : Type 0 where
   pub rest : List ℕ
   pub read : Consumes log0 log1 rest
@@ -67,29 +64,3 @@ abbrev pub ReplaysLog : VerifyFn → State → Option (List ℕ) → Option (Lis
     → Verdict → State → Type 0
 ReplaysLog G s log0 log1 written0 written1 verdict last =
     (printed : ReportsLog G s log0 log1 written0 written1 verdict) × (last ≡ state_after s printed.turns)
-
--- The same, if a follower is returned.
-abbrev pub ReturnsAfter : VerifyFn → State → Option (List ℕ) → Option (List ℕ) → Option (List ℕ) → Option (List ℕ)
-    → Verdict → Option State → Type 0
-ReturnsAfter G s log0 log1 written0 written1 verdict None = ⊥
-ReturnsAfter G s log0 log1 written0 written1 verdict (Some last) =
-    ReplaysLog G s log0 log1 written0 written1 verdict last
-
--- The line that says why no follower starts was written.
-pub record WritesDecline (failure : StartFailure) (written0 written1 : Option (List ℕ)) (verdict : Verdict) : Type 0 where
-  pub finding : Finding
-  pub failure_is : failure ≡ Found finding
-  pub wrote : Appends written0 written1 (finding_line finding)
-  pub verdict_is : verdict ≡ finding_verdict finding
-
--- A prefix of that line was written.
-pub record WritesDeclinePrefix (failure : StartFailure) (written0 written1 : Option (List ℕ)) : Type 0 where
-  pub finding : Finding
-  pub failure_is : failure ≡ Found finding
-  pub wrote : AppendsPrefix written0 written1 (finding_line finding)
-
--- That line was not written whole, by the fault that is returned.
-abbrev pub WritesDeclinePart : StartFailure → Option (List ℕ) → Option (List ℕ) → RunFault → Type 0
-WritesDeclinePart failure written0 written1 Read = ⊥
-WritesDeclinePart failure written0 written1 Write = WritesDeclinePrefix failure written0 written1
-WritesDeclinePart failure written0 written1 Memory = Appends written0 written1 []

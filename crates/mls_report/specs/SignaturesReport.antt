@@ -1,5 +1,5 @@
 -- The report `signatures`: a line for each signature to verify that has no receipt. `R` is the verification function of
--- the receipts, `logged` are messages with their signatures; `log0`, `log1`, `written0`, `written1` as in `Replay`.
+-- the receipts, `logged` are messages with their signatures; `i`, `log0`, `log1`, `written0`, `written1` as in `Replay`.
 -- Used by contracts.
 use Rattle.std.specs.Prelude.{List, [], ◌∷◌, ℕ, ◌+◌, ◌++◌, ◌&&◌, codes, length, map, Bool, true, false, if◌then◌else◌, is_some, Option, Some, None, option_map, ◌≡◌, ◌⊎◌}
 use Rattle.std.specs.Fmt.{decimal}
@@ -7,28 +7,21 @@ use Rattle.std.specs.Io.KnownBytes.{Appends}
 use Rattle.sha2.specs.Sha256.{sha256}
 use Rattle.mls_wire.specs.Devices.{AppendsPrefix}
 use Rattle.mls_wire.specs.Logs.{IsIncomplete}
-use Rattle.mls_tree.specs.RatchetTree.{RatchetTree}
 use Rattle.mls_check.specs.Receipts.{receipt_input}
 use Rattle.mls_check.specs.Signatures.{VerifyFn}
-use Rattle.mls_msgs.specs.declared.group_info.GroupInfo.{GroupInfo}
 use Rattle.mls_follow.specs.Acceptance.{EncodesNoMessage}
 use Rattle.mls_follow.specs.CoveredLogs.{all_good}
-use Rattle.mls_follow.specs.Start.{IsStart}
 use Rattle.mls_follow.specs.State.{State}
-use Rattle.mls_signatures.specs.SignaturesToVerify.{start_signatures, resumption_signatures}
 use Rattle.mls_follow.specs.MessageSignatures.{AreSignaturesOf}
 use Rattle.mls_signatures.specs.declared.signature_to_verify.SignatureToVerify.{SignatureToVerify}
-use Rattle.mls_report.specs.Finding.{finding_line}
-use Rattle.mls_report.specs.Replay.{ProcessedMessage, Follows, IsLogEnd, IsLeftOver, messages_to_come}
-use Rattle.mls_report.specs.StartInputs.{IsReadAs, ReadsBoth, ReadsAndDeclines}
-use Rattle.mls_report.specs.StateInputs.{ReadsAndResumes, ReadsAndDeclinesState}
+use Rattle.mls_start.specs.Inputs.{Inputs}
+use Rattle.mls_start.specs.StartSignatures.{StartsWith}
+use Rattle.mls_report.specs.Replay.{ProcessedMessage, Follows, IsLogEnd, IsLeftOver, messages_to_come, ReportsDecline, ReportsNothing, StopsInDecline}
 use Rattle.mls_show.specs.ValueTexts.{hex_text}
-use Rattle.mls_report.specs.declared.finding.Finding.{Finding}
 use Rattle.mls_show.specs.declared.verdict.RunFault.{RunFault}
 use Rattle.mls_show.specs.declared.verdict.RunFault.TheVariants.{Read, Write, Memory}
 use Rattle.mls_show.specs.declared.verdict.Verdict.{Verdict}
 use Rattle.mls_show.specs.declared.verdict.Verdict.TheVariants.{Yes, No}
-use Rattle.mls_msgs.specs.declared.profile.Profile.{Profile}
 
 -- ---- lines
 
@@ -194,6 +187,11 @@ SignatureLogPart R s log0 log1 written0 written1 Memory =
     SignatureLogWithoutMemory R s log0 log1 written0 written1
     ⊎ SignatureLogInSignatures R s log0 log1 written0 written1
 
+-- `has_failed failed`: a log that is passed has failed.
+abbrev pub has_failed : Option Bool → Bool
+has_failed None = false
+has_failed (Some failed) = failed
+
 -- `ReportsLogIf R s log0 log1 written0 written1 verdict`: the report of the log was written, or there is no log, and
 -- the verdict is Yes.
 abbrev pub ReportsLogIf : VerifyFn → State → Option (Option (List ℕ)) → Option (Option (List ℕ))
@@ -212,158 +210,74 @@ LogPartIf R s (Some log0) (Some log1) written0 written1 fault =
     SignatureLogPart R s log0 log1 written0 written1 fault
 LogPartIf R s _ _ written0 written1 fault = ⊥
 
--- ---- the whole report. `Starts s needed`: the inputs were read, a follower starts or resumes from them in the state
--- `s`, each signature being good, and `needed` are the signatures of that. `Declines finding`: the inputs were read,
--- and no follower does although each signature is good, for this finding.
+-- ---- the whole report. A follower starts or resumes from the inputs if each signature is good, or none does even then
 
--- `DeclinesSignatures Declines ..`: no follower starts. The log was not read, and one line says why.
-pub record DeclinesSignatures (Declines : Finding → Type 0) (log0 log1 : Option (Option (List ℕ)))
+-- `ReportsSignatures R i log0 log1 written0 written1 verdict`: a follower starts or resumes. The lines of the signatures of
+-- that were written, and then those of the log, if there is one.
+pub record ReportsSignatures (R : VerifyFn) (i : Inputs) (log0 log1 : Option (Option (List ℕ)))
     (written0 written1 : Option (List ℕ)) (verdict : Verdict) : Type 0 where
-  pub finding : Finding
-  pub declines : Declines finding
-  pub unread : log1 ≡ log0
-  pub wrote : Appends written0 written1 (finding_line finding)
-  pub verdict_is : verdict ≡ No
-
--- `ReportsSignatures R Starts ..`: a follower starts. The lines of the start were written, and then those of the log,
--- if there is one.
-pub record ReportsSignatures (R : VerifyFn) (Starts : State → List SignatureToVerify → Type 0)
-    (log0 log1 : Option (Option (List ℕ))) (written0 written1 : Option (List ℕ)) (verdict : Verdict)
-    : Type 0 where
   pub state : State
   pub needed : List SignatureToVerify
-  pub opens : Starts state needed
+  pub starts : StartsWith i state needed
   pub between : Option (List ℕ)
   pub wrote : Appends written0 between (needed_lines R needed)
   pub reports : ReportsLogIf R state log0 log1 between written1 verdict
 
--- `SignaturesFrom R Starts Declines ..`: the report was written whole.
-abbrev pub SignaturesFrom : VerifyFn → (State → List SignatureToVerify → Type 0) → (Finding → Type 0)
-    → Option (Option (List ℕ)) → Option (Option (List ℕ)) → Option (List ℕ) → Option (List ℕ) → Verdict → Type 0
-SignaturesFrom R Starts Declines log0 log1 written0 written1 verdict =
-    DeclinesSignatures Declines log0 log1 written0 written1 verdict
-    ⊎ ReportsSignatures R Starts log0 log1 written0 written1 verdict
+-- `Signatures R i log0 log1 written0 written1 verdict`: the report was written whole.
+abbrev pub Signatures : VerifyFn → Inputs → Option (Option (List ℕ)) → Option (Option (List ℕ)) → Option (List ℕ)
+    → Option (List ℕ) → Verdict → Type 0
+Signatures R i log0 log1 written0 written1 verdict =
+    ReportsDecline all_good i log0 log1 written0 written1 verdict
+    ⊎ ReportsSignatures R i log0 log1 written0 written1 verdict
 
 -- ---- a part of the report
 
--- `WritesNothing log0 log1 written0 written1`: nothing was written, and the log was not read.
-pub record WritesNothing (log0 log1 : Option (Option (List ℕ))) (written0 written1 : Option (List ℕ)) :
-    Type 0 where
-  pub unread : log1 ≡ log0
-  pub wrote : Appends written0 written1 []
-
--- `SignaturesInDecline Declines ..`: the output failed in the line that says why no follower starts.
-pub record SignaturesInDecline (Declines : Finding → Type 0) (log0 log1 : Option (Option (List ℕ)))
+-- `SignaturesInStart R i log0 log1 written0 written1`: the output failed in the lines of the start.
+pub record SignaturesInStart (R : VerifyFn) (i : Inputs) (log0 log1 : Option (Option (List ℕ)))
     (written0 written1 : Option (List ℕ)) : Type 0 where
-  pub finding : Finding
-  pub declines : Declines finding
-  pub unread : log1 ≡ log0
-  pub wrote : AppendsPrefix written0 written1 (finding_line finding)
-
--- `SignaturesInStart R Starts ..`: the output failed in the lines of the start.
-pub record SignaturesInStart (R : VerifyFn) (Starts : State → List SignatureToVerify → Type 0)
-    (log0 log1 : Option (Option (List ℕ))) (written0 written1 : Option (List ℕ)) : Type 0 where
   pub state : State
   pub needed : List SignatureToVerify
-  pub opens : Starts state needed
+  pub starts : StartsWith i state needed
   pub unread : log1 ≡ log0
   pub wrote : AppendsPrefix written0 written1 (needed_lines R needed)
 
--- `SignaturesWithoutMemory R Starts ..`: memory ran out in the lines of the start. The lines of the signatures before
--- were written whole.
-pub record SignaturesWithoutMemory (R : VerifyFn) (Starts : State → List SignatureToVerify → Type 0)
-    (log0 log1 : Option (Option (List ℕ))) (written0 written1 : Option (List ℕ)) : Type 0 where
+-- `SignaturesWithoutMemory R i log0 log1 written0 written1`: memory ran out in the lines of the start. The lines of the
+-- signatures before were written whole.
+pub record SignaturesWithoutMemory (R : VerifyFn) (i : Inputs) (log0 log1 : Option (Option (List ℕ)))
+    (written0 written1 : Option (List ℕ)) : Type 0 where
   pub state : State
   pub front : List SignatureToVerify
   pub rest : List SignatureToVerify
-  pub opens : Starts state (front ++ rest)
+  pub starts : StartsWith i state (front ++ rest)
   pub unread : log1 ≡ log0
   pub wrote : Appends written0 written1 (needed_lines R front)
 
--- `SignaturesBefore R Starts Declines .. fault`: nothing of the log was read, by the fault that is returned.
-abbrev pub SignaturesBefore : VerifyFn → (State → List SignatureToVerify → Type 0) → (Finding → Type 0)
-    → Option (Option (List ℕ)) → Option (Option (List ℕ)) → Option (List ℕ) → Option (List ℕ) → RunFault → Type 0
-SignaturesBefore R Starts Declines log0 log1 written0 written1 Read = WritesNothing log0 log1 written0 written1
-SignaturesBefore R Starts Declines log0 log1 written0 written1 Write =
-    SignaturesInDecline Declines log0 log1 written0 written1
-    ⊎ SignaturesInStart R Starts log0 log1 written0 written1
-SignaturesBefore R Starts Declines log0 log1 written0 written1 Memory =
-    WritesNothing log0 log1 written0 written1
-    ⊎ SignaturesWithoutMemory R Starts log0 log1 written0 written1
+-- `SignaturesBefore R i log0 log1 written0 written1 fault`: nothing of the log was read, by the fault that is returned.
+abbrev pub SignaturesBefore : VerifyFn → Inputs → Option (Option (List ℕ)) → Option (Option (List ℕ))
+    → Option (List ℕ) → Option (List ℕ) → RunFault → Type 0
+SignaturesBefore R i log0 log1 written0 written1 Read = ReportsNothing log0 log1 written0 written1
+SignaturesBefore R i log0 log1 written0 written1 Write =
+    StopsInDecline all_good i log0 log1 written0 written1
+    ⊎ SignaturesInStart R i log0 log1 written0 written1
+SignaturesBefore R i log0 log1 written0 written1 Memory =
+    ReportsNothing log0 log1 written0 written1
+    ⊎ SignaturesWithoutMemory R i log0 log1 written0 written1
 
--- `SignaturesAfter R Starts .. fault`: the lines of the start were written whole, and those of the log were not.
-pub record SignaturesAfter (R : VerifyFn) (Starts : State → List SignatureToVerify → Type 0)
-    (log0 log1 : Option (Option (List ℕ))) (written0 written1 : Option (List ℕ)) (fault : RunFault)
-    : Type 0 where
+-- `SignaturesAfter R i log0 log1 written0 written1 fault`: the lines of the start were written whole, and those of the log
+-- were not.
+pub record SignaturesAfter (R : VerifyFn) (i : Inputs) (log0 log1 : Option (Option (List ℕ)))
+    (written0 written1 : Option (List ℕ)) (fault : RunFault) : Type 0 where
   pub state : State
   pub needed : List SignatureToVerify
-  pub opens : Starts state needed
+  pub starts : StartsWith i state needed
   pub between : Option (List ℕ)
   pub wrote : Appends written0 between (needed_lines R needed)
   pub reports : LogPartIf R state log0 log1 between written1 fault
 
--- `SignaturesPartFrom R Starts Declines .. fault`: what was written if the report was not written whole, by the fault
--- that is returned. It is a prefix of what the bytes that were read determine.
-abbrev pub SignaturesPartFrom : VerifyFn → (State → List SignatureToVerify → Type 0) → (Finding → Type 0)
-    → Option (Option (List ℕ)) → Option (Option (List ℕ)) → Option (List ℕ) → Option (List ℕ) → RunFault → Type 0
-SignaturesPartFrom R Starts Declines log0 log1 written0 written1 fault =
-    SignaturesBefore R Starts Declines log0 log1 written0 written1 fault
-    ⊎ SignaturesAfter R Starts log0 log1 written0 written1 fault
-
--- ---- from a GroupInfo, and a tree if one is passed. The group is followed in `profile`
-
--- `StartHasSignatures profile info supplied s needed`: a follower starts from a GroupInfo and a tree in this state,
--- each signature being good, and the start has these signatures.
-pub record StartHasSignatures (profile : Profile) (info : GroupInfo) (supplied : Option RatchetTree)
-    (s : State) (needed : List SignatureToVerify) : Type 0 where
-  pub start : IsStart profile all_good info supplied s
-  pub needed_is : needed ≡ start_signatures info s.tree
-
--- `ReadsStartSignatures profile info0 info1 tree0 tree1 s needed`: the GroupInfo and the tree, if one is passed, were read,
--- and `StartHasSignatures` holds of them.
-pub record ReadsStartSignatures (profile : Profile) (info0 info1 : Option (List ℕ))
-    (tree0 tree1 : Option (Option (List ℕ))) (s : State) (needed : List SignatureToVerify) : Type 0 where
-  pub info_bytes : List ℕ
-  pub tree_bytes : Option (List ℕ)
-  pub both_read : ReadsBoth info0 info1 tree0 tree1 info_bytes tree_bytes
-  pub info : GroupInfo
-  pub supplied : Option RatchetTree
-  pub is_read : IsReadAs profile info_bytes tree_bytes info supplied
-  pub starts : StartHasSignatures profile info supplied s needed
-
-module _ (profile : Profile) (R : VerifyFn) (info0 info1 : Option (List ℕ))
-    (tree0 tree1 log0 log1 : Option (Option (List ℕ))) (written0 written1 : Option (List ℕ)) where
-  -- `Signatures profile R info0 info1 tree0 tree1 log0 log1 written0 written1 verdict`: the report was written whole.
-  abbrev pub Signatures : Verdict → Type 0
-  Signatures =
-      SignaturesFrom R (ReadsStartSignatures profile info0 info1 tree0 tree1)
-      (ReadsAndDeclines profile all_good info0 info1 tree0 tree1) log0 log1 written0 written1
-
-  -- `SignaturesPart profile R info0 info1 tree0 tree1 log0 log1 written0 written1 fault`: the report was not written whole.
-  abbrev pub SignaturesPart : RunFault → Type 0
-  SignaturesPart =
-      SignaturesPartFrom R (ReadsStartSignatures profile info0 info1 tree0 tree1)
-      (ReadsAndDeclines profile all_good info0 info1 tree0 tree1) log0 log1 written0 written1
-
--- ---- from the file of a state
-
--- `ReadsStateSignatures state0 state1 s needed`: the file was read, a follower resumes from it in this state, each
--- signature being good, and the resumption has these signatures.
-pub record ReadsStateSignatures (state0 state1 : Option (List ℕ)) (s : State) (needed : List SignatureToVerify)
-    : Type 0 where
-  pub resumes : ReadsAndResumes all_good state0 state1 s
-  pub needed_is : needed ≡ resumption_signatures s.context s.tree s.known
-
-module _ (R : VerifyFn) (state0 state1 : Option (List ℕ)) (log0 log1 : Option (Option (List ℕ)))
-    (written0 written1 : Option (List ℕ)) where
-  -- `SignaturesState R state0 state1 log0 log1 written0 written1 verdict`: the report was written whole.
-  abbrev pub SignaturesState : Verdict → Type 0
-  SignaturesState =
-      SignaturesFrom R (ReadsStateSignatures state0 state1) (ReadsAndDeclinesState all_good state0 state1)
-      log0 log1 written0 written1
-
-  -- `SignaturesStatePart R state0 state1 log0 log1 written0 written1 fault`: the report was not written whole.
-  abbrev pub SignaturesStatePart : RunFault → Type 0
-  SignaturesStatePart =
-      SignaturesPartFrom R (ReadsStateSignatures state0 state1) (ReadsAndDeclinesState all_good state0 state1)
-      log0 log1 written0 written1
+-- `SignaturesPart R i log0 log1 written0 written1 fault`: what was written if the report was not written whole, by the
+-- fault that is returned. It is a prefix of what the bytes that were read determine.
+abbrev pub SignaturesPart : VerifyFn → Inputs → Option (Option (List ℕ)) → Option (Option (List ℕ)) → Option (List ℕ)
+    → Option (List ℕ) → RunFault → Type 0
+SignaturesPart R i log0 log1 written0 written1 fault =
+    SignaturesBefore R i log0 log1 written0 written1 fault
+    ⊎ SignaturesAfter R i log0 log1 written0 written1 fault

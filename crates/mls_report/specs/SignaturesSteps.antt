@@ -2,24 +2,16 @@
 use Rattle.std.specs.Prelude.{List, [], ◌++◌, ℕ, Bool, Option, Some, None, is_some, Result, ◌≡◌, ◌⊎◌}
 use Rattle.std.specs.Io.KnownBytes.{Appends}
 use Rattle.mls_wire.specs.Devices.{AppendsPrefix}
-use Rattle.mls_tree.specs.RatchetTree.{RatchetTree}
-use Rattle.mls_tree.specs.Tree.{leaf_at}
 use Rattle.mls_check.specs.Signatures.{VerifyFn}
-use Rattle.mls_msgs.specs.declared.group_info.GroupInfo.{GroupInfo}
-use Rattle.mls_msgs.specs.declared.profile.Profile.{Profile}
 use Rattle.mls_follow.specs.Runs.{IsAnswer}
-use Rattle.mls_follow.specs.Start.{UsesTree}
 use Rattle.mls_follow.specs.State.{State}
-use Rattle.mls_signatures.specs.SignaturesToVerify.{info_signatures, non_blank_leaf_signatures, resumption_signatures}
-use Rattle.mls_follow.specs.declared.refusal.Refusal.{Refusal}
+use Rattle.mls_apply.specs.declared.refusal.Refusal.{Refusal}
 use Rattle.mls_follow.specs.declared.taken.Taken.{Taken}
 use Rattle.mls_signatures.specs.declared.signature_to_verify.SignatureToVerify.{SignatureToVerify}
 use Rattle.mls_follow.specs.CoveredLogs.{all_good}
-use Rattle.mls_report.specs.SignaturesReport.{HasSignatures, signature_lines, needed_lines, StartHasSignatures, ReportsLogIf, LogPartIf}
-use Rattle.mls_report.specs.StartInputs.{IsReadAs}
+use Rattle.mls_report.specs.SignaturesReport.{HasSignatures, signature_lines, needed_lines}
 use Rattle.mls_show.specs.declared.verdict.RunFault.{RunFault}
 use Rattle.mls_show.specs.declared.verdict.RunFault.TheVariants.{Read, Write, Memory}
-use Rattle.mls_show.specs.declared.verdict.Verdict.{Verdict}
 
 -- ---- lines that are written one signature after the other. `lines` is the lines of a list of signatures
 
@@ -83,60 +75,3 @@ pub record StopsBeforeMessage (written0 written1 : Option (List ℕ)) (fault : R
 abbrev pub StopsInMessage : VerifyFn → State → ℕ → List ℕ → Option (List ℕ) → Option (List ℕ) → RunFault → Type 0
 StopsInMessage R s n bytes written0 written1 fault =
     StopsBeforeMessage written0 written1 fault ⊎ StopsInSignatures R s n bytes written0 written1 fault
-
--- ---- the signatures of a start
-
--- The list is the signature of the GroupInfo, by the tree that the start uses.
-abbrev pub AreInfoSignatures : GroupInfo → Option RatchetTree → List SignatureToVerify → Type 0
-AreInfoSignatures info supplied signatures =
-    (t : RatchetTree) → UsesTree supplied info.extensions t
-    → signatures ≡ info_signatures info (leaf_at 0 t.tree info.signer)
-
--- From the bytes of a GroupInfo, and of a tree if there is a file of it, a follower with the profile starts in this state,
--- with these signatures.
-pub record StartsWithSignatures (profile : Profile) (info_bytes : List ℕ) (tree_bytes : Option (List ℕ))
-    (s : State) (signatures : List SignatureToVerify) : Type 0 where
-  pub info : GroupInfo
-  pub supplied : Option RatchetTree
-  pub is_read : IsReadAs profile info_bytes tree_bytes info supplied
-  pub starts : StartHasSignatures profile info supplied s signatures
-
--- The signature of the leaf of a state's tree at a leaf index.
-abbrev pub signatures_of_leaf : State → ℕ → List SignatureToVerify
-signatures_of_leaf s i =
-    non_blank_leaf_signatures s.context.cipher_suite s.context.group_id i (leaf_at 0 s.tree i)
-
--- The signatures of a resumption in a state.
-abbrev pub signatures_of_state : State → List SignatureToVerify
-signatures_of_state s = resumption_signatures s.context s.tree s.known
-
--- ---- the report from a start on
-
--- The lines of the start were written, and then the lines of the log.
-pub record ReportsAfterStart (R : VerifyFn) (s : State) (needed : List SignatureToVerify)
-    (log0 log1 : Option (Option (List ℕ))) (written0 written1 : Option (List ℕ)) (verdict : Verdict)
-    : Type 0 where
-  pub between : Option (List ℕ)
-  pub wrote : Appends written0 between (needed_lines R needed)
-  pub reports : ReportsLogIf R s log0 log1 between written1 verdict
-
--- The lines of the start were not written whole, with this fault. The log was not read.
-pub record StopsInStart (R : VerifyFn) (needed : List SignatureToVerify) (log0 log1 : Option (Option (List ℕ)))
-    (written0 written1 : Option (List ℕ)) (fault : RunFault) : Type 0 where
-  pub unread : log1 ≡ log0
-  pub stops : StopsInLines (needed_lines R) needed written0 written1 fault
-
--- The lines of the start were written whole, but not the lines of the log, with this fault.
-pub record StopsBehind (R : VerifyFn) (s : State) (needed : List SignatureToVerify)
-    (log0 log1 : Option (Option (List ℕ))) (written0 written1 : Option (List ℕ)) (fault : RunFault)
-    : Type 0 where
-  pub between : Option (List ℕ)
-  pub wrote : Appends written0 between (needed_lines R needed)
-  pub reports : LogPartIf R s log0 log1 between written1 fault
-
--- The lines of the start and the lines of the log were not written whole, with this fault.
-abbrev pub BehindPart : VerifyFn → State → List SignatureToVerify → Option (Option (List ℕ))
-    → Option (Option (List ℕ)) → Option (List ℕ) → Option (List ℕ) → RunFault → Type 0
-BehindPart R s needed log0 log1 written0 written1 fault =
-    StopsInStart R needed log0 log1 written0 written1 fault
-    ⊎ StopsBehind R s needed log0 log1 written0 written1 fault

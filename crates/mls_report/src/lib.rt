@@ -1,17 +1,29 @@
-//! The parts of the reports on a tree and on a group: findings, how a follower starts, and the texts of faults, answers
-//! and signatures. The definitions of `replay`, `signatures` and `validate-tree` are in specs/. `mls_audit` writes the
-//! reports. The report `show` of [`mls_show`] is re-exported.
+//! The reports of the program `mlscheck` on a tree and on a group: whether they are valid ([`validate_tree`],
+//! [`validate`]), what a follower answers to a log ([`replay`]), and which signatures are checked ([`signatures`]). Each
+//! report is one call. It takes what the group is followed from as a value ([`mls_start::StartBytes`]), and writes its
+//! lines to a sink. It ends with a verdict, or with the fault that ended it early.
+//!
+//! The texts of findings, faults, answers and signatures are in modules of their own. The gate writes some of them too.
 #![tactic(auto)]
 
 pub mod fault_text;
-pub mod finding;
-pub mod read_inputs;
+mod finding;
+pub mod laws;
+mod log_records;
+mod receipts_report;
+mod replay_report;
 pub mod replay_text;
+mod signature_lines;
+mod signature_log;
 pub mod signature_text;
-pub mod state_input;
-pub mod trusting_start;
+mod signatures_report;
+mod start_report;
+mod tree_report;
 
-pub use mls_show::{
-    Report, RunFault, ShowKind, Verdict, read_all, run_show, run_show_in, status_of, write_bytes,
-    write_text,
-};
+pub use finding::{finding_line, finding_text, finding_verdict, report_finding};
+pub use log_records::next_record;
+pub use receipts_report::report_unreadable_receipts;
+pub use replay_report::{Replayed, replay};
+pub use signatures_report::signatures;
+pub use start_report::validate;
+pub use tree_report::validate_tree;

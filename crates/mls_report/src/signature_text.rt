@@ -117,7 +117,7 @@ pub fn signature_line(alloc: Global, needed: &SignatureToVerify) -> Result<Strin
 }
 
 /// Appends the line of a needed signature, unless `receipts` cover it.
-pub fn put_line<R: SignatureCheck>(
+pub(crate) fn put_line<R: SignatureCheck>(
     alloc: Global,
     text: &mut String,
     needed: &SignatureToVerify,
@@ -132,20 +132,4 @@ pub fn put_line<R: SignatureCheck>(
         return Ok(());
     }
     push_signature_line(alloc, text, needed)
-}
-
-/// Returns the lines of needed signatures that `receipts` don't cover, in the order of the list.
-pub fn needed_text<R: SignatureCheck>(
-    alloc: Global,
-    needed: &[SignatureToVerify],
-    receipts: &R,
-) -> Result<String, AllocError>
-    ensures { IfOk result
-        (λ text. string_bytes text ≡ lines.needed_lines (R.meaning receipts.now) needed.now) }
-{
-    let mut text = String::new(alloc);
-    for signature in needed {
-        put_line(alloc, &mut text, signature, receipts)?;
-    }
-    Ok(text)
 }

@@ -7,7 +7,7 @@ use crate::row::Row;
 use crate::text_writer::TextWriter;
 use crate::tree_calls::tree_text;
 use mls_apply::{
-    Applied, ApplyFault, Leaves, ListItem, apply_list, check_list, expected_parent_hashes,
+    Applied, ApplyFault, Leaves, ListItem, Refusal, apply_list, check_list, expected_parent_hashes,
     merge_path, new_extensions,
 };
 use mls_hash::Suite;
@@ -15,7 +15,7 @@ use mls_msgs::{Proposal, Sender, UpdatePath};
 use mls_nodes::{Extensions, GroupContext, write_extensions};
 use mls_tree::PublicTree;
 use mls_wire::{CodecFault, Opaque, Reader, Writer, read_value};
-use std::alloc::Global;
+use std::alloc::{AllocError, Global};
 
 /// The next proposal after its sender.
 fn read_item(alloc: Global, reader: &mut Reader<'_>) -> Result<(u32, Proposal), CodecFault> {
@@ -149,7 +149,7 @@ pub(crate) fn applied(row: &Row) -> Result<CallResult, RowFault> {
 }
 
 /// The extensions after the list of a field, in a context.
-fn extensions_in(row: &Row, context: &GroupContext, at: usize) -> Result<Extensions, ApplyFault> {
+fn extensions_in(row: &Row, context: &GroupContext, at: usize) -> Result<Extensions, AllocError> {
     let proposals = proposals_at(row, at);
     let list = items_of(row, proposals.as_slice());
     let found = new_extensions(row.alloc, context, list.as_slice());
@@ -182,7 +182,7 @@ pub(crate) fn extensions_after(row: &Row) -> Result<CallResult, RowFault> {
 /// A tree after a path, or the fault.
 fn merged_result(
     alloc: Global,
-    merged: Result<PublicTree, (ApplyFault, Applied)>,
+    merged: Result<PublicTree, (Refusal, Applied)>,
 ) -> Result<CallResult, RowFault> {
     match merged {
         Ok(tree) => {
@@ -190,9 +190,9 @@ fn merged_result(
             drop(tree);
             CallResult::of(text)
         }
-        Err((fault, applied)) => {
+        Err((refusal, applied)) => {
             drop(applied);
-            CallResult::fault(alloc, &fault)
+            CallResult::fault(alloc, &refusal)
         }
     }
 }

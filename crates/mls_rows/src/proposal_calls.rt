@@ -6,7 +6,7 @@ use crate::row::Row;
 use crate::state::sender_text;
 use crate::text_writer::TextWriter;
 use mls_apply::{
-    ApplyFault, EpochState, KnownProposal, ListItem, PendingProposals, check_join, check_proposal,
+    EpochState, KnownProposal, ListItem, PendingProposals, Refusal, check_join, check_proposal,
     join_items, resolve_list,
 };
 use mls_check::{SignatureCheck, Trusting};
@@ -17,11 +17,11 @@ use mls_tree::{HashValue, PublicTree};
 use mls_wire::{CodecFault, Reader, read_value};
 use std::alloc::Global;
 
-/// `none`, or a fault.
-fn fault_result(alloc: Global, fault: Option<ApplyFault>) -> Result<CallResult, RowFault> {
-    match fault {
+/// `none`, or a refusal.
+fn refusal_result(alloc: Global, refusal: Option<Refusal>) -> Result<CallResult, RowFault> {
+    match refusal {
         None => CallResult::word(alloc, "none"),
-        Some(fault) => CallResult::fault(alloc, &fault),
+        Some(refusal) => CallResult::fault(alloc, &refusal),
     }
 }
 
@@ -38,7 +38,7 @@ fn checked<C: SignatureCheck>(
             let sender = Sender::Member(row.number(3));
             let epoch = EpochState { context, tree };
             let found = check_proposal(row.alloc, &epoch, sender, proposal, checker);
-            fault_result(row.alloc, found.err())
+            refusal_result(row.alloc, found.err())
         }
         _ => Err(RowFault::Field(1, "a context of a suite that is followed")),
     }
@@ -181,7 +181,7 @@ fn joined_in(row: &Row, context: &GroupContext, commit: &Commit) -> Result<CallR
     };
     let found = check_join(row.alloc, &epoch, commit);
     drop(tree);
-    fault_result(row.alloc, found.err())
+    refusal_result(row.alloc, found.err())
 }
 
 /// `check_join | CONTEXT | TREE | COMMIT`: why an external commit is refused before its list is applied, or `none`.

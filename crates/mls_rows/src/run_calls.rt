@@ -1,5 +1,8 @@
 //! Rows of the whole program (docs/FORMATS.md): a command over files in memory; and of logs.
 
+ghost use Rattle.std.specs.Prelude.{refl};
+ghost use Rattle.mls_program.specs.Files.{unknown};
+
 use crate::call_result::{CallResult, are_same};
 use crate::fault::RowFault;
 use crate::row::{Row, have};
@@ -9,7 +12,7 @@ use mls_cli::{
     CheckKind, CheckerChoice, FileName, Files, GroupFiles, GroupReport, Order, Profile, ShowKind,
     order_of, run_program,
 };
-use mls_wire::{LogStep, MemorySink, MemorySource, RecordReader, Records};
+use mls_wire::{LogStep, MemorySink, MemorySource, RecordReader, Records, Source};
 use std::alloc::{AllocError, Global};
 use std::cell::Cell;
 
@@ -39,13 +42,7 @@ fn named_file(alloc: Global, name: &str, bytes: &[u8]) -> Result<NamedFile, Allo
 impl<'a> Files for Shelf<'a> {
     type File = MemorySource<'a>;
 
-    ghost gives = { λ _ _ _. Unit {0} };
-
-    ghost lacks = { λ _ _. Unit {0} };
-
-    ghost stores = { λ _ _ _. Unit {0} };
-
-    ghost refuses = { λ _ _ _. Unit {0} };
+    ghost opener = { λ _. unknown ⟦<MemorySource<'a> as Source>⟧.left ⟦<MemorySource<'a> as Source>⟧.is_failed };
 
     fn open(&self, name: &str) -> Option<MemorySource<'a>> {
         for file in self.files {
@@ -69,6 +66,10 @@ impl<'a> Files for Shelf<'a> {
             Err(_) => false,
         }
     }
+
+    ghost left_is = { λ _. refl };
+
+    ghost is_failed_is = { λ _. refl };
 }
 
 /// Adds a copy of a word.

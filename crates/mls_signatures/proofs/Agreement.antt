@@ -1,6 +1,6 @@
 -- Lists of signatures on which two verification functions agree.
 use Rattle.std.proofs.Common.{◌≡◌, List, [], ◌∷◌, ◌++◌, Bool, true, false, cond, not, refl, subst}
-use Rattle.std.specs.Prelude.{◌↔◌, ◌==◌, ◌&&◌}
+use Rattle.std.specs.Prelude.{◌↔◌, ◌==◌, ◌&&◌, if◌then◌else◌}
 use Rattle.std.specs.Str.{bytes_eq}
 use Rattle.std.proofs.lemmas.Bool.{eqb-true}
 use Rattle.std.proofs.lemmas.List.Elements.{All-nil, All-cons, All-head, All-tail, All-filter}
@@ -36,6 +36,11 @@ module _ (G K : VerifyFn) where
   pub back : (xs ys : List SignatureToVerify) → AgreeOn G K (xs ++ ys) → AgreeOn G K ys
   back [] ys h = h
   back (x ∷ xs) ys h = back xs ys (All-tail (Agrees G K) x (xs ++ ys) h)
+
+  -- a list that is given if a test holds
+  pub given : (b : Bool) (qs : List SignatureToVerify) → b ≡ true → AgreeOn G K (if b then qs else []) → AgreeOn G K qs
+  given true qs e h = h
+  given false qs e h = absurd (cc)
 
   back_in : (a q : SignatureToVerify) (qs : List SignatureToVerify) → Agrees G K a → (AgreeOn G K (without_signature a qs) → AgreeOn G K qs)
       → (b : Bool) → is_same a q ≡ b → AgreeOn G K (cond (not b) (q ∷ without_signature a qs) (without_signature a qs)) → AgreeOn G K (q ∷ qs)

@@ -16,7 +16,7 @@ use crate::new_leaf_signatures::{
 };
 use crate::push_signatures::{push_leaf_signature, push_proposal_signatures};
 use crate::signature_list::SignatureList;
-use mls_apply::{ApplyFault, ListItem, PendingProposals, StagedTree, resolve_list};
+use mls_apply::{ApplyFault, ListItem, PendingProposals, Refusal, StagedTree, resolve_list};
 use mls_check::OutOfMemory;
 use mls_msgs::{Commit, Proposal, ProposalOrRef, Sender, UpdatePath};
 use mls_nodes::GroupContext;
@@ -205,7 +205,6 @@ fn apply_and_push_signatures(
         Err(ApplyFault::NoSuchLeaf) => return Ok(()),
         Err(ApplyFault::TooManyLeaves) => return Ok(()),
         Err(ApplyFault::OutOfMemory) => return Err(OutOfMemory),
-        Err(_) => unreachable!(),
     };
     let entries = commit.commit.proposals.as_slice();
     let leaves = added_leaves(alloc, entries, items, added.as_slice());
@@ -282,8 +281,8 @@ fn resolved_items<'a>(
     let committer = Sender::Member(commit.committer);
     match resolve_list(alloc, commit.commit, committer, known) {
         Ok(items) => Ok(Some(items)),
-        Err(ApplyFault::UnknownReference) => Ok(None),
-        Err(ApplyFault::OutOfMemory) => Err(OutOfMemory),
+        Err(Refusal::UnknownReference) => Ok(None),
+        Err(Refusal::OutOfMemory) => Err(OutOfMemory),
         Err(_) => unreachable!(),
     }
 }

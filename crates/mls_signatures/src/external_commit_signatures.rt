@@ -52,7 +52,6 @@ fn apply_and_push_seated_signature(
         Err(ApplyFault::NoSuchLeaf) => return Ok(()),
         Err(ApplyFault::TooManyLeaves) => return Ok(()),
         Err(ApplyFault::OutOfMemory) => return Err(OutOfMemory),
-        Err(_) => unreachable!(),
     };
     drop(added);
     let index = added_leaf(tree.tree());

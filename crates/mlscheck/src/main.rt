@@ -5,7 +5,7 @@
 ghost use Rattle.std.specs.Prelude.{◌≡◌, false};
 
 use mls_cli::{Progress, run_program};
-use mls_program::{StdFiles, read_words, run_fault};
+use mls_program::{LastFailure, Output, StdFiles, note_causes, read_words, run_fault};
 use mls_wire::{Sink, StdSink};
 use std::io::{IsTerminal, Stderr, Stdout};
 use std::process::ExitCode;
@@ -21,27 +21,34 @@ fn is_noted(rt: &HostRuntime, words: &[String]) -> bool {
     }
 }
 
-/// Returns the sink of the report, on standard output. If `is_noted`, its progress is shown on standard error.
+/// The sink of a report.
 ///
 /// There is one type of sink for all reports: each type would have the whole program proved and built for it.
-fn report_sink(rt: &HostRuntime, is_noted: bool) -> Progress<StdSink<Stdout>, StdSink<Stderr>>
-    ensures { ⟦<Progress<StdSink<Stdout>, StdSink<Stderr>> as Sink>⟧.is_failed result ≡ false }
+type ReportSink<'a> = Progress<StdSink<Output<'a, Stdout>>, StdSink<Stderr>>;
+
+/// Returns the sink of the report, on standard output. If `is_noted`, its progress is shown on standard error. `last` is told
+/// why it fails.
+fn report_sink<'a>(rt: &HostRuntime, last: &'a LastFailure, is_noted: bool) -> ReportSink<'a>
+    ensures { ⟦<Progress<StdSink<Output<'a, Stdout>>, StdSink<Stderr>> as Sink>⟧.is_failed result ≡ false }
 {
     let notes = if is_noted {
         Some(StdSink::new(rt.stderr()))
     } else {
         None
     };
-    Progress::new(rt.alloc(), StdSink::new(rt.stdout()), notes)
+    let out = StdSink::new(Output::new(rt.stdout(), last));
+    Progress::new(rt.alloc(), out, notes)
 }
 
 /// Runs the program.
 fn run(rt: &HostRuntime, words: &[String]) -> u8 {
-    let files = StdFiles::new(rt, rt.alloc(), rt.stdin());
-    let mut out = report_sink(rt, is_noted(rt, words));
+    let last = LastFailure::new();
+    let files = StdFiles::new(rt, rt.alloc(), rt.stdin(), words, &last);
+    let mut out = report_sink(rt, &last, is_noted(rt, words));
     let mut notes = StdSink::new(rt.stderr());
     let status = run_program(rt.alloc(), words, &files, &mut out, &mut notes);
     out.finish();
+    note_causes(rt, rt.alloc(), words, &last, status, &mut notes);
     status
 }
 
@@ -49,7 +56,8 @@ fn main(rt: HostRuntime) -> ExitCode {
     let status = match read_words(&rt) {
         Ok(words) => run(&rt, words.as_slice()),
         Err(fault) => {
-            let mut out = report_sink(&rt, false);
+            let last = LastFailure::new();
+            let mut out = report_sink(&rt, &last, false);
             run_fault(&fault, &mut out, &mut StdSink::new(rt.stderr()))
         }
     };

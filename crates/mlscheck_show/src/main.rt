@@ -3,16 +3,21 @@
 //! for no, 2 for a usage error and for another command, 3 for a fault.
 #![tactic(auto)]
 
-use mls_program::{StdFiles, read_words, run_fault, run_show_program};
+use mls_program::{
+    LastFailure, Output, StdFiles, note_causes, read_words, run_fault, run_show_program,
+};
 use mls_wire::StdSink;
 use std::process::ExitCode;
 
 /// Runs the program.
 fn run(rt: &HostRuntime, words: &[String]) -> u8 {
-    let files = StdFiles::new(rt, rt.alloc(), rt.stdin());
-    let mut out = StdSink::new(rt.stdout());
+    let last = LastFailure::new();
+    let files = StdFiles::new(rt, rt.alloc(), rt.stdin(), words, &last);
+    let mut out = StdSink::new(Output::new(rt.stdout(), &last));
     let mut notes = StdSink::new(rt.stderr());
-    run_show_program(rt.alloc(), words, &files, &mut out, &mut notes)
+    let status = run_show_program(rt.alloc(), words, &files, &mut out, &mut notes);
+    note_causes(rt, rt.alloc(), words, &last, status, &mut notes);
+    status
 }
 
 fn main(rt: HostRuntime) -> ExitCode {

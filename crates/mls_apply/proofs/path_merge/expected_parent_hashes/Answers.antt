@@ -2,7 +2,7 @@ use Rattle.std.proofs.Common.{◌≡◌, ◌≢◌, ◌∙◌, [], Some, Ok, Err
 use Rattle.std.specs.Prelude.{option_map, reverse}
 use Rattle.std.proofs.lemmas.Result.{err_from_is_err_and}
 use Rattle.mls_hash.specs.SuiteHash.{hash_of}
-use Rattle.mls_apply.specs.declared.fault.ApplyFault.TheVariants.{PathLength, OutOfMemory}
+use Rattle.mls_apply.specs.declared.refusal.Refusal.TheVariants.{PathLength, OutOfMemory}
 use Rattle.mls_apply.specs.PathRules.{path_length}
 use Rattle.mls_apply.specs.PathParents.{carried, path_parents, parents_of_path}
 use Rattle.mls_apply.specs.PathModel.{path_parents_model}
@@ -47,30 +47,30 @@ returns-clause-rules_hold c =
     let same = c.if-keys-len.false in
     keys-kept c.args.tree.now.tree c.args.committer c.args.keys.now (is_less _ _ c.in_ok-node_indices.ensures.inside) (omega arith)
 
-pub returns-in_err-node_indices-clause-no_such_leaf : goal.returns-in_err-node_indices-clause-no_such_leaf
-returns-in_err-node_indices-clause-no_such_leaf c =
+pub returns-in_err-node_indices-clause-sender_not_member : goal.returns-in_err-node_indices-clause-sender_not_member
+returns-in_err-node_indices-clause-sender_not_member c =
     let p = err_from_is_err_and c.from_residual.result c.from_residual.ensures.1 in
     rw p.1 (keys-by_leaf c.args.tree.now.tree c.args.committer c.args.keys.now _ p.0 p.2 c.in_err-node_indices.ensures.outside)
 
-pub returns-then-keys-len-clause-no_such_leaf : goal.returns-then-keys-len-clause-no_such_leaf
-returns-then-keys-len-clause-no_such_leaf c =
+pub returns-then-keys-len-clause-sender_not_member : goal.returns-then-keys-len-clause-sender_not_member
+returns-then-keys-len-clause-sender_not_member c =
     keys-set c.args.tree.now.tree c.args.committer c.args.keys.now (Err PathLength) (λ e. cc) (is_less _ _ c.in_ok-node_indices.ensures.inside)
 
-pub returns-in_err-keys-clause-no_such_leaf : goal.returns-in_err-keys-clause-no_such_leaf
-returns-in_err-keys-clause-no_such_leaf c =
+pub returns-in_err-keys-clause-sender_not_member : goal.returns-in_err-keys-clause-sender_not_member
+returns-in_err-keys-clause-sender_not_member c =
     let p = err_from_is_err_and c.from_residual-in_err-keys.result c.from_residual-in_err-keys.ensures.1 in
     rw (p.1, p.2) (keys-set c.args.tree.now.tree c.args.committer c.args.keys.now (Err OutOfMemory) (λ e. cc) (is_less _ _ c.in_ok-node_indices.ensures.inside))
 
-pub returns-in_err-new-clause-no_such_leaf : goal.returns-in_err-new-clause-no_such_leaf
-returns-in_err-new-clause-no_such_leaf c =
+pub returns-in_err-new-clause-sender_not_member : goal.returns-in_err-new-clause-sender_not_member
+returns-in_err-new-clause-sender_not_member c =
     let p = err_from_is_err_and c.from_residual-in_err-new.result c.from_residual-in_err-new.ensures.1 in
     rw (p.1, p.2) (keys-set c.args.tree.now.tree c.args.committer c.args.keys.now (Err OutOfMemory) (λ e. cc) (is_less _ _ c.in_ok-node_indices.ensures.inside))
 
-pub returns-in_err-carried-clause-no_such_leaf : goal.returns-in_err-carried-clause-no_such_leaf
-returns-in_err-carried-clause-no_such_leaf c =
+pub returns-in_err-carried-clause-sender_not_member : goal.returns-in_err-carried-clause-sender_not_member
+returns-in_err-carried-clause-sender_not_member c =
     let p = err_from_is_err_and c.from_residual-in_err-carried.result c.from_residual-in_err-carried.ensures.1 in
     rw (p.1, p.2) (keys-set c.args.tree.now.tree c.args.committer c.args.keys.now (Err OutOfMemory) (λ e. cc) (is_less _ _ c.in_ok-node_indices.ensures.inside))
 
-pub returns-clause-no_such_leaf : goal.returns-clause-no_such_leaf
-returns-clause-no_such_leaf c =
+pub returns-clause-sender_not_member : goal.returns-clause-sender_not_member
+returns-clause-sender_not_member c =
     keys-set c.args.tree.now.tree c.args.committer c.args.keys.now (Ok c.in_ok-carried.field-0) (λ e. cc) (is_less _ _ c.in_ok-node_indices.ensures.inside)

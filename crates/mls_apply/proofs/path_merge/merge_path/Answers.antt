@@ -3,7 +3,7 @@ use Rattle.mls_tree.specs.TreeOperations.{blank_path, put_leaf}
 use Rattle.mls_tree.specs.Tree.{leaf_count}
 use Rattle.mls_tree.proofs.Choices.{is_less}
 use Rattle.mls_hash.specs.SuiteHash.{hash_of}
-use Rattle.mls_apply.specs.declared.fault.ApplyFault.TheVariants.{NoSuchLeaf}
+use Rattle.mls_apply.specs.declared.refusal.Refusal.TheVariants.{SenderNotMember}
 use Rattle.mls_apply.specs.AppliedList.{applied_tree}
 use Rattle.mls_apply.specs.PathRules.{node_keys}
 use Rattle.mls_apply.specs.PathParents.{changed}
@@ -16,8 +16,8 @@ pub returns-then-committer-leaf_count-clause-refused : goal.returns-then-committ
 returns-then-committer-leaf_count-clause-refused c _ =
     path-no_leaf (applied_tree c.args.applied.tree.tree c.args.applied.added) c.args.committer c.args.path.now (hash_of c.args.suite) (search rules)
 
-pub returns-then-committer-leaf_count-clause-no_such_leaf : goal.returns-then-committer-leaf_count-clause-no_such_leaf
-returns-then-committer-leaf_count-clause-no_such_leaf c =
+pub returns-then-committer-leaf_count-clause-sender_not_member : goal.returns-then-committer-leaf_count-clause-sender_not_member
+returns-then-committer-leaf_count-clause-sender_not_member c =
     (λ _. path-no_leaf (applied_tree c.args.applied.tree.tree c.args.applied.added) c.args.committer c.args.path.now (hash_of c.args.suite) (search rules), λ _. refl)
 
 pub returns-in-Ok-clause-merged : goal.returns-in-Ok-clause-merged
@@ -28,11 +28,11 @@ returns-in-Ok-clause-merged c =
     ∙ (λ i. Some (put_leaf 0 (changed 0 (blank_path (sym c.checked_nodes-new.ensures.tree i) c.args.committer) cs) c.args.committer (Some (sym c.in-Ok.ensures.made.leaf i))))
     ∙ (λ i. Some (sym c.put_path.ensures i))
 
-pub returns-in-Err-clause-no_such_leaf : goal.returns-in-Err-clause-no_such_leaf
-returns-in-Err-clause-no_such_leaf c =
+pub returns-in-Err-clause-sender_not_member : goal.returns-in-Err-clause-sender_not_member
+returns-in-Err-clause-sender_not_member c =
     let g = applied_tree c.args.applied.tree.tree c.args.applied.added in
     let set = is_less c.args.committer (leaf_count c.args.applied.tree.tree) (search rules) in
     path-set g c.args.committer c.args.path.now (hash_of c.args.suite)
     (λ h.
-    let same = same_fault c.in-Err.fault NoSuchLeaf _ _ h in
+    let same = same_fault c.in-Err.refusal SenderNotMember _ _ h in
     path-mapped g c.args.committer c.args.path.now (hash_of c.args.suite) (c.in-Err.ensures.refused (λ e. cc (e, same)) ∙ ap Some same)) set

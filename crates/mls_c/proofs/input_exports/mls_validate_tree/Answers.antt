@@ -1,9 +1,8 @@
-use Rattle.std.proofs.Common.{subst}
-use Rattle.mls_check.specs.Signatures.{VerifyFn}
+use Rattle.std.proofs.Common.{rules}
 use Rattle.mls_c.specs.Starts.{PutsTreeFinding}
 use Rattle.mls_c.proofs.input_exports.mls_validate_tree.Goals as goal
 
-pub returns-in-Ok-clause-finds : goal.returns-in-Ok-clause-finds
-returns-in-Ok-clause-finds c =
-    λ _. subst (λ (G : VerifyFn). PutsTreeFinding G c.args.context.now c.args.tree.now c.args.tree_hash.now c.put_tree_hash.new.tree_hash c.put_tree_hash.new.needed c.put_tree_hash.result)
-    c.in-Ok.ensures.receipts c.put_tree_hash.ensures
+pub returns-in-Ok-tree_finding-clause-finds : goal.returns-in-Ok-tree_finding-clause-finds
+returns-in-Ok-tree_finding-clause-finds c =
+    λ _. let items = c.in-Ok-to_vec.ensures.items_if_clones_equal (search rules) in
+    PutsTreeFinding.finds c.in-Ok-tree_finding.finding (rw (items, c.in-Ok.ensures.receipts) at c.in-Ok-tree_finding.ensures) c.put_finding.ensures

@@ -1,11 +1,11 @@
-use Rattle.std.proofs.Common.{ap, inl, inr, sym, Option, Some, Err, ◌∙◌}
+use Rattle.std.proofs.Common.{ap, sym, Option, Some, Err, ◌∙◌}
 use Rattle.std.proofs.lemmas.Result.{err_from_is_err_and}
 use Rattle.mls_hash.specs.SuiteHash.{hash_of}
 use Rattle.mls_apply.specs.AppliedList.{AppliedTree, outcome}
 use Rattle.mls_apply.specs.RuleLists.{first_failing}
 use Rattle.mls_follow.specs.CommitTree.{committer_rules, change_rules}
-use Rattle.mls_follow.specs.MessageRules.{CommitterTree, refusal_of}
-use Rattle.mls_follow.proofs.Committing.{no_outcome, change_committer_tree, changed_committer_tree}
+use Rattle.mls_follow.specs.MessageRules.{CommitterTree}
+use Rattle.mls_follow.proofs.Committing.{not_applied, change_committer_tree, changed_committer_tree}
 use Rattle.mls_follow.proofs.Staying.{committer_present}
 use Rattle.mls_follow.proofs.commit_changes.change_tree.Goals as goal
 
@@ -17,11 +17,9 @@ returns-in_err-added-clause-refused c =
     let no_such_leaf = rw c.as_slice.ensures.value at c.in_err-added.ensures.no_such_leaf in
     let too_many_leaves = rw c.as_slice.ensures.value at c.in_err-added.ensures.too_many_leaves in
     let failed = ap (λ (o : Option AppliedTree). first_failing (change_rules (hash_of c.args.suite) commit.committer commit.path.now o)) in
-    rw (p.1, p.2) (λ not_memory. elim c.in_err-added.ensures.possible_errors [
-      | inl n ↦ failed (no_outcome commit.items.items c.args.tree.now.tree (no_such_leaf (ap Err n))) ∙ ap (λ fault. Some (refusal_of fault)) (sym n)
-      | inr (inl n) ↦ failed ((too_many_leaves (ap Err n)).1) ∙ ap (λ fault. Some (refusal_of fault)) (sym n)
-      | inr (inr n) ↦ absurd (not_memory (ap refusal_of n))
-    ])
+    rw (p.1, p.2) (λ not_memory.
+    let none = not_applied c.in_err-added.field-0.0 commit.items.items c.args.tree.now.tree (λ e. no_such_leaf (ap Err e)) (λ e. (too_many_leaves (ap Err e)).1) not_memory in
+    failed none.0 ∙ ap Some (sym none.1))
 
 -- the committer's leaf stays
 pub committer_in_tree-requires : goal.committer_in_tree-requires

@@ -1,10 +1,9 @@
-use Rattle.std.proofs.Common.{rules, ap, sym, ◌∙◌, ◌≡◌, true}
+use Rattle.std.proofs.Common.{rules, sym, ◌∙◌, ◌≡◌, true}
 use Rattle.std.specs.Prelude.{nat_lt}
 use Rattle.std.proofs.lemmas.Result.{err_from_is_err_and}
 use Rattle.mls_tree.proofs.Choices.{is_less}
 use Rattle.mls_msgs.specs.declared.framed_content.Sender.TheVariants.{Member}
 use Rattle.mls_apply.specs.ListRules.{list_refusal}
-use Rattle.mls_follow.specs.MessageRules.{refusal_of}
 use Rattle.mls_follow.specs.State.{last_epoch}
 use Rattle.mls_follow.specs.GroupModel.{group_state}
 use Rattle.mls_follow.specs.GroupModelInternal.{with_known}
@@ -32,4 +31,4 @@ returns-in_err-check_list-clause-refused g c =
     (g.C.SignatureCheck.meaning c.args.checker.now) (with_known (group_state group) c.args.received.now.known.now) group.required
     c.args.received.now.committer c.args.received.now.commit.now later c.in_ok-items.items.items c.in_ok-items.ensures.items c.in_ok-check_inline.ensures.rules_hold
     c.in_err-check_list.field-0.0
-    ((λ i. list_refusal (Member c.args.received.now.committer) (sym c.as_slice.ensures.value i) (sym c.is_some.ensures i)) ∙ c.in_err-check_list.ensures.refused (λ e. not_memory (ap refusal_of e))))
+    ((λ i. list_refusal (Member c.args.received.now.committer) (sym c.as_slice.ensures.value i) (sym c.is_some.ensures i)) ∙ c.in_err-check_list.ensures.refused not_memory))

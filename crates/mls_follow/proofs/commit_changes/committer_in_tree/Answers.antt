@@ -2,7 +2,6 @@ use Rattle.std.proofs.Common.{◌∙◌, Err, ap, inl, inr}
 use Rattle.std.proofs.lemmas.Result.{err_from_is_err_and}
 use Rattle.mls_apply.specs.AppliedList.{applied_tree}
 use Rattle.mls_apply.proofs.Leaves.{leaf_inside}
-use Rattle.mls_follow.specs.MessageRules.{refusal_of}
 use Rattle.mls_follow.proofs.Committing.{placed_there, no_committer_tree}
 use Rattle.mls_follow.proofs.commit_changes.committer_in_tree.Goals as goal
 
@@ -18,9 +17,9 @@ returns-in_err-leaf-in-NewMemberCommit-clause-refused c =
     elim c.in_err-leaf-in-NewMemberCommit.ensures.possible_errors [
       | inl full ↦ (
         no_committer_tree (applied_tree c.args.tree.now.tree c.args.added) (c.in_err-leaf-in-NewMemberCommit.ensures.too_many_leaves.0 (ap Err full)),
-        ap refusal_of full,
+        full,
       )
-      | inr memory ↦ absurd (own (ap refusal_of memory))
+      | inr memory ↦ absurd (own memory)
     ])
 
 pub returns-in_ok-leaf-in-NewMemberCommit-clause-committer_tree : goal.returns-in_ok-leaf-in-NewMemberCommit-clause-committer_tree

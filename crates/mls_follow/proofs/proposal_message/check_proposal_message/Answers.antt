@@ -1,7 +1,6 @@
-use Rattle.std.proofs.Common.{◌≡◌, ◌∙◌, true, ap, rules}
-use Rattle.std.specs.Prelude.{option_map}
+use Rattle.std.proofs.Common.{◌≡◌, ◌∙◌, true, rules}
 use Rattle.std.proofs.lemmas.Result.{err_from_is_err_and}
-use Rattle.mls_follow.specs.MessageRules.{refusal_of, is_new_proposal}
+use Rattle.mls_follow.specs.MessageRules.{is_new_proposal}
 use Rattle.mls_follow.specs.GroupModel.{group_state}
 use Rattle.mls_follow.proofs.Committing.{offer_word}
 use Rattle.mls_follow.proofs.proposal_message.check_proposal_message.Goals as goal
@@ -14,4 +13,4 @@ returns-in_err-check_proposal-clause-refused g c =
     let refused = rw c.tree.ensures at c.in_err-check_proposal.ensures.refused in
     rw (p.1, p.2) (λ own.
     offer_word _ (group_state c.args.group.now) c.args.sent.now.auth.now c.args.sent.now.sender c.args.sent.now.proposal.now fresh c.requires.present
-    ∙ ap (option_map refusal_of) (refused (λ e. own (ap refusal_of e))))
+    ∙ refused own)

@@ -12,5 +12,5 @@ returns g c =
     let signed = info_signed (g.C.SignatureCheck.meaning c.args.checker.now) info c.args.signer.now context.added c.encoded-extensions.result.now c.of-extensions_len.result
     c.of-tag_len.result context_is c.encoded-extensions.ensures.encoded c.of-extensions_len.ensures tag_fits (search) in
     let all = both_added (λ b. b.now) c.add_to.new.pieces.items _ c.extend_from_slice.new.self.items c.in_ok-extend_from_slice.ensures.items in
-    let asked = rw (c.as_slice-3.ensures.value, all, context.new_is, c.new-tbs.ensures.items, c.as_slice.ensures, c.as_slice-2.ensures, c.as_slice-tag.ensures.bytes, c.to_be_bytes-index.ensures, c.signature_key-key.ensures, c.as_slice-signature.ensures.bytes) at c.signed_in_pieces.ensures in
-    rw signed at asked
+    let answer = rw (c.as_slice-3.ensures.value, all, context.new_is, c.new-tbs.ensures.items, c.as_slice.ensures, c.as_slice-2.ensures, c.as_slice-tag.ensures.bytes, c.to_be_bytes-index.ensures, c.signature_key-key.ensures, c.as_slice-signature.ensures.bytes) at c.signed_in_pieces.ensures in
+    rw signed at answer

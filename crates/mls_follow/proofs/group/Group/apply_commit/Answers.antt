@@ -1,4 +1,4 @@
-use Rattle.std.proofs.Common.{subst}
+use Rattle.std.proofs.Common.{rules, subst}
 use Rattle.mls_nodes.specs.declared.required_capabilities.RequiredCapabilities.{RequiredCapabilities}
 use Rattle.mls_apply.specs.AppliedList.{outcome}
 use Rattle.mls_apply.specs.RuleLists.{first_failing}
@@ -14,11 +14,12 @@ begin_epoch-requires-clause-requirements g c =
     rw c.in-Ok-stage_commit.ensures.extensions
     (required_after-requires group.context group.required c.args.commit.now.items.items group.requires_these _ c.requires.requirements)
 
-pub returns-in-Err-stage_commit-clause-refused : goal.returns-in-Err-stage_commit-clause-refused
-returns-in-Err-stage_commit-clause-refused g c =
+pub returns-in-Err-stage_commit : goal.returns-in-Err-stage_commit
+returns-in-Err-stage_commit g c =
     let group = c.args.self.now in
     let commit = c.args.commit.now in
     let o = outcome commit.items.items group.tree.tree in
-    subst (λ (required : RequiredCapabilities).
+    let refused = subst (λ (required : RequiredCapabilities).
     FailsWithRule (first_failing (applied_tree_rules (g.C.SignatureCheck.meaning c.args.checker.now) (group_state group) required commit.committer commit.path.now o)) c.in-Err-stage_commit.refusal)
-    c.required_after.ensures c.in-Err-stage_commit.ensures.refused
+    c.required_after.ensures c.in-Err-stage_commit.ensures.refused in
+    (tt, tt, refused, (search rules))

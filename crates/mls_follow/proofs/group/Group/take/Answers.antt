@@ -25,6 +25,5 @@ pub returns-in-Public : goal.returns-in-Public
 returns-in-Public g c =
     let group = c.args.self.now in
     let encodes = subst (λ m. EncodesMessage group.profile m c.args.bytes.now) c.in-Public.is c.requires.input in
-    let taken = c.take_frame.ensures in
     frame_taken _ (group_state group) group.required group.requires_these c.in-Public.public c.new-frame.result c.new-frame.ensures
-    c.take_frame.result (group_state c.take_frame.new.self) taken.rules_hold taken.next taken.refused taken.unchanged_on_error c.args.bytes.now encodes
+    c.take_frame.result (group_state c.take_frame.new.self) c.take_frame.ensures c.args.bytes.now encodes

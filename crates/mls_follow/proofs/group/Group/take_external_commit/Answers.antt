@@ -12,8 +12,8 @@ use Rattle.mls_follow.specs.State.{last_epoch}
 use Rattle.mls_follow.proofs.Committing.{past_join}
 use Rattle.mls_follow.proofs.group.Group.take_external_commit.Goals as goal
 
-pub returns-clause-rules_hold : goal.returns-clause-rules_hold
-returns-clause-rules_hold g c =
+pub returns : goal.returns
+returns g c =
     let G = g.C.SignatureCheck.meaning c.args.checker.now in
     let group = c.args.self.now in
     let commit = c.args.commit.now in
@@ -23,17 +23,4 @@ returns-clause-rules_hold g c =
     ≡ first_failing (rules_with_requirements G (group_state group) NewMemberCommit commit.path (outcome items group.tree.tree) (required_after group.required (proposed_extensions items)))
     = past_join G (group_state group) group.required commit c.requires.path (is_less group.context.epoch last_epoch c.in_ok-items.ensures.not_last_epoch) c.in_ok-items.ensures.list
     ∙ ap (λ (xs : List ListItem). first_failing (rules_with_requirements G (group_state group) NewMemberCommit commit.path (outcome xs group.tree.tree) (required_after group.required (proposed_extensions xs)))) (sym same) in
-    rw whole c.take_resolved-answer.ensures.rules_hold
-
-pub returns-clause-refused : goal.returns-clause-refused
-returns-clause-refused g c =
-    let G = g.C.SignatureCheck.meaning c.args.checker.now in
-    let group = c.args.self.now in
-    let commit = c.args.commit.now in
-    let items = c.in_ok-items.items.items in
-    let same = c.in_ok-items.ensures.items in
-    let whole : external_commit_refusal G (group_state group) group.required commit
-    ≡ first_failing (rules_with_requirements G (group_state group) NewMemberCommit commit.path (outcome items group.tree.tree) (required_after group.required (proposed_extensions items)))
-    = past_join G (group_state group) group.required commit c.requires.path (is_less group.context.epoch last_epoch c.in_ok-items.ensures.not_last_epoch) c.in_ok-items.ensures.list
-    ∙ ap (λ (xs : List ListItem). first_failing (rules_with_requirements G (group_state group) NewMemberCommit commit.path (outcome xs group.tree.tree) (required_after group.required (proposed_extensions xs)))) (sym same) in
-    rw whole c.take_resolved-answer.ensures.refused
+    rw (whole, ← same) c.take_resolved-answer.ensures

@@ -1,65 +1,53 @@
-use Rattle.std.proofs.Common.{rules}
+use Rattle.std.proofs.Common.{rules, refl}
+use Rattle.std.proofs.lemmas.Result.{err_from_is_err_and}
 use Rattle.mls_follow.specs.GroupModel.{group_state}
 use Rattle.mls_follow.specs.MessageRulesInternal.{frame_refusal}
-use Rattle.mls_follow.proofs.Outside.{by_committer, by_external, by_joiner, joiner_kept, joiner_refused, outside_kept, outside_refused}
+use Rattle.mls_follow.proofs.Outside.{by_external, by_joiner, after_external, after_joiner, member_taken, outside_taken, joiner_taken}
 use Rattle.mls_follow.proofs.group.Group.take_frame.Goals as goal
 
-pub returns-in-External-clause-rules_hold : goal.returns-in-External-clause-rules_hold
-returns-in-External-clause-rules_hold g c =
-    let G = g.C.SignatureCheck.meaning c.args.checker.now in
-    let s = group_state c.args.self.now in
-    let required = c.args.self.now.required in
-    let a = c.args.frame.now in
-    let sender = a.content.sender in
-    let header = c.in_ok-check_header.ensures.rules_hold G required in
-    outside_kept G s required a sender (frame_refusal G s required a) header (by_external G s required a sender c.in-External.field-0 (search rules)) c.take_outside.result c.take_outside.ensures.rules_hold
+pub returns-in_err-check_header : goal.returns-in_err-check_header
+returns-in_err-check_header g c =
+    let p = err_from_is_err_and c.from_residual.result c.from_residual.ensures.1 in
+    rw (p.1, p.2) (tt, tt, λ own. c.in_err-check_header.ensures.refused (g.C.SignatureCheck.meaning c.args.checker.now) c.args.self.now.required, refl)
 
-pub returns-in-External-clause-refused : goal.returns-in-External-clause-refused
-returns-in-External-clause-refused g c =
+pub returns-in-Member : goal.returns-in-Member
+returns-in-Member g c =
     let G = g.C.SignatureCheck.meaning c.args.checker.now in
     let s = group_state c.args.self.now in
     let required = c.args.self.now.required in
     let a = c.args.frame.now in
     let sender = a.content.sender in
     let header = c.in_ok-check_header.ensures.rules_hold G required in
-    outside_refused G s required a sender (frame_refusal G s required a) header (by_external G s required a sender c.in-External.field-0 (search rules)) c.take_outside.result c.take_outside.ensures.refused
+    member_taken G s required a sender (frame_refusal G s required a) header c.take_member_frame.result (group_state c.take_member_frame.new.self) c.in-Member.sender (search rules) c.take_member_frame.ensures
 
-pub returns-in-NewMemberProposal-clause-rules_hold : goal.returns-in-NewMemberProposal-clause-rules_hold
-returns-in-NewMemberProposal-clause-rules_hold g c =
+pub returns-in-External : goal.returns-in-External
+returns-in-External g c =
     let G = g.C.SignatureCheck.meaning c.args.checker.now in
     let s = group_state c.args.self.now in
     let required = c.args.self.now.required in
     let a = c.args.frame.now in
     let sender = a.content.sender in
     let header = c.in_ok-check_header.ensures.rules_hold G required in
-    outside_kept G s required a sender (frame_refusal G s required a) header (by_joiner G s required a sender (search rules)) c.take_outside-in-NewMemberProposal.result c.take_outside-in-NewMemberProposal.ensures.rules_hold
+    outside_taken G s required a sender (frame_refusal G s required a) header c.take_outside.result (group_state c.take_outside.new.self)
+    (by_external G s required a sender c.in-External.field-0 (search rules)) (after_external G s required a sender c.in-External.field-0 (search rules)) c.take_outside.ensures
 
-pub returns-in-NewMemberProposal-clause-refused : goal.returns-in-NewMemberProposal-clause-refused
-returns-in-NewMemberProposal-clause-refused g c =
+pub returns-in-NewMemberProposal : goal.returns-in-NewMemberProposal
+returns-in-NewMemberProposal g c =
     let G = g.C.SignatureCheck.meaning c.args.checker.now in
     let s = group_state c.args.self.now in
     let required = c.args.self.now.required in
     let a = c.args.frame.now in
     let sender = a.content.sender in
     let header = c.in_ok-check_header.ensures.rules_hold G required in
-    outside_refused G s required a sender (frame_refusal G s required a) header (by_joiner G s required a sender (search rules)) c.take_outside-in-NewMemberProposal.result c.take_outside-in-NewMemberProposal.ensures.refused
+    outside_taken G s required a sender (frame_refusal G s required a) header c.take_outside-in-NewMemberProposal.result (group_state c.take_outside-in-NewMemberProposal.new.self)
+    (by_joiner G s required a sender (search rules)) (after_joiner G s required a sender (search rules)) c.take_outside-in-NewMemberProposal.ensures
 
-pub returns-in-NewMemberCommit-clause-rules_hold : goal.returns-in-NewMemberCommit-clause-rules_hold
-returns-in-NewMemberCommit-clause-rules_hold g c =
+pub returns-in-NewMemberCommit : goal.returns-in-NewMemberCommit
+returns-in-NewMemberCommit g c =
     let G = g.C.SignatureCheck.meaning c.args.checker.now in
     let s = group_state c.args.self.now in
     let required = c.args.self.now.required in
     let a = c.args.frame.now in
     let sender = a.content.sender in
     let header = c.in_ok-check_header.ensures.rules_hold G required in
-    joiner_kept G s required a sender (frame_refusal G s required a) header (by_committer G s required a sender (search rules)) c.take_joiner.result c.take_joiner.ensures.rules_hold
-
-pub returns-in-NewMemberCommit-clause-refused : goal.returns-in-NewMemberCommit-clause-refused
-returns-in-NewMemberCommit-clause-refused g c =
-    let G = g.C.SignatureCheck.meaning c.args.checker.now in
-    let s = group_state c.args.self.now in
-    let required = c.args.self.now.required in
-    let a = c.args.frame.now in
-    let sender = a.content.sender in
-    let header = c.in_ok-check_header.ensures.rules_hold G required in
-    joiner_refused G s required a sender (frame_refusal G s required a) header (by_committer G s required a sender (search rules)) c.take_joiner.result c.take_joiner.ensures.refused
+    joiner_taken G s required a sender (frame_refusal G s required a) header c.take_joiner.result (group_state c.take_joiner.new.self) (search rules) c.take_joiner.ensures

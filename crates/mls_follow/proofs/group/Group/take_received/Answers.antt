@@ -13,8 +13,8 @@ use Rattle.mls_follow.specs.State.{last_epoch}
 use Rattle.mls_follow.proofs.Committing.{of_commit, past_list}
 use Rattle.mls_follow.proofs.group.Group.take_received.Goals as goal
 
-pub returns-clause-rules_hold : goal.returns-clause-rules_hold
-returns-clause-rules_hold g c =
+pub returns : goal.returns
+returns g c =
     let G = g.C.SignatureCheck.meaning c.args.checker.now in
     let group = c.args.self.now in
     let s = with_known (group_state group) c.args.received.now.known.now in
@@ -24,17 +24,4 @@ returns-clause-rules_hold g c =
     ≡ first_failing (rules_with_requirements G s (Member c.args.received.now.committer) commit.path (outcome items group.tree.tree) (required_after group.required (proposed_extensions items)))
     = of_commit G s group.required c.args.auth.now c.args.received.now.committer commit
     ∙ past_list G s group.required c.args.received.now.committer commit (is_less group.context.epoch last_epoch c.in_ok-items.ensures.not_last_epoch) items c.in_ok-items.ensures.items c.in_ok-items.ensures.inline c.in_ok-items.ensures.list in
-    rw whole c.take_resolved-answer.ensures.rules_hold
-
-pub returns-clause-refused : goal.returns-clause-refused
-returns-clause-refused g c =
-    let G = g.C.SignatureCheck.meaning c.args.checker.now in
-    let group = c.args.self.now in
-    let s = with_known (group_state group) c.args.received.now.known.now in
-    let commit = c.args.received.now.commit.now in
-    let items = c.in_ok-items.items.items in
-    let whole : handshake_refusal G s group.required c.args.auth.now c.args.received.now.committer (contents.Commit commit)
-    ≡ first_failing (rules_with_requirements G s (Member c.args.received.now.committer) commit.path (outcome items group.tree.tree) (required_after group.required (proposed_extensions items)))
-    = of_commit G s group.required c.args.auth.now c.args.received.now.committer commit
-    ∙ past_list G s group.required c.args.received.now.committer commit (is_less group.context.epoch last_epoch c.in_ok-items.ensures.not_last_epoch) items c.in_ok-items.ensures.items c.in_ok-items.ensures.inline c.in_ok-items.ensures.list in
-    rw whole c.take_resolved-answer.ensures.refused
+    rw (whole, c.in_ok-items.ensures.items) c.take_resolved-answer.ensures

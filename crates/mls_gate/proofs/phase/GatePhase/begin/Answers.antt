@@ -1,10 +1,23 @@
-use Rattle.std.proofs.Common.{ap, refl, sym, ◌∙◌}
-use Rattle.std.specs.Prelude.{string_bytes}
-use Rattle.mls_gate.specs.GateSteps.{phase_of}
-use Rattle.mls_gate.proofs.Replying.{broken-at}
+use Rattle.std.proofs.Common.{◌∙◌, Some, None, ap, sym, subst, false, true}
+use Rattle.mls_gate.specs.GateSteps.{phase_of, IsReady}
+use Rattle.mls_gate.specs.declared.request.Request.TheVariants.{Begin}
+use Rattle.mls_gate.proofs.Answering.{begun, not-begun}
+use Rattle.mls_gate.proofs.Replying.{replies-at, unopened}
 use Rattle.mls_gate.proofs.phase.GatePhase.begin.Goals as goal
 
-pub returns-in-Following-clause-answered : goal.returns-in-Following-clause-answered
-returns-in-Following-clause-answered g c rest =
-    broken-at (λ a. string_bytes a.text) (λ a. a.is_last) c.broken.result _ _ _ rest _
-    (ap (phase_of g.C.SignatureCheck.meaning) (sym c.replace.ensures.value ∙ c.in-Following.is)) refl c.broken.ensures.text c.broken.ensures.last
+pub returns-in_default-clause-answered : goal.returns-in_default-clause-answered
+returns-in_default-clause-answered g c rest =
+    unopened g.C.SignatureCheck.meaning c.args.self.now (λ start checker e. c.in_default.not-Opening start checker (c.replace.ensures.value ∙ e)) rest
+
+pub returns-in_ok-text-in-Ok-clause-answered : goal.returns-in_ok-text-in-Ok-clause-answered
+returns-in_ok-text-in-Ok-clause-answered g c rest =
+    let m = g.C.SignatureCheck.meaning in
+    replies-at _ _ (ap (phase_of m) (sym c.replace.ensures.value ∙ c.in-Opening.is)) (Some Begin) rest _ _ false
+    (begun _ _ _ _ _ c.in-Ok.ensures.first c.in_ok-text-in-Ok.ensures c.in-Ok.ensures.checker)
+
+pub returns-in_ok-finding_line-in-Err-Found-clause-answered : goal.returns-in_ok-finding_line-in-Err-Found-clause-answered
+returns-in_ok-finding_line-in-Err-Found-clause-answered g c rest =
+    let m = g.C.SignatureCheck.meaning in
+    let at = ap (phase_of m) (sym c.replace.ensures.value ∙ c.in-Opening.is) in
+    let refused = rw c.in-Err-Found.field-0-is at c.in-Err-Found.ensures.refused in
+    replies-at _ _ at (Some Begin) rest None _ true (not-begun _ _ _ _ None (subst IsReady at c.requires) refused c.in_ok-finding_line-in-Err-Found.ensures)

@@ -1,15 +1,19 @@
-use Rattle.std.proofs.Common.{ap, refl}
-use Rattle.std.specs.Prelude.{string_bytes}
+use Rattle.std.proofs.Common.{rules, arith, Some, false, ap, refl}
+use Rattle.mls_report.proofs.Answered.{answered}
 use Rattle.mls_gate.specs.GateSteps.{phase_of}
-use Rattle.mls_gate.proofs.Replying.{broken-at}
+use Rattle.mls_gate.specs.declared.request.Request.TheVariants.{Process}
+use Rattle.mls_gate.proofs.Answering.{judged}
+use Rattle.mls_gate.proofs.Replying.{replies-at, unstarted}
 use Rattle.mls_gate.proofs.phase.GatePhase.process.Goals as goal
 
-pub returns-in-Opening-clause-answered : goal.returns-in-Opening-clause-answered
-returns-in-Opening-clause-answered g c =
-    broken-at (λ a. string_bytes a.text) (λ a. a.is_last) c.broken.result _ _ _ _ _ (ap (phase_of g.C.SignatureCheck.meaning) c.in-Opening.is) refl
-    c.broken.ensures.text c.broken.ensures.last
+pub returns-in_default-clause-answered : goal.returns-in_default-clause-answered
+returns-in_default-clause-answered g c =
+    unstarted g.C.SignatureCheck.meaning c.args.self.now c.in_default.not-Following (Some Process) c.args.message.now (λ i G. refl)
 
-pub returns-in-Over-clause-answered : goal.returns-in-Over-clause-answered
-returns-in-Over-clause-answered g c =
-    broken-at (λ a. string_bytes a.text) (λ a. a.is_last) c.broken-in-Over.result _ _ _ _ _ (ap (phase_of g.C.SignatureCheck.meaning) c.in-Over.is) refl
-    c.broken-in-Over.ensures.text c.broken-in-Over.ensures.last
+pub returns-clause-answered : goal.returns-clause-answered
+returns-clause-answered g c =
+    let t = c.take-answer.ensures in
+    replies-at _ _ (ap (phase_of g.C.SignatureCheck.meaning) c.in-Following.is) (Some Process) c.args.message.now _ _ false
+    (judged _ _ _ _ _ c.take-answer.result _
+    (answered _ _ _ c.take-answer.result _ t.accepted t.next t.refused t.unchanged_on_error (first_of (search rules, grind arith)))
+    c.in_ok-message_answer_line.ensures t.checker)

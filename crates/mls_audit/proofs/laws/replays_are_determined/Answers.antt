@@ -1,6 +1,0 @@
-use Rattle.mls_report.proofs.TurnsOnce.{one_log}
-use Rattle.mls_audit.proofs.ReplaysOnce.{one_replay, one_state_replay}
-use Rattle.mls_audit.proofs.laws.replays_are_determined.Goals as goal
-
-pub returns : goal.returns
-returns c = record { log = one_log; report = one_replay; stored = one_state_replay }

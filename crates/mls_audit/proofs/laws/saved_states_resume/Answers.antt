@@ -1,5 +1,0 @@
-use Rattle.mls_audit.proofs.SavedStates.{saved_resume, later_follow}
-use Rattle.mls_audit.proofs.laws.saved_states_resume.Goals as goal
-
-pub returns : goal.returns
-returns c = record { resume = saved_resume; later = later_follow }

@@ -1,0 +1,141 @@
+//! The report of the gate.
+
+ghost use Rattle.std.specs.Prelude.{◌≡◌, ◌↔◌, Err, false, true, IfOk, IfErr};
+ghost use Rattle.mls_follow.specs.CoveredLogs.{all_good};
+ghost use Rattle.mls_follow.specs.State.{State};
+ghost use Rattle.mls_start.specs.Inputs.{inputs_of};
+ghost use Rattle.mls_start.specs.StartFindings.{IsFirstState};
+ghost use Rattle.mls_gate.specs.GateReport.{Gates, GatesPart, ReportsRecords, RecordsPart};
+ghost use Rattle.mls_gate.specs.GateSteps.{phase_of, IsReady, Answered, AnswersIn, StopsAnswering};
+ghost use Rattle.mls_gate.specs.Phases.{Opening};
+
+use crate::phase::{BROKEN, GatePhase};
+use crate::signature_lines::write_query;
+use mls_check::LearningCheck;
+use mls_report::{next_record, report_finding};
+use mls_show::{RunFault, Verdict, write_text};
+use mls_start::{StartBytes, StartFailure, TrustingStart};
+use mls_wire::{LogStep, Records, Sink, Source};
+use std::alloc::Global;
+
+/// Answers a record, and writes its lines. Returns whether they end the gate.
+fn answer_record<C: LearningCheck, K: Sink>(
+    alloc: Global,
+    phase: &mut GatePhase<C>,
+    body: &[u8],
+    out: &mut K,
+) -> Result<bool, RunFault>
+    requires ready { IsReady (phase_of C.meaning phase.old) }
+    requires out { K.is_failed out.old ≡ false }
+    ensures printed { IfOk result (Answered (AnswersIn (phase_of C.meaning phase.old) body.now)
+        (phase_of C.meaning phase.new) (K.written out.old) (K.written out.new)) }
+    ensures effect_on_error { IfErr result (StopsAnswering (AnswersIn (phase_of C.meaning phase.old) body.now)
+        (phase_of C.meaning phase.new) (K.written out.old) (K.written out.new)) }
+    ensures write { (result ≡ Err RunFault.Write) ↔ (K.is_failed out.new ≡ true) }
+{
+    let answer = phase.answer(alloc, body, out)?;
+    write_text(out, answer.text())?;
+    Ok(answer.is_last())
+}
+
+/// Answers the records of a gate whose follower has not started, and writes the lines of each before the next is read.
+fn serve<R: Source, C: LearningCheck, K: Sink>(
+    alloc: Global,
+    start: StartBytes,
+    records: &mut R,
+    checker: C,
+    out: &mut K,
+) -> Result<Verdict, RunFault>
+    requires ready { (s : State) × IsFirstState all_good (inputs_of start) s }
+    requires records { R.is_failed records.old ≡ false }
+    requires out { K.is_failed out.old ≡ false }
+    ensures printed { IfOk result (ReportsRecords (Opening (inputs_of start) (C.meaning checker))
+        (R.left records.old) (R.left records.new) (K.written out.old) (K.written out.new)) }
+    ensures effect_on_error { IfErr result (RecordsPart (Opening (inputs_of start) (C.meaning checker))
+        (R.left records.old) (R.left records.new) (K.written out.old) (K.written out.new)) }
+    ensures read { (result ≡ Err RunFault.Read) ↔ (R.is_failed records.new ≡ true) }
+    ensures write { (result ≡ Err RunFault.Write) ↔ (K.is_failed out.new ≡ true) }
+{
+    let mut phase = GatePhase::Opening { start, checker };
+    let mut reader = Records::new(alloc, u32::MAX);
+    'records: for n in 0..u32::MAX as u64 + 2 {
+        match next_record(&mut reader, records)? {
+            LogStep::Record => {
+                if answer_record(alloc, &mut phase, reader.body(), out)? {
+                    return Ok(Verdict::No);
+                }
+            }
+            LogStep::End => return Ok(phase.end_verdict()),
+            LogStep::Broken => {
+                write_text(out, BROKEN)?;
+                return Ok(Verdict::No);
+            }
+            LogStep::Over => unreachable!(),
+        }
+    }
+    unreachable!()
+}
+
+/// Follows one group over records. If no follower starts or resumes from `start` though each signature is good, it writes
+/// the line of the finding ([`mls_report::report_finding`]); the verdict is `No` and no record is read.
+///
+/// Else it writes a line for each signature of the start or of the resumption ([`StartBytes::trusting`]) that the checker
+/// does not accept, and one with their number. It makes a signature only after the line of the one before is written.
+///
+/// Then it reads records, at most 4,294,967,295, each a variable-length vector (RFC 9420, 2.1.2) of a letter and what
+/// belongs to it, and answers each before it reads on:
+///
+/// - `r` and receipts of 32 bytes each: these signatures are good. No line.
+/// - `b`: the follower starts or resumes by the signatures that it has learnt to be good by then. The line has the epoch,
+///   the number of members and the tree hash; or it is that of the finding, and the gate ends with `No`.
+/// - `q` and a message: a line for each signature of the message that is not known to be good
+///   ([`mls_follow::Follower::signatures_to_verify`]), and one with their number. Each line is written before the next
+///   signature is made.
+/// - `m` and a message: the message is processed ([`mls_follow::Follower::take`]). The line says that it was accepted
+///   and what it led to, with `ended` if the group is over (11.2); or the number and the name of the refusal.
+/// - `s`: the line has the file of the follower's state ([`mls_follow::Follower::encode_state`]), or says that it has
+///   none. The state is unchanged.
+///
+/// Before `b` only `r` and `b` have an answer, and after it all but `b`. Every other record, and bytes that are no
+/// record, have the line `broken`, and the gate ends with `No`. If the input ends between two records, the verdict is
+/// `Yes` after `b` and `No` before it.
+///
+/// # Errors
+///
+/// - `Read` if the input of the records fails: exactly the records that were read whole are answered.
+/// - `Write` if the output fails: nothing was read after the record in whose answer it failed.
+/// - `Memory`: the lines of the signatures of the start before are written whole; or each record that was read is
+///   answered, except the one at which memory ran out. If that is a query, the lines of the signatures before are written
+///   whole.
+pub fn gate<R: Source, C: LearningCheck, K: Sink>(
+    alloc: Global,
+    start: StartBytes,
+    records: &mut R,
+    checker: C,
+    out: &mut K,
+) -> Result<Verdict, RunFault>
+    requires records { R.is_failed records.old ≡ false }
+    requires out { K.is_failed out.old ≡ false }
+    ensures printed { IfOk result (Gates (C.meaning checker) (inputs_of start)
+        (R.left records.old) (R.left records.new) (K.written out.old) (K.written out.new)) }
+    ensures effect_on_error { IfErr result (GatesPart (C.meaning checker) (inputs_of start)
+        (R.left records.old) (R.left records.new) (K.written out.old) (K.written out.new)) }
+    ensures read { (result ≡ Err RunFault.Read) ↔ (R.is_failed records.new ≡ true) }
+    ensures write { (result ≡ Err RunFault.Write) ↔ (K.is_failed out.new ≡ true) }
+{
+    match start.try_clone(alloc)?.trusting(alloc) {
+        Ok(
+            TrustingStart {
+                follower,
+                signatures,
+            },
+        ) => {
+            let written = write_query(alloc, signatures, &follower, &checker, out);
+            drop(follower);
+            written?;
+            serve(alloc, start, records, checker, out)
+        }
+        Err(StartFailure::Found(finding)) => report_finding(alloc, &finding, out),
+        Err(StartFailure::OutOfMemory) => Err(RunFault::Memory),
+    }
+}

@@ -1,0 +1,45 @@
+//! The report `validate`: whether a follower starts or resumes, and its state.
+
+ghost use Rattle.std.specs.Prelude.{◌≡◌, ◌≢◌, ◌↔◌, false, true, [], Err, IfOk, OnErr, IfErr};
+ghost use Rattle.std.specs.Io.KnownBytes.{Appends};
+ghost use Rattle.mls_start.specs.Inputs.{inputs_of};
+ghost use Rattle.mls_start.specs.StartFindings.{IsFindingOf};
+ghost use Rattle.mls_report.specs.Finding.{ReportsFinding, ReportsFindingPart};
+
+use crate::finding::report_finding;
+use mls_check::{OutOfMemory, SignatureCheck};
+use mls_show::{RunFault, Verdict};
+use mls_start::StartBytes;
+use mls_wire::Sink;
+use std::alloc::Global;
+
+/// Writes one line. If a follower starts or resumes: the epoch, the number of members and the tree hash, with the verdict
+/// `Yes`. Otherwise the first cause, with the verdict `No`: the GroupInfo or the tree is not decodable, or the first
+/// condition of [`Follower::start_in`](mls_follow::Follower::start_in) or of
+/// [`Follower::resume`](mls_follow::Follower::resume) that fails.
+///
+/// # Errors
+///
+/// `Write` if the output fails; a prefix of the line may be written. `Memory` comes before anything is written.
+pub fn validate<C: SignatureCheck, K: Sink>(
+    alloc: Global,
+    start: StartBytes,
+    checker: C,
+    out: &mut K,
+) -> Result<Verdict, RunFault>
+    requires { K.is_failed out.old ≡ false }
+    ensures printed { IfOk result (ReportsFinding (IsFindingOf (C.meaning checker) (inputs_of start))
+        (K.written out.old) (K.written out.new)) }
+    ensures effect_on_error { OnErr result
+        (ReportsFindingPart (IsFindingOf (C.meaning checker) (inputs_of start))
+        (K.written out.old) (K.written out.new)) }
+    ensures memory { result ≡ Err RunFault.Memory
+        → Appends (K.written out.old) (K.written out.new) [] }
+    ensures write { (result ≡ Err RunFault.Write) ↔ (K.is_failed out.new ≡ true) }
+    ensures fault { IfErr result (λ e. e ≢ RunFault.Read) }
+{
+    match start.finding(alloc, checker) {
+        Ok(finding) => report_finding(alloc, &finding, out),
+        Err(OutOfMemory) => Err(RunFault::Memory),
+    }
+}

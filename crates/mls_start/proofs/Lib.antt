@@ -1,0 +1,11 @@
+pub mod InOrder
+pub mod StartsOnce
+pub mod StartsExist
+pub mod FindingsOnce
+pub mod FindingsExist
+pub mod FirstStates
+pub mod Hashes
+pub mod StartLists
+pub mod LeavesLeft
+pub mod Starting
+pub mod Learnt

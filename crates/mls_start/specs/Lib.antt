@@ -1,0 +1,10 @@
+pub mod Inputs
+pub mod Finding
+pub mod StartFindings
+pub mod TreeFinding
+pub mod StartFailures
+pub mod StartSignatures
+pub mod SignaturesLeft
+pub mod ReceiptBytes
+pub mod FindingLaws
+pub mod StartSteps

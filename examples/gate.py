@@ -1,13 +1,14 @@
 #!/usr/bin/env python3
 """Drives the live gate: `mlscheck gate` processes each message of a log, and the signatures are verified here.
 
-    gate.py [--forge] --info FILE [--tree FILE] --log FILE [--save FILE]
-    gate.py [--forge] --state FILE --log FILE [--save FILE]
+    gate.py [--forge] --info FILE [--tree FILE] [--profile PROFILE] --log FILE [--save FILE] [--receipts FILE]
+    gate.py [--forge] --state FILE --log FILE [--save FILE] [--receipts FILE]
 
 The class `Gate` is all that a service needs. It queries the gate for the signatures of a message, verifies them, sends the
 receipts of the good ones, and sends the message. The gate's answer to each message is printed.
 
-With `--save` the state after the log is stored in a file, from which a later run begins with `--state`.
+With `--save` the state after the log is stored in a file, from which a later run begins with `--state`. With `--receipts`
+the receipts of the good signatures are written into a file, for `mlscheck replay`.
 
 With `--forge` each message is first sent with another signature, one bit of it changed; the gate has to refuse it by rule 7
 and to go on. The arithmetic is that of the Python package `cryptography` (see receipts.py). Nothing here is proved.
@@ -42,18 +43,30 @@ def records(data):
         data = data[size + count :]
 
 
+class Unlisted(RuntimeError):
+    """A line in place of a list of signatures: why the group cannot be followed, or `broken`."""
+
+
 class Gate:
     """One group, followed by a process of its own."""
 
     def __init__(self, *words):
         self.process = subprocess.Popen([PROGRAM, "gate", *words], stdin=subprocess.PIPE, stdout=subprocess.PIPE)
+        self.receipts = []
 
     def send(self, letter, rest=b""):
-        self.process.stdin.write(record(letter + rest))
-        self.process.stdin.flush()
+        try:
+            self.process.stdin.write(record(letter + rest))
+            self.process.stdin.flush()
+        except BrokenPipeError as error:
+            raise RuntimeError("the gate has ended") from error
 
     def line(self):
-        return self.process.stdout.readline().decode().rstrip("\n")
+        """The next line of the answer. That there is none is no answer: the gate has ended, with a fault or by a signal."""
+        line = self.process.stdout.readline()
+        if not line.endswith(b"\n"):
+            raise RuntimeError("the gate has ended")
+        return line.decode().rstrip("\n")
 
     def asked(self):
         """The signatures that an answer lists, up to the line `queried`."""
@@ -61,16 +74,21 @@ class Gate:
         while (line := self.line()).startswith("verify "):
             wanted.append(line.split()[1:])
         if not line.startswith("queried "):
-            raise RuntimeError(line or "the gate has ended")
+            raise Unlisted(line)
         return wanted
 
     def learn(self, wanted):
         """Verifies signatures, and sends the gate the receipts of the good ones."""
         good = [r for r, s, k, c, g in wanted if is_good(int(s), bytes_of(k), bytes_of(c), bytes_of(g))]
+        self.receipts += good
         self.send(b"r", b"".join(bytes.fromhex(receipt) for receipt in good))
 
     def begin(self):
-        self.learn(self.asked())
+        """Starts by the good signatures. Returns the line `ready ..`, or the one that says why the group is not followed."""
+        try:
+            self.learn(self.asked())
+        except Unlisted as refusal:
+            return str(refusal)
         self.send(b"b")
         return self.line()
 
@@ -88,7 +106,7 @@ class Gate:
         self.send(b"s")
         line = self.line()
         if not line.startswith("state ") or line == "state TooLong":
-            raise RuntimeError(line or "the gate has ended")
+            raise RuntimeError(line)
         return bytes.fromhex(line.removeprefix("state "))
 
     def end(self):
@@ -111,18 +129,26 @@ def save(state, path):
     os.replace(path + ".new", path)
 
 
+def words_of_main():
+    parser = argparse.ArgumentParser(description="Drives the live gate over a log, and verifies the signatures.")
+    parser.add_argument("--forge", action="store_true", help="send each message forged first")
+    for name in ("info", "tree", "state", "save", "receipts"):
+        parser.add_argument("--" + name, metavar="FILE")
+    parser.add_argument("--profile", choices=["members", "full"])
+    parser.add_argument("--log", metavar="FILE", required=True)
+    return parser.parse_args()
+
+
 def main():
-    parser = argparse.ArgumentParser()
-    parser.add_argument("--forge", action="store_true")
-    for name in ("info", "tree", "state", "save"):
-        parser.add_argument("--" + name)
-    parser.add_argument("--log", required=True)
-    words = parser.parse_args()
-    files = [(name, getattr(words, name)) for name in ("info", "tree", "state")]
-    gate = Gate(*(word for name, path in files if path for word in ("--" + name, path)))
-    print(gate.begin())
+    words = words_of_main()
+    files = [(name, getattr(words, name)) for name in ("info", "tree", "state", "profile")]
     with open(words.log, "rb") as log:
         messages = list(records(log.read()))
+    gate = Gate(*(word for name, path in files if path for word in ("--" + name, path)))
+    first = gate.begin()
+    print(first)
+    if not first.startswith("ready "):
+        sys.exit(gate.end())
     for message in messages:
         if words.forge:
             answer = gate.judge(forged(gate, message))
@@ -131,8 +157,15 @@ def main():
         print(gate.judge(message))
     if words.save:
         save(gate.state(), words.save)
+    if words.receipts:
+        with open(words.receipts, "w", encoding="ascii") as receipts:
+            receipts.writelines(receipt + "\n" for receipt in gate.receipts)
     sys.exit(gate.end())
 
 
 if __name__ == "__main__":
-    main()
+    try:
+        main()
+    except (OSError, RuntimeError) as error:
+        print(f"fault: {error}", file=sys.stderr)
+        sys.exit(3)

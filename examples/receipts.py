@@ -11,13 +11,16 @@ that is a file of receipts. Other lines, and how many were good and bad, go to s
 The arithmetic is that of the Python package `cryptography` (Debian's python3-cryptography). Nothing here is proved.
 """
 
-import fileinput
+import argparse
 import re
 import sys
 
-from cryptography.exceptions import InvalidSignature, UnsupportedAlgorithm
-from cryptography.hazmat.primitives import hashes
-from cryptography.hazmat.primitives.asymmetric import ec, ed25519, ed448
+try:
+    from cryptography.exceptions import InvalidSignature, UnsupportedAlgorithm
+    from cryptography.hazmat.primitives import hashes
+    from cryptography.hazmat.primitives.asymmetric import ec, ed25519, ed448
+except ImportError:
+    sys.exit("fault: the Python package cryptography is not here (Debian's python3-cryptography)")
 
 HEX = "(?:-|(?:[0-9a-f]{2})+)"
 LINE = re.compile(f"([0-9a-f]{{64}}) ([0-9]+) ({HEX}) ({HEX}) ({HEX})\n?")
@@ -67,10 +70,23 @@ def is_good(suite, key, content, signature):
     return True
 
 
+def lines_of(files):
+    for name in files or ["-"]:
+        try:
+            with open(0 if name == "-" else name, encoding="ascii", errors="replace") as file:
+                yield from file
+        except OSError as error:
+            print(f"fault: {name}: {error.strerror}", file=sys.stderr)
+            sys.exit(3)
+
+
 def main():
+    parser = argparse.ArgumentParser(
+        description="Checks the signatures that `mlscheck signatures` prints, and writes the receipt of each good one.")
+    parser.add_argument("LINES", nargs="*", help="a file with these lines; standard input, if none is named")
     good = 0
     bad = 0
-    for line in fileinput.input():
+    for line in lines_of(parser.parse_args().LINES):
         words = LINE.fullmatch(line)
         if words is None:
             print(line.rstrip("\n"), file=sys.stderr)

@@ -2,7 +2,11 @@
 """Proves and builds the program mlscheck, crate by crate, and then runs it with the words that it was given:
 
     build.py WORDS
+    build.py --build   runs nothing
     build.py --drop    removes what earlier builds kept and the program doesn't need
+
+Words that are answered before a file is opened are answered without the program (answers.py). Where standard input is a
+terminal, it asks before a long build.
 
 For the command `show` the program is mlscheck_show, which has this command alone and stands on fewer crates, unless all
 libraries of mlscheck are built. The crates and what each stands on are those of crates.txt. Crates that don't rest on each
@@ -19,8 +23,10 @@ import sys
 import tempfile
 import time
 
+from answers import end_if_answered
 from crates import (CRATES, DISK, MINUTES, OUT, PROGRAM, SHOW_PROGRAM, TOP, chain, free_memory, processors, read_crates,
                     seconds_of)
+from version import LOGIC
 
 PROGRAMS = (PROGRAM, SHOW_PROGRAM)
 
@@ -35,15 +41,16 @@ BESIDE = os.path.join(OUT, "beside")
 # The kit's command rt, which sums up the sources of each crate once.
 RT = os.path.join(TOP, "tools", "rt_once.py")
 
-# The logic that the sources are proved in: the second part of what `rt version` prints.
-LOGIC = "dac8208d650f15bf"
-
 # The memory that a build from nothing needs, in bytes.
 MEMORY = 4 * 10**9
 
 # What a check holds without its jobs, and each of its jobs, in bytes.
 CHECK_MEMORY = 10**9
 JOB_MEMORY = 14 * 10**8
+
+# How long a build may take without being asked for, in seconds by crates.SECONDS, and how often it says how far it is.
+SHORT_BUILD = 300
+TELL_AFTER = 60
 
 
 def say(text):
@@ -152,6 +159,7 @@ class Build:
         self.least_free = self.first_free = free_memory()
         self.cores = processors()
         self.can_link = can_link()
+        self.begun = self.told = time.time()
 
     def ready(self):
         """Returns the crates that can begin, the one with the longest chain above it first."""
@@ -176,9 +184,20 @@ class Build:
             if is_beside and room < JOB_MEMORY:
                 return
             jobs = max(min(self.cores, 8, room // JOB_MEMORY), 1)
-            share = sum(map(seconds_of, self.done)) * 100 // sum(map(seconds_of, self.below))
-            say(f"{share} % {name}")
+            self.tell(name)
             self.running.append(Step(name, jobs, is_beside))
+
+    def tell(self, what):
+        share = sum(map(seconds_of, self.done)) * 100 // sum(map(seconds_of, self.below))
+        say(f"{share} % {what}")
+        self.told = time.time()
+
+    def tell_running(self):
+        """Says how far it is, if nothing was said for a while."""
+        now = time.time()
+        if now - self.told >= TELL_AFTER:
+            names = ", ".join(f"{step.name} for {minutes(now - step.begun)}" for step in self.running)
+            self.tell(f"after {minutes(now - self.begun)}: {names}")
 
     def run(self):
         """Builds all crates, and returns the first step that failed, if any."""
@@ -188,12 +207,14 @@ class Build:
             if ended is None:
                 time.sleep(0.2)
                 self.least_free = min(self.least_free, free_memory())
+                self.tell_running()
                 continue
             self.running.remove(ended)
             if not ended.end():
                 return ended
             self.done.append(ended.name)
             self.seconds[ended.name] = time.time() - ended.begun
+            self.tell(f"{ended.name} is done, in {minutes(self.seconds[ended.name])}")
         return None
 
     def write_measured(self):
@@ -260,6 +281,10 @@ def lock():
         return file, True
 
 
+def minutes(seconds):
+    return f"{seconds / 60:.1f} minutes"
+
+
 def gigabytes(count):
     return f"{count / 10**9:.0f} GB" if count % 10**9 == 0 or count > 10**10 else f"{count / 10**9:.1f} GB"
 
@@ -275,6 +300,28 @@ def announce(program, below):
     say(f"{'all of it' if kept else f'not built yet: proving and building {part}'} takes some {MINUTES[program]} minutes "
         f"on four cores, {gigabytes(DISK[program])} of disk ({gigabytes(shutil.disk_usage(TOP).free)} are free) "
         f"and at least {gigabytes(MEMORY)} of memory ({gigabytes(free_memory())} are free)")
+
+
+def left_of(below):
+    """Returns the crates that have to be built."""
+    left = []
+    for name in sorted(below, key=lambda name: chain(below, name), reverse=True):
+        if name in PROGRAMS or not is_kept(name) or set(below[name]) & set(left):
+            left.append(name)
+    return left
+
+
+def ask(program):
+    """Asks before a long build, where standard input is a terminal, and ends if the answer isn't yes. Returns whether it
+    asked."""
+    below = read_crates(program)[1]
+    if not os.isatty(0) or sum(map(seconds_of, left_of(below))) < SHORT_BUILD:
+        return False
+    announce(program, below)
+    print("mlscheck: build it now? (y/N) ", end="", file=sys.stderr, flush=True)
+    if os.read(0, 1000).strip().lower() not in (b"y", b"yes"):
+        fail("nothing was built")
+    return True
 
 
 def link_as_program(program):
@@ -293,7 +340,6 @@ def build_all(program):
     begun = time.time()
     for name in os.listdir(BESIDE) if os.path.isdir(BESIDE) else []:
         take_back(name)
-    announce(program, below)
     build = Build(program, below)
     try:
         failed = build.run()
@@ -312,7 +358,7 @@ def build_all(program):
     with open(built, "w", encoding="utf-8") as file:
         file.write("\n".join(lines) + "\n")
     os.utime(built, (begun, begun))
-    say(f"100 % built in {(time.time() - begun) / 60:.1f} minutes")
+    say(f"100 % built in {minutes(time.time() - begun)}")
 
 
 def size_of(path):
@@ -346,17 +392,25 @@ def interrupted(number, _):
 def main():
     for number in (signal.SIGINT, signal.SIGTERM, signal.SIGHUP):
         signal.signal(number, interrupted)
-    if sys.argv[1:] == ["--drop"]:
+    words = sys.argv[1:]
+    if words == ["--drop"]:
         _held = lock()
         return drop()
+    runs = words != ["--build"]
+    if runs:
+        end_if_answered(words)
     check_kit()
+    is_announced = runs and ask(program_for(words))
     held, was_held = lock()
-    name = program_for(sys.argv[1:])
+    name = program_for(words)
     if not was_held:
+        if not is_announced:
+            announce(name, read_crates(name)[1])
         build_all(name)
     held.close()
     program = os.path.join(TOP, "mlscheck") if was_held else out_path(name, PROGRAM)
-    os.execv(program, [program, *sys.argv[1:]])
+    if runs or was_held:
+        os.execv(program, [program, *words])
 
 
 if __name__ == "__main__":

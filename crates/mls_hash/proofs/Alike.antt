@@ -41,7 +41,7 @@ module _ (L M : List ℕ) where
       λ i. branch (left i) (here i) (right i)
 
 module _ (H : List ℕ → List ℕ) (t : Tree) where
-  -- the hash of the subtree at a place is the same without the leaves of either list
+  -- the hash of the subtree at a node index is the same without the leaves of either list
   hash-alike : (L M : List ℕ) (p : ℕ) (s : Subtree) → HoldsOwnLeaves t → subtree_at 0 t p ≡ Some s → ((i : ℕ) → IsLeafOf s i → HaveAlike L M i)
       → original_tree_hash_at H L t p ≡ original_tree_hash_at H M t p
   hash-alike L M p s own e alike =
@@ -49,11 +49,11 @@ module _ (H : List ℕ → List ℕ) (t : Tree) where
       ap (option_and_then (λ (u : Subtree). original_tree_hash H L u.first u.tree)) e ∙ ap (tree_hash H s.first) same
       ∙ sym (ap (option_and_then (λ (u : Subtree). original_tree_hash H M u.first u.tree)) e)
 
-  -- with no leaf left out it is the hash that is kept
+  -- with no leaf left out it is the cached hash
   pub kept_hash : (L : List ℕ) (hashes : List (List ℕ)) (p : ℕ) (h : List ℕ) → AreSubtreeHashes H t hashes → L ≡ [] → slice_get hashes p ≡ Some h → original_tree_hash_at H L t p ≡ Some h
   kept_hash L hashes p h all none g = ap (λ (M : List ℕ). original_tree_hash_at H M t p) none ∙ whole_tree H t p ∙ sym (all p) ∙ g
 
--- ---- at a parent the list is split in two, at the first leaf of the right half
+-- ---- at a parent the list is split in two, at the first leaf of the right subtree
 
 module _ (t : Tree) (p q u m : ℕ) (n : Option ParentNode) (c : HasChildren t p q u m n) (L before after : List ℕ) (e : L ≡ before ++ after)
     (low : All (λ i. i < m) before) (high : All (λ i. m ≤ i) after) where

@@ -1,4 +1,4 @@
--- What the calls that hash a subtree answer.
+-- What the calls that hash a subtree return.
 use Rattle.std.proofs.Common.{◌≡◌, ℕ, ◌+◌, List, [], Option, Some, None, Result, Ok, Err, refl, sym, ap, ◌∙◌}
 use Rattle.std.specs.Prelude.{option_map, option_and_then, IfOk}
 use Rattle.std.specs.List.Sorted.{IsPermutation}
@@ -56,7 +56,7 @@ module _ (t : Tree) (p q u m : ℕ) (n : Option ParentNode) (c : HasChildren t p
   right_fault hash whole faults.TooLong a = a
   right_fault hash whole faults.OutOfMemory a = a
 
--- ---- the answers of the public calls
+-- ---- the results of the public calls
 
 pub gives_hash : (found : Option Subtree) (hash same : Option (List ℕ)) (r : Result (List ℕ) HashFault) → hash ≡ same → HashesSubtree found hash r → IfOk r (λ h. same ≡ Some h)
 gives_hash found hash same (Ok h) e a = sym e ∙ a
@@ -76,7 +76,7 @@ sorted_tree H L M h t p = go (subtree_at 0 t p)
     go None = refl
     go (Some s) = ap (tree_hash H s.first) (strip-sorted L M h s.first s.tree)
 
--- the parent hash of a set parent, by the original hash of its child on a side
+-- the parent hash of a non-blank parent, by the original hash of its child on a side
 module _ (H : List ℕ → List ℕ) (t : Tree) (p : ℕ) (side : Side) (child : ℕ) (parent : ParentNode) (c : HasChildOn t p side child parent) where
   side_hash : (s : Side) (original : List ℕ) → original_tree_hash_at H parent.unmerged t (child_on s c.left c.right) ≡ Some original
       → parents.parent_hash_at H t p s ≡ option_map H (parents.parent_hash_input parent original)

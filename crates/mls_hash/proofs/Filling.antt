@@ -1,4 +1,4 @@
--- The hashes of all subtrees, put into a list halves first.
+-- The hashes of all subtrees, put into a list, the children's first.
 use Rattle.std.proofs.Common.{◌≡◌, ◌≢◌, ℕ, ◌+◌, ◌*◌, ◌-◌, ◌<◌, List, [], length, map, get_or, Option, Some, None, IsSome, refl, sym, ap, subst, ◌∙◌, arith, inl, inr}
 use Rattle.std.specs.Prelude.{option_map, option_and_then, slice_get, slice_set}
 use Rattle.std.proofs.lemmas.Bool.{cases_order, cases_lt}
@@ -64,7 +64,7 @@ module _ (H : List ℕ → List ℕ) (t : Tree) where
         let at : q ≡ p = omega (arith, node_index, st.node_index, st.from_left, st.to_right, root_node_index-above u.first u.tree, root_node_index-below u.first u.tree) in
         subst (λ (k : ℕ). IsSubtreeHashAt H t new k) (sym at) put_here
 
-    -- a parent has those of its halves besides
+    -- a parent has those of its children as well
     pub parent_put : (q u m : ℕ) (n : Option ParentNode) → HasChildren t p q u m n → AreHashesUnder H t old q → AreHashesUnder H t old u → AreHashesUnder H t new p
     parent_put q u m n c left after s f k v sub =
         let node_index = (subtree_at-stands 0 t p _ c.whole).node_index in
@@ -96,7 +96,7 @@ module _ (H : List ℕ → List ℕ) (t : Tree) where
       let s = subtree_at-some 0 t p (omega arith) (omega arith) in
       h (record { first = 0; tree = t }) (ap (subtree_at 0 t) at ∙ subtree_at-root 0 t) p s.0 s.1)
 
--- a hash is put into a list that has room for all of them
+-- a hash is put into a list that has capacity for all of them
 pub put_room : (suite : ℕ) (t : Tree) (old new : EqualHashes) (p : ℕ) (hash : List ℕ) → HasEntryForEachSubtree suite t old → new ≡ record old { hashes = slice_set old.hashes p hash } → HasEntryForEachSubtree suite t new
 put_room suite t old new p hash capacity is = record {
   count = omega (arith, ap (λ l. length l.hashes) is, length-set old.hashes p hash, capacity.count);
@@ -115,7 +115,7 @@ some_of : (o : Option Subtree) → IsSome o → (s : Subtree) × (o ≡ Some s)
 some_of None h = absurd (cc)
 some_of (Some s) h = (s, refl)
 
--- it has one at each place of the tree
+-- it has one at each node index of the tree
 pub hash_there : (H : List ℕ → List ℕ) (t : Tree) (hashes : List (List ℕ)) → AreAllHashes H t hashes → (p : ℕ) → IsSome (subtree_at 0 t p) → slice_get hashes p ≡ None → ⊥
 hash_there H t hashes all p there none =
     let s = some_of (subtree_at 0 t p) there in

@@ -1,4 +1,4 @@
--- Cells that are read, and that are filled one after the other, halves first.
+-- Slots that are read, and that are filled one after the other, the children's first.
 use Rattle.std.proofs.Common.{◌≡◌, ◌≢◌, ℕ, ◌+◌, ◌*◌, ◌<◌, Bool, true, false, List, [], Option, Some, None, IsSome, refl, sym, ap, subst, ◌∙◌, arith, inl, inr}
 use Rattle.std.specs.Prelude.{nat_le, if◌then◌else◌, option_map, slice_get, slice_set}
 use Rattle.std.proofs.lemmas.Bool.{cases_order}
@@ -30,7 +30,7 @@ hash_by-kind_of suite = by_tests (nat_le suite 3) (nat_le suite 6)
     by_tests false false = refl
 
 module _ (suite : ℕ) (kind : Option HashKind) (t : Tree) (p : ℕ) (h : List ℕ) (is : kind ≡ Some (kind_of suite)) where
-  -- a hash by the suite is right for cells of its hash function
+  -- a hash by the suite is right for slots of its hash function
   pub right_hash : tree_hash_at (hash_of suite) t p ≡ Some h → IsRightHash kind t p h
   right_hash at = subst (λ k. IsRightHash k t p h) (sym is) (ap (λ (H : List ℕ → List ℕ). hash_at H t p) (hash_by-kind_of suite) ∙ at)
 
@@ -42,7 +42,7 @@ module _ (suite : ℕ) (kind : Option HashKind) (t : Tree) (p : ℕ) (h : List �
 pub nothing_left_out : (H : List ℕ → List ℕ) (t : Tree) (p : ℕ) (L : List ℕ) (h : List ℕ) → L ≡ [] → tree_hash_at H t p ≡ Some h → original_tree_hash_at H L t p ≡ Some h
 nothing_left_out H t p L h none e = ap (λ M. original_tree_hash_at H M t p) none ∙ whole_tree H t p ∙ e
 
--- filling a cell empties none
+-- filling a slot empties none
 pub put_stays : (slots new : List (Option (List ℕ))) (p : ℕ) (h : List ℕ) → new ≡ slice_set slots p (Some h) → hash_in (slice_get new p) ≡ Some h → FilledStay slots new
 put_stays slots new p h e filled q was =
     elim (cases_order q p) [
@@ -58,7 +58,7 @@ parent_of-entry : (n : Option ParentNode) → parent_of (parent_entry n) ≡ n
 parent_of-entry None = refl
 parent_of-entry (Some p) = refl
 
--- a parent's hash, where its halves were hashed one after the other and the tree stayed
+-- a parent's hash, if its children were hashed one after the other and the tree is unchanged
 module _ (H : List ℕ → List ℕ) (t u v : Tree) (p q w m : ℕ) (n node : Option ParentNode) (c : HasChildren t p q w m n) (first : u ≡ t) (second : v ≡ t) where
   pub kept_parent : (L left right hash : List ℕ) → tree_hash_at H t q ≡ Some left → tree_hash_at H u w ≡ Some right → node ≡ parent_of (node_at v p) → L ≡ []
       → option_map H (parent_tree_hash_input (option_map (stripped_parent L) node) left right) ≡ Some hash → tree_hash_at H t p ≡ Some hash
@@ -67,6 +67,6 @@ module _ (H : List ℕ → List ℕ) (t u v : Tree) (p q w m : ℕ) (n node : Op
       parent_hashed H t p q w m n c L left right hash none a (ap (λ (x : Tree). tree_hash_at H x w) (sym first) ∙ b)
       (ap (λ (k : Option ParentNode). option_map H (parent_tree_hash_input (option_map (stripped_parent L) k) left right)) (sym there) ∙ text)
 
--- there is a subtree at each place
+-- there is a subtree at each node index
 pub node_index_there : (t : Tree) (p : ℕ) → p + 1 < 2 * leaf_count t → IsSome (subtree_at 0 t p)
 node_index_there t p lt = let s = subtree_at-some 0 t p (omega arith) (omega arith) in subst (λ (o : Option Subtree). IsSome o) (sym s.1) refl

@@ -20,9 +20,9 @@ use Rattle.mls_hash.specs.SubtreeHashesInternal.{AreLeavesUnder}
 use Rattle.mls_hash.proofs.Alike.{left_alike, right_alike}
 use Rattle.mls_hash.proofs.Answers.{whole_hash}
 
--- ---- one hash is kept
+-- ---- one hash is stored
 
--- the list after the own hash of the parent at place 2 * n + 1 was put into it
+-- the list after the own hash of the parent at node index 2 * n + 1 was put into it
 own-put : (H : List ℕ → List ℕ) (t : Tree) (own : List (Option (List ℕ))) (n : ℕ) (hash : List ℕ) → AreOwnHashes H t own → own_hash_at H t (2 * n + 1) ≡ Some hash
     → AreOwnHashes H t (slice_set own n (Some hash))
 own-put H t own n hash known here k other e =
@@ -41,7 +41,7 @@ own-put H t own n hash known here k other e =
 -- ---- at a parent
 
 module _ (t : Tree) (p q u m : ℕ) (n : Option ParentNode) (c : HasChildren t p q u m n) where
-  -- its place is odd
+  -- its node index is odd
   numbered : 2 * (p / 2) + 1 ≡ p
   numbered =
       let node_index = (subtree_at-stands 0 t p _ c.whole).node_index in
@@ -64,7 +64,7 @@ module _ (t : Tree) (p q u m : ℕ) (n : Option ParentNode) (c : HasChildren t p
       go (Some parent) just is =
           ap (λ (M : List ℕ). original_tree_hash_at H M t p) just ∙ sym (is H parent refl) ∙ ap (own_hash_at H t) (sym numbered) ∙ known (p / 2) hash e
 
--- ---- at a set parent, whose list is split at the first leaf of its right half
+-- ---- at a non-blank parent, whose list is split at the first leaf of its right subtree
 
 module _ (t : Tree) (p q u m : ℕ) (parent : ParentNode) (c : HasChildren t p q u m (Some parent)) (L : List ℕ) (listed : L ≡ parent.unmerged) where
   pub list_under : HoldsOwnLeaves t → AreLeavesUnder t p L

@@ -46,7 +46,7 @@ pub no_mark-alike : (marks : List Bool) (hashes others : List (List ℕ)) → ma
 no_mark-alike marks hashes others none =
     ap (λ m. marked_hashes m hashes) none ∙ no_mark-None (length marks) hashes ∙ sym (no_mark-None (length marks) others) ∙ ap (λ m. marked_hashes m others) (sym none)
 
--- a place at which there is a hash
+-- a node index at which there is a hash
 pub place_of_hash : (hashes : List (List ℕ)) (k : ℕ) (read : Option (List ℕ)) → read ≡ slice_get hashes k → is_some read ≡ true → k < length hashes
 place_of_hash hashes k None at some = absurd (cc)
 place_of_hash hashes k (Some hash) at some = slice_get_within hashes k hash (sym at)

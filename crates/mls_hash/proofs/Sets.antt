@@ -15,7 +15,7 @@ none_equal (y ∷ ys) x h =
     let here : eqb y x ≡ false = ne_eqb y x (h 0 (omega arith)) in
     rw here (none_equal ys x (λ k lt. h (suc k) (omega arith)))
 
--- what a search answers
+-- what a search returns
 pub found : (xs : List ℕ) (x : ℕ) (r : Result ℕ ℕ)
     → MatchResult r (λ i. (i < length xs) × (get_or xs i 0 ≡ x)) (λ i. (i ≤ length xs) × ((k : ℕ) → k < i → get_or xs k 0 < x) × ((k : ℕ) → i ≤ k → k < length xs → x < get_or xs k 0))
     → is_ok r ≡ is_among xs x
@@ -47,7 +47,7 @@ rest_has P xs front rest e all k d lt =
     let here = all (length front + k) d (omega (arith, ap length e, length-append front rest)) in
     subst P (ap (λ (ys : List ℕ). get_or ys (length front + k) d) e ∙ get_or-append-add front rest k d) here
 
--- a number that no entry of a part equals is in the list just where it is in the other part
+-- a number that no entry of a part equals is in the list if and only if it is in the other part
 module _ (xs front rest : List ℕ) (e : xs ≡ front ++ rest) (i : ℕ) where
   parts : is_among xs i ≡ (is_among front i || is_among rest i)
   parts = ap (λ (ys : List ℕ). is_among ys i) e ∙ list_any-append (λ x. eqb x i) front rest

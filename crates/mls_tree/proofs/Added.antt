@@ -1,4 +1,4 @@
--- Which leaves are set after a member was added.
+-- Which leaves are non-blank after a member was added.
 use Rattle.std.proofs.Common.{◌≡◌, ◌≢◌, ℕ, ◌+◌, ◌<◌, Option, Some, None, IsSome, refl, sym, ap, ◌∙◌, subst, inl, inr, arith}
 use Rattle.std.specs.Prelude.{MatchOption}
 use Rattle.std.proofs.lemmas.Bool.{cases_lt}
@@ -34,6 +34,6 @@ by_answer t x None all =
     set_up_to (extend t) (leaf_count t) x (omega (arith, leaf_count-positive (blank_tree (height t)))) (λ i l. subst (λ o. IsSome o) (sym (leaf_at-extend t i)) (all i l))
 by_answer t x (Some j) first = set_up_to t j x first.inside first.earlier
 
--- after a member was added, each leaf is set up to the one that it got
+-- after a member was added, each leaf up to that member's is non-blank
 pub add-set_below : (t : Tree) (x : LeafNode) → AreNonBlankBelow (add t x) (added_leaf t + 1)
 add-set_below t x = by_answer t x (first_blank_leaf 0 t) (first_blank_leaf-leftmost t)

@@ -1,4 +1,4 @@
--- The parents above a leaf are changed one after the other, by their places.
+-- The parents above a leaf are changed one after the other, by their node indices.
 use Rattle.std.proofs.Common.{◌≡◌, ℕ, ◌+◌, ◌*◌, ◌-◌, ◌/◌, ◌%◌, ◌<◌, List, [], ◌∷◌, ◌++◌, Option, Some, None, refl, sym, ap, ◌∙◌, subst, inl, inr, arith}
 use Rattle.std.specs.Prelude.{All}
 use Rattle.std.proofs.lemmas.Bool.{cases_lt}
@@ -13,7 +13,7 @@ use Rattle.mls_tree.proofs.Trees.{leaf_count-positive}
 use Rattle.mls_tree.proofs.Kept.{leaf_count-put_parent}
 use Rattle.mls_tree.proofs.Lookups.{IsParentNodeIndex-odd, IsParentNodeIndex-bounds}
 
--- the parent at a place, where there is one and it is set
+-- the parent at a node index, if there is one and it is non-blank
 abbrev pub parent_at : ℕ → Tree → ℕ → Option ParentNode
 parent_at first t p = parent_of (entry_of (subtree_at first t p))
 
@@ -21,7 +21,7 @@ pub parent_of-entry : (n : Option ParentNode) → parent_of (parent_entry n) ≡
 parent_of-entry None = refl
 parent_of-entry (Some p) = refl
 
--- a place of a parent among those of a tree with so many leaves from `first` on
+-- a node index of a parent in a tree of `count` leaves from `first` on
 abbrev pub IsWithin : ℕ → ℕ → ℕ → Type 0
 IsWithin first count p = (2 * first < p + 1) × (p + 1 < 2 * (first + count)) × (p % 2 ≡ 1)
 
@@ -43,12 +43,13 @@ direct_path-within first (branch l n r) i =
           (All-weaker (IsWithin m (leaf_count r)) (IsWithin first (leaf_count l + leaf_count r)) (λ p w. ((let u = w.0 in omega arith), (let v = w.1 in omega arith), w.2)) (direct_path m r i) (direct_path-within m r i)) root)
     ]
 
-pub direct_path-parents : (t : Tree) (i : ℕ) → All (IsParentNodeIndex t) (direct_path 0 t i)
-direct_path-parents t i =
-    All-weaker (IsWithin 0 (leaf_count t)) (IsParentNodeIndex t)
-    (λ p w. (let u = w.1 in let o = w.2 in let at : 2 * (p / 2) + 1 ≡ p = omega arith in subst (IsParentNodeIndex t) at (IsParentNodeIndex-odd t (p / 2) (omega arith)))) (direct_path 0 t i) (direct_path-within 0 t i)
+pub IsParentNodeIndex-within : (t : Tree) (p : ℕ) → IsWithin 0 (leaf_count t) p → IsParentNodeIndex t p
+IsParentNodeIndex-within t p w = let at : 2 * (p / 2) + 1 ≡ p = omega (arith, w.2) in subst (IsParentNodeIndex t) at (IsParentNodeIndex-odd t (p / 2) (omega (arith, w.1)))
 
--- where the subtree at a place is that of a half
+direct_path-parents : (t : Tree) (i : ℕ) → All (IsParentNodeIndex t) (direct_path 0 t i)
+direct_path-parents t i = All-weaker (IsWithin 0 (leaf_count t)) (IsParentNodeIndex t) (IsParentNodeIndex-within t) (direct_path 0 t i) (direct_path-within 0 t i)
+
+-- if the subtree at a node index is in the left or the right subtree
 module _ (first : ℕ) (l : Tree) (n : Option ParentNode) (r : Tree) (p : ℕ) where
   abbrev whole : Option Subtree
   whole = Some (record { first = first; tree = branch l n r })
@@ -66,7 +67,7 @@ module _ (first : ℕ) (l : Tree) (n : Option ParentNode) (r : Tree) (p : ℕ) w
       ap (λ o. parent_of (entry_of o)) (after (p + 1) (2 * (first + leaf_count l)) whole (subtree_at first l p) (subtree_at (first + leaf_count l) r p) gt)
 
 module _ (f : Option ParentNode → Option ParentNode) where
-  -- the parents at these places are changed, the last one first
+  -- the parents at these node indices are changed, the last one first
   abbrev pub changed : ℕ → Tree → List ℕ → Tree
   changed first t [] = t
   changed first t (p ∷ ps) = change_parent f first (changed first t ps) p
@@ -122,7 +123,7 @@ module _ (f : Option ParentNode → Option ParentNode) where
       ap (λ t. change_parent f first t p) (changed-right first l n r ps (All-tail (IsWithin m (leaf_count r)) p ps h))
       ∙ change-right first l n (changed m r ps) p (omega arith)
 
-  -- the parents at the places of a direct path
+  -- the parents at the node indices of a direct path
   pub changed-path : (first : ℕ) (t : Tree) (i : ℕ) → changed first t (direct_path first t i) ≡ change_above f first t i
   changed-path first (leaf x) i = refl
   changed-path first (branch l n r) i =
@@ -153,14 +154,14 @@ module _ (f : Option ParentNode → Option ParentNode) where
     pub changed-step : changed 0 t all ≡ changed 0 u left
     changed-step = ap (λ ps. changed 0 t ps) split ∙ changed-last 0 t left p ∙ ap (λ v. changed 0 v left) (sym put)
 
--- a tree with as many leaves has parents at the same places
+-- a tree with as many leaves has parents at the same node indices
 pub IsParentNodeIndex-like : (t u : Tree) → leaf_count u ≡ leaf_count t → (p : ℕ) → IsParentNodeIndex t p → IsParentNodeIndex u p
 IsParentNodeIndex-like t u e p h =
     let b = IsParentNodeIndex-bounds t p h in
     let odd : 2 * (p / 2) + 1 ≡ p = omega (arith, b.0) in
     subst (IsParentNodeIndex u) odd (IsParentNodeIndex-odd u (p / 2) (omega (arith, b.1)))
 
--- the other places are those of parents still
+-- the other node indices are still those of parents
 pub parents-step : (t u : Tree) (all left : List ℕ) (p : ℕ) (x : Option ParentNode) → all ≡ left ++ p ∷ [] → u ≡ put_parent 0 t p x → All (IsParentNodeIndex t) all → All (IsParentNodeIndex u) left
 parents-step t u all left p x split put h =
     All-weaker (IsParentNodeIndex t) (IsParentNodeIndex u) (λ q. IsParentNodeIndex-like t u (ap leaf_count put ∙ leaf_count-put_parent 0 t p x) q) left

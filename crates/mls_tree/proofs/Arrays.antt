@@ -22,7 +22,7 @@ use Rattle.mls_tree.proofs.Trees.{leaf_count-perfect}
 pub leaf_count-tree_in : (xs : List (Option Node)) (h first : ℕ) → leaf_count (tree_in xs h first) ≡ leaves_at h
 leaf_count-tree_in xs h first = leaf_count-perfect (tree_in xs h first) (tree_in-perfect xs h first) ∙ ap leaves_at (height-tree_in xs h first)
 
--- a tree rests on its own places alone
+-- a tree depends on the entries at its own node indices alone
 pub tree_in-same : (xs ys : List (Option Node)) (h first : ℕ)
     → ((p : ℕ) → 2 * first ≤ p → p + 1 < 2 * (first + leaves_at h) → slice_get xs p ≡ slice_get ys p)
     → tree_in xs h first ≡ tree_in ys h first
@@ -109,7 +109,7 @@ tree_in-put_parent xs (suc h) first i v x a b n e =
           (λ j. branch (other_l (inr (omega arith)) j) (parent_part (m j)) ((r ∙ k) j)) ∙ sym (after (p + 1) (2 * (first + leaf_count (tree_in xs h first))) _ _ _ (omega arith)))
     ]
 
--- what stands at a place of the array
+-- what is at a position of the array
 abbrev pub entry_at : Option (Option Node) → Option NodeValue
 entry_at None = None
 entry_at (Some e) = entry_value e

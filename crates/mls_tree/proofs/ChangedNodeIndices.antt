@@ -1,4 +1,4 @@
--- The places at which a tree differs from the tree before a change.
+-- The node indices at which a tree differs from the tree before a change.
 use Rattle.std.proofs.Common.{◌≡◌, ◌≢◌, get_or, ℕ, Bool, cond, zero, suc, ◌+◌, ◌*◌, ◌-◌, ◌/◌, ◌<◌, ◌≤◌, List, [], ◌∷◌, ◌++◌, drop, length, Option, Some, None, true, false, refl, sym, ap, ◌∙◌, subst, inl, inr, arith, unwrap_or, nat_lt, Box, Global}
 use Rattle.std.specs.Prelude.{slice_get, ◌⊎◌, ◌==◌, ◌&&◌, if◌then◌else◌, is_some}
 use Rattle.std.specs.List.{list_any, filter, range_with_len}
@@ -33,7 +33,7 @@ use Rattle.mls_tree.proofs.Replacing.{listing-put_leaf, listing-put_parent}
 use Rattle.mls_tree.proofs.Trees.{leaf_count-positive, leaf_count-perfect, length-listing, subtree_at-none}
 use Rattle.mls_tree.proofs.Numbers.{leaves_at-low}
 
--- ---- lists of places
+-- ---- lists of node indices
 
 -- what two lists name together
 pub same-append : (old mid new : Tree) (ps qs : List ℕ) → AgreeExceptAt qs old mid → AgreeExceptAt ps mid new → AgreeExceptAt (ps ++ qs) old new
@@ -45,7 +45,7 @@ is_one q p e = grind (arith, nat_tests)
 not_one : (q p : ℕ) → (q == p) ≡ false → p ≢ q
 not_one q p out e = false_no_true (sym out ∙ is_one q p e)
 
--- a place that is not in a range
+-- a node index that is not in a range
 outside : (a n p : ℕ) → list_any (λ q. q == p) (range_with_len a n) ≡ false → (p < a) ⊎ (a + n ≤ p)
 outside a zero p out = elim (cases_lt p a) [ inl lt ↦ inl lt | inr ge ↦ inr (omega arith) ]
 outside a (suc n) p out =
@@ -56,7 +56,7 @@ outside a (suc n) p out =
       | inr ge ↦ inr (omega arith)
     ]
 
--- a range by one place longer
+-- a range by one node index longer
 range-more : (a n : ℕ) → range_with_len a (n + 1) ≡ range_with_len a n ++ (a + n) ∷ []
 range-more a zero = ap (λ k. k ∷ []) (let e : a ≡ a + 0 = omega arith in e)
 range-more a (suc n) =
@@ -84,7 +84,7 @@ not_both : (o : Option NodeValue) (b : Bool) → (is_some o && b) ≡ false → 
 not_both None b e = inl refl
 not_both (Some x) b e = inr e
 
--- a place that is not among the non-blank nodes of a range
+-- a node index that is not among the non-blank nodes of a range
 not_listed : (u : Tree) (a n p : ℕ) → list_any (λ q. q == p) (filter (λ q. is_some (node_at u q)) (range_with_len a n)) ≡ false
     → (node_at u p ≡ None) ⊎ ((p < a) ⊎ (a + n ≤ p))
 not_listed u a n p out =
@@ -121,9 +121,9 @@ same-put_parent t q x p out =
       | inr none ↦ ap (λ v. node_at v p) (put_parent-elsewhere t q x none)
     ]
 
--- ---- a half is added or taken away
+-- ---- a right subtree is added or removed
 
--- the left half has the nodes of the whole but those from the root on
+-- the left subtree has the nodes of the whole except those from the root on
 left-entry : (l : Tree) (n : Option ParentNode) (r : Tree) (p : ℕ) → (p < 2 * leaf_count l - 1) ⊎ (2 * leaf_count l - 1 + 2 * leaf_count r ≤ p)
     → node_at l p ≡ node_at (branch l n r) p
 left-entry l n r p away =
@@ -178,15 +178,15 @@ shape-before (AddedUnmerged p i) t s = shape-put_parent t p _ s
 shape-before Extended t s = shape-left_subtree t s
 shape-before (Truncated b) t s = shape-rejoined t b.value.tree s b.value.shape
 
--- ---- what is told of one change
+-- ---- the node indices of one change
 
--- the tree before a change of a tree of n leaves has m leaves; and the places that `new` names are those of `old` and each at which
+-- the tree before a change of a tree of n leaves has m leaves; and the node indices of `new` are those of `old` and each at which
 -- the change has done something
 pub record Lists (u : Tree) (old new : List ℕ) (n m : ℕ) (x : UndoEntry) : Type 0 where
   pub count : (t : RatchetTree) → leaf_count t.tree ≡ n → leaf_count (undone x t.tree) ≡ m
   pub node_indices : (t : RatchetTree) → leaf_count t.tree ≡ n → AgreeExceptAt old t.tree u → AgreeExceptAt new (undone x t.tree) u
 
--- where places are added that tell of the change
+-- if the node indices of the change are added
 lists_changes-added : (u : Tree) (old new more : List ℕ) (n m : ℕ) (x : UndoEntry) → new ≡ old ++ more
     → ((t : RatchetTree) → leaf_count t.tree ≡ n → (leaf_count (undone x t.tree) ≡ m) × AgreeExceptAt more (undone x t.tree) t.tree) → Lists u old new n m x
 lists_changes-added u old new more n m x pushed changes_listed = record {
@@ -220,7 +220,7 @@ module _ (u : Tree) (old new : List ℕ) (n : ℕ) where
   lists_changes-in_lists p i pushed =
       lists_changes-added u old new (p ∷ []) n n (AddedUnmerged p i) pushed (λ t e. (leaf_count-put_parent 0 t.tree p _ ∙ e, same-put_parent t.tree p _))
 
--- a tree of one leaf has no half
+-- a tree of one leaf has no subtree
 no_half : (t : Tree) → leaf_count t ≡ 1 → left_subtree t ≡ t
 no_half (leaf x) e = refl
 no_half (branch l n r) e = absurd (omega (arith, leaf_count-positive l, leaf_count-positive r))
@@ -228,7 +228,7 @@ no_half (branch l n r) e = absurd (omega (arith, leaf_count-positive l, leaf_cou
 pub lists_changes-one : (u : Tree) (old new : List ℕ) (n : ℕ) → n ≡ 1 → new ≡ old → Lists u old new n 1 Extended
 lists_changes-one u old new n one stays = subst (λ m. Lists u old new n m Extended) one (lists_changes-none u old new n Extended stays (λ t e. no_half t.tree (e ∙ one)))
 
--- the left half, and its nodes
+-- the left subtree, and its nodes
 half-kept : (t : Tree) (n half : ℕ) → IsPerfect t → leaf_count t ≡ n → n ≢ 1 → half ≡ n / 2
     → (leaf_count (left_subtree t) ≡ half) × ((p : ℕ) → (p < 2 * half - 1) ⊎ (2 * half - 1 + 2 * (n - half) ≤ p) → node_at (left_subtree t) p ≡ node_at t p)
 half-kept (leaf x) n half h e more at = absurd (more (sym e))
@@ -238,7 +238,7 @@ half-kept (branch l v r) n half h e more at =
       λ p away. left-entry l v r p (elim away [ inl lt ↦ inl (omega arith) | inr ge ↦ inr (omega arith) ]),
     )
 
--- behind the left half only the non-blank nodes of the changed tree are listed
+-- after the left subtree only the non-blank nodes of the changed tree are listed
 pub lists_changes-grown : (u : Tree) (old new : List ℕ) (n half : ℕ) → n ≢ 1 → half ≡ n / 2
     → new ≡ old ++ filter (λ q. is_some (node_at u q)) (range_with_len (2 * half - 1) (2 * (n - half))) → Lists u old new n half Extended
 lists_changes-grown u old new n half more at pushed =
@@ -273,7 +273,7 @@ lists_changes-no_whole u old new n b low stays =
     let w = b.value in
     lists_changes-none u old new n (Truncated b) stays (λ t e. rejoined-low t.tree w.tree (not-higher t.tree w.tree t.shape.perfect w.shape.perfect (omega arith)))
 
--- behind the leftmost subtree are the nodes of the whole
+-- after the leftmost subtree are the nodes of the whole
 same-rejoined : (t w : Tree) (n m : ℕ) → IsPerfect t → IsPerfect w → leaf_count t ≡ n → leaf_count w ≡ m → n < m
     → (leaf_count (rejoined t w) ≡ m) × AgreeExceptAt (range_with_len (2 * n - 1) (2 * (m - n))) (rejoined t w) t
 same-rejoined t w n m a b few many more =
@@ -293,9 +293,9 @@ lists_changes-truncated u old new n m b whole more pushed =
     lists_changes-added u old new (range_with_len (2 * n - 1) (2 * (m - n))) n m (Truncated b) pushed
     (λ t e. same-rejoined t.tree w.tree n m t.shape.perfect w.shape.perfect e (sym whole) more)
 
--- ---- what is told of the last changes of a journal
+-- ---- the node indices of the last changes of a journal
 
--- the tree before the changes xs has n leaves, and places tell of them all
+-- the tree before the changes xs has n leaves, and the node indices are those of all these changes
 pub record AreListedOf (xs : List UndoEntry) (t : Tree) (node_indices : List ℕ) (n : ℕ) : Type 0 where
   pub shape : HasShape (all_undone xs t)
   pub count : leaf_count (all_undone xs t) ≡ n

@@ -1,4 +1,4 @@
--- One step of a change of the array along a path: the parent is written, and then the half that the path goes into is changed.
+-- One step of a change of the array along a path: the parent is written, and then the subtree that the path goes into is changed.
 use Rattle.std.proofs.Common.{◌≡◌, ◌≢◌, ℕ, ◌+◌, ◌*◌, ◌-◌, ◌<◌, ◌≤◌, List, length, Option, Some, sym, ap, ◌∙◌, subst, inl, inr, arith}
 use Rattle.std.specs.Prelude.{slice_get, slice_set, ◌⊎◌}
 use Rattle.std.proofs.lemmas.Bool.{cases_order}
@@ -52,7 +52,7 @@ module _ (xs zs : List (Option Node)) (first half level : ℕ) (deep : level ≢
     pub parent-step : (2 * (first + half) - 1 < low) ⊎ (high ≤ 2 * (first + half) - 1) → parent_part (slice_get zs (2 * (first + half) - 1)) ≡ parent_part (Some v)
     parent-step w = ap parent_part (c.outside (2 * (first + half) - 1) w ∙ slice_get-set_same xs (2 * (first + half) - 1) v mid-within)
 
-  -- into the left half
+  -- into the left subtree
   module _ (c : ChangesWithin ys zs (2 * first) (2 * (first + leaves_at (level - 1)) - 1)) where
     pub changes-left : ChangesWithin xs zs (2 * first) (2 * (first + leaves_at level) - 1)
     changes-left = changes-step _ _ c (omega arith) (omega (arith, e, leaves_at-split level half deep e))
@@ -75,7 +75,7 @@ module _ (xs zs : List (Option Node)) (first half level : ℕ) (deep : level ≢
         ∙ sym (below i (first + leaf_count (tree_in xs (level - 1) first)) _ _ (omega arith))
         ∙ ap (λ t. change_above f first t i) (sym (tree_in-split xs first half level deep e))
 
-  -- into the right half
+  -- into the right subtree
   module _ (c : ChangesWithin ys zs (2 * (first + half)) (2 * (first + half + leaves_at (level - 1)) - 1)) where
     pub changes-right : ChangesWithin xs zs (2 * first) (2 * (first + leaves_at level) - 1)
     changes-right = changes-step _ _ c (omega arith) (omega (arith, e, leaves_at-split level half deep e))

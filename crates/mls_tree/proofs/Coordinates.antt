@@ -1,4 +1,4 @@
--- A place by its level k and its number m on that level: p + 1 ≡ (2 * m + 1) * 2 ^ k.
+-- A node index by its level k and its number m on that level: p + 1 ≡ (2 * m + 1) * 2 ^ k.
 use Rattle.std.proofs.Common.{◌≡◌, ◌≢◌, ℕ, zero, suc, ◌+◌, ◌*◌, ◌-◌, ◌/◌, ◌%◌, ◌^◌, ◌<◌, ◌≤◌, Option, Some, None, [], refl, sym, ap, ◌∙◌, subst, inl, inr, arith, option_map, bit_and}
 use Rattle.std.specs.Prelude.{◌⊎◌, option_and_then, MatchOption, MatchResult, Result, Ok, Err}
 use Rattle.std.proofs.lemmas.Bool.{cases_order, cases_lt}
@@ -61,7 +61,7 @@ pub root_node_index-perfect : (first : ℕ) (t : Tree) → IsPerfect t → root_
 root_node_index-perfect first (leaf x) h = omega arith
 root_node_index-perfect first (branch l n r) h = omega (arith, leaf_count-perfect l h.1, leaf_count-positive l)
 
--- where a subtree of height k stands
+-- where a subtree of height k is
 pub record Coordinates (p : ℕ) (s : Subtree) : Type 0 where
   pub number : ℕ
   pub node_index : p + 1 ≡ (2 * number + 1) * leaves_at (height s.tree)
@@ -78,7 +78,7 @@ coordinates t h p s e =
 abbrev pub some_tree : (h n : ℕ) → h ≤ 20 → n ≡ leaves_at h → (t : RatchetTree) × (leaf_count t.tree ≡ n)
 some_tree h n low e = (ratchet_tree_in [] h low, leaf_count-tree_in [] h 0 ∙ sym e)
 
--- what is known at a place of a tree that has one
+-- what is known at a node index that a tree has
 pub record At (t : Tree) (p k : ℕ) : Type 0 where
   pub number : ℕ
   pub subtree : Subtree
@@ -103,7 +103,7 @@ at_place t p n k c s =
       node_index = s.node_index;
     }
 
--- a place below 2 * n - 1 has a level, which its trailing ones tell
+-- a node index below 2 * n - 1 has a level, the number of its trailing ones
 pub HasLevel-below : (p h n : ℕ) → h ≤ 20 → n ≡ leaves_at h → p + 1 < 2 * n → HasLevel p n (trailing_ones w32 p)
 HasLevel-below p h n low e l =
     let t = some_tree h n low e in
@@ -122,7 +122,7 @@ HasLevel-below p h n low e l =
       node_index = co.node_index ∙ ap (λ v. (2 * co.number + 1) * leaves_at v) (sym ones);
     }
 
--- the halves of a subtree of height j + 1 at place p
+-- the children of a subtree of height j + 1 at node index p
 left_from : (first : ℕ) (t : Tree) (p j m : ℕ) → IsPerfect t → height t ≡ suc j → first ≡ m * leaves_at (suc j) → p + 1 ≡ (2 * m + 1) * leaves_at (suc j)
     → left_node_index first t ≡ Some (p - leaves_at j)
 left_from first (leaf _) p j m h e f q = absurd (omega arith)
@@ -174,7 +174,7 @@ module _ (t : RatchetTree) (p n : ℕ) (c : leaf_count t.tree ≡ n) where
       let a = at_place t p n 0 c s in
       sym (ap (λ o. option_and_then (λ (u : Subtree). right_node_index u.first u.tree) o) a.stands ∙ right_none a.subtree.first a.subtree.tree a.level)
 
--- a place that is not the root's is that of a half of a subtree
+-- a node index that is not the root's is that of a child
 pub record HasParent (first : ℕ) (t : Tree) (p : ℕ) : Type 0 where
   pub node_index : ℕ
   pub subtree : Subtree
@@ -201,7 +201,7 @@ has_parent =
 pub no_tree_of : (p n k : ℕ) → HasLevel p n k → ((t : RatchetTree) → leaf_count t.tree ≢ n) → ⊥
 no_tree_of p n k s none = let t = some_tree s.height n s.low s.count in none t.0 t.1
 
--- both steps from a place stay in the range of numbers
+-- both steps from a node index remain in the range of numbers
 pub HasLevel-left : (p n k j : ℕ) → HasLevel p n k → k ≡ suc j → leaves_at j ≤ p
 HasLevel-left p n k j s e =
     let q : p + 1 ≡ (2 * s.number + 1) * leaves_at (suc j) = s.node_index ∙ ap (λ v. (2 * s.number + 1) * leaves_at v) e in
@@ -213,7 +213,7 @@ HasLevel-low p n k j s l =
     let b = leaves_at-low s.height s.low in
     omega (arith, s.within, s.count)
 
--- the parent of a place with level k and number m
+-- the parent of a node index with level k and number m
 module _ (t : RatchetTree) (p n k : ℕ) (c : leaf_count t.tree ≡ n) (s : HasLevel p n k) where
   half_left : (first : ℕ) (u : Tree) (m : ℕ) → IsPerfect u → left_node_index first u ≡ Some p → first ≡ m * leaves_at (height u)
       → (s.number ≡ 2 * m) × (root_node_index first u ≡ p + leaves_at k)
@@ -235,7 +235,7 @@ module _ (t : RatchetTree) (p n k : ℕ) (c : leaf_count t.tree ≡ n) (s : HasL
       let v : leaves_at k ≡ leaves_at (height r) = ap leaves_at q.0 in
       (q.1, omega (arith, root_node_index-perfect (first + leaf_count l) r h.2, leaf_count-perfect l h.1, leaf_count-positive l), omega (arith, root_node_index-perfect (first + leaf_count l) r h.2, leaf_count-perfect l h.1, leaf_count-positive l))
 
-  -- the place above p, by the parity of its number
+  -- the node index above p, by the parity of its number
   pub record Above : Type 0 where
     pub even : s.number % 2 ≡ 0 → left_at t.tree (p + leaves_at k) ≡ Some p
     pub odd : s.number % 2 ≢ 0 → (leaves_at k ≤ p) × (right_at t.tree (p - leaves_at k) ≡ Some p)
@@ -274,7 +274,7 @@ module _ (t : RatchetTree) (p n k : ℕ) (c : leaf_count t.tree ≡ n) (s : HasL
         | inr w ↦ above-from w
       ]
 
--- a half stands at a place lower than its tree does, where the left one is before it and the right one after
+-- a child is on a lower level than its parent, the left one at a smaller node index and the right one at a larger
 pub record HalfOf (t : Tree) (q p : ℕ) : Type 0 where
   pub outer : Subtree
   pub stands : subtree_at 0 t q ≡ Some outer
@@ -314,7 +314,7 @@ pub IsParentOf-half : (t : RatchetTree) (q p : ℕ) → IsParentOf t.tree q p �
 IsParentOf-half t q p (inl e) = (left_at-half t q p e).0
 IsParentOf-half t q p (inr e) = (right_at-half t q p e).0
 
--- nothing is the parent of a place that is none, nor of the root's
+-- there is no parent of what is no node index, nor of the root's
 pub IsParentOf-no_node_index : (t : RatchetTree) (q p : ℕ) → subtree_at 0 t.tree p ≡ None → IsParentOf t.tree q p → ⊥
 IsParentOf-no_node_index t q p e h = let w = IsParentOf-half t q p h in none-some w.inner (sym e ∙ w.inside)
 
@@ -332,7 +332,7 @@ pub HasLevel-parity : (p n k : ℕ) (s : HasLevel p n k) → bit_and (p / 2 ^ (k
 HasLevel-parity p n k s =
     shr_and_one p (k + 1) ∙ ap (λ v. bit_at p v) (let e : k + 1 ≡ suc k = omega arith in e) ∙ (coordinates-bits p k s.number s.node_index).parity
 
--- a step down from an odd number stays in the range of numbers
+-- a step down from an odd number remains in the range of numbers
 pub HasLevel-odd : (p n k : ℕ) (s : HasLevel p n k) → s.number % 2 ≢ 0 → leaves_at k ≤ p
 HasLevel-odd p n k s odd =
     let m = s.number / 2 in

@@ -1,4 +1,4 @@
--- What counts tell of blank leaves.
+-- What counts determine of blank leaves.
 use Rattle.std.proofs.Common.{◌≡◌, ◌≢◌, ℕ, ◌+◌, ◌-◌, ◌≤◌, List, Option, Some, None, nat_lt, true, false, refl, sym, ap, ◌∙◌, subst, arith}
 use Rattle.std.specs.Prelude.{if◌then◌else◌, is_some}
 use Rattle.mls_nodes.specs.declared.leaf.LeafNode.{LeafNode}
@@ -14,7 +14,7 @@ use Rattle.mls_tree.proofs.Arrays.{leaf_count-tree_in}
 use Rattle.mls_tree.proofs.Walking.{tree_in-split}
 use Rattle.mls_tree.proofs.Counting.{member_count-low}
 
--- where all leaves are set, none is blank
+-- if all leaves are non-blank, none is blank
 next_blank_leaf-full : (start first : ℕ) (t : Tree) → member_count t ≡ leaf_count t → next_blank_leaf start first t ≡ None
 next_blank_leaf-full start first (leaf None) e = absurd (omega arith)
 next_blank_leaf-full start first (leaf (Some x)) e = refl
@@ -32,12 +32,12 @@ next_blank_leaf-late start first (branch l n r) e =
     let b = next_blank_leaf-late start (first + leaf_count l) r (omega arith) in
     λ i. first_of (a i) (b i)
 
--- a leaf that is not set
+-- a leaf that is blank
 next_blank_leaf-unset : (start first : ℕ) (x : Option LeafNode) → member_count (leaf x) ≢ 1 → next_blank_leaf start first (leaf x) ≡ (if nat_lt first start then None else Some first)
 next_blank_leaf-unset start first None ne = refl
 next_blank_leaf-unset start first (Some x) ne = absurd (ne refl)
 
--- an answer that is there hides the one after it
+-- a result that is there hides the one after it
 first_of-some : (a b : Option ℕ) → is_some a ≡ true → first_of a b ≡ a
 first_of-some None b e = cc
 first_of-some (Some i) b e = refl
@@ -62,7 +62,7 @@ module _ (xs : List (Option Node)) (first level start : ℕ) where
         ap (next_blank_leaf start first) (tree_in-split xs first half level deep e)
         ∙ ap (λ k. first_of (next_blank_leaf start first (tree_in xs (level - 1) first)) (next_blank_leaf start (first + k) (tree_in xs (level - 1) (first + half)))) (leaf_count-tree_in xs (level - 1) first ∙ sym e)
 
-    -- found in the left half
+    -- found in the left subtree
     pub next_blank_leaf-in_left : (found : Option ℕ) → found ≡ next_blank_leaf start first (tree_in xs (level - 1) first) → is_some found ≡ true → found ≡ next_blank_leaf start first (tree_in xs level first)
     next_blank_leaf-in_left found at some = at ∙ sym (halves ∙ first_of-some _ _ (ap is_some (sym at) ∙ some))
 
@@ -77,7 +77,7 @@ module _ (xs : List (Option Node)) (first level start : ℕ) where
     next_blank_leaf-right answer late right =
         right ∙ sym (halves ∙ first_of-none _ _ (ap is_some (next_blank_leaf-late start first (tree_in xs (level - 1) first) (let c = leaf_count-tree_in xs (level - 1) first in omega (arith, e)))))
 
-    -- counts of the whole have those of the halves
+    -- counts of the whole contain those of the children
     pub counts-near : (cs : List Count) → AreCounts first (tree_in xs level first) cs → AreCounts first (tree_in xs (level - 1) first) cs
     counts-near cs ok = (let at = subst (λ t. AreCounts first t cs) (tree_in-split xs first half level deep e) ok in at.0)
 

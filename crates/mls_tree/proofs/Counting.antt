@@ -1,4 +1,4 @@
--- Counts of set leaves and set nodes under each parent.
+-- Counts of non-blank leaves and nodes under each parent.
 use Rattle.std.proofs.Common.{◌≡◌, ◌≢◌, ℕ, suc, ◌+◌, ◌*◌, ◌-◌, ◌/◌, ◌<◌, ◌≤◌, zero, List, ◌++◌, length, take, get_or, replicate, Option, Some, None, refl, sym, ap, ◌∙◌, subst, inl, inr, arith, length-set}
 use Rattle.std.specs.Prelude.{slice_get, slice_set}
 use Rattle.std.proofs.lemmas.Bool.{cases_lt, cases_order}
@@ -50,7 +50,7 @@ AreCounts-same cs ds first (branch l n r) e ok =
       e (first + leaf_count l - 1) (omega arith) (omega arith) ∙ ok.2,
     )
 
--- ---- the subtree by its halves
+-- ---- the subtree by its children
 
 module _ (xs : List (Option Node)) (first half level : ℕ) (deep : level ≢ 0) (e : half ≡ leaves_at (level - 1)) where
   abbrev near : Tree
@@ -71,7 +71,7 @@ module _ (xs : List (Option Node)) (first half level : ℕ) (deep : level ≢ 0)
   whole-count : leaves_at level ≡ half + half
   whole-count = (let up : level ≡ suc (level - 1) = omega arith in ap leaves_at up ∙ (λ i. sym e i + sym e i))
 
-  -- counts of the halves and of the root
+  -- counts of the children and of the root
   pub AreCounts-join : (cs : List Count) → AreCounts first near cs → AreCounts (first + half) far cs → slice_get cs (first + half - 1) ≡ Some (subtree_count (branch near node far))
       → AreCounts first (tree_in xs level first) cs
   AreCounts-join cs a b c =
@@ -91,7 +91,7 @@ module _ (xs : List (Option Node)) (first half level : ℕ) (deep : level ≢ 0)
       let w = whole-count in
       same_Some (get_or cs (first + half - 1) d) (subtree_count (tree_in xs level first)) (sym (slice_get-get_or cs (first + half - 1) d (omega (arith, e))) ∙ root-subtree_count cs ok)
 
-  -- the sums stay small
+  -- the sums are small
   abbrev pub SumsLow : Count → Count → ℕ → Type 0
   SumsLow a b own = (a.members + b.members ≤ 2 * half) × (a.nodes + b.nodes ≤ 4 * half) × (a.nodes + b.nodes + own ≤ 4 * half)
 
@@ -113,7 +113,7 @@ module _ (xs : List (Option Node)) (first half level : ℕ) (deep : level ≢ 0)
       → record { members = a.members + b.members; nodes = a.nodes + b.nodes + own } ≡ subtree_count (branch near node far)
   sum-subtree_count a b own x y w = λ i. record { members = (x i).members + (y i).members; nodes = (x i).nodes + (y i).nodes + w i }
 
-  -- the root is set
+  -- the root is non-blank
   module _ (cs ds : List Count) (c : Count) (capacity : first + leaves_at level ≤ length cs + 1) (at : ds ≡ slice_set cs (first + half - 1) c) where
     pub added-kept : IsKeptOutside cs ds first (first + leaves_at level - 1)
     added-kept =
@@ -133,7 +133,7 @@ module _ (xs : List (Option Node)) (first half level : ℕ) (deep : level ≢ 0)
         (AreCounts-same cs ds (first + half) far (λ p low high. ap (λ v. slice_get v p) at ∙ slice_get-set_other cs (first + half - 1) p c (λ q. omega arith)) b)
         (ap (λ v. slice_get v (first + half - 1)) at ∙ slice_get-set_same cs (first + half - 1) c (omega arith) ∙ ap (λ v. Some v) is)
 
-  -- what stands beside a leaf, by the halves
+  -- what is next to a leaf, by the children
   pub beside-left : (cs : List Count) (i : ℕ) → i < first + half → AreOutside first (tree_in xs level first) i cs → AreOutside first near i cs × AreCounts (first + half) far cs
   beside-left cs i lt ok =
       let at = subst (λ t. AreOutside first t i cs) (tree_in-split xs first half level deep e) ok in
@@ -148,14 +148,14 @@ module _ (xs : List (Option Node)) (first half level : ℕ) (deep : level ≢ 0)
       let both = at.1 (omega arith) in
       (both.0, subst (λ k. AreOutside (first + k) far i cs) near-count both.1)
 
-  -- a walk in one half keeps the other half's counts
+  -- a walk in one subtree leaves the other subtree's counts unchanged
   pub kept-far : (cs ds : List Count) → IsKeptOutside cs ds first (first + leaves_at (level - 1) - 1) → AreCounts (first + half) far cs → AreCounts (first + half) far ds
   kept-far cs ds kept ok = AreCounts-same cs ds (first + half) far (λ p low high. kept.outside p (inr (omega (arith, e)))) ok
 
   pub kept-near : (cs ds : List Count) → IsKeptOutside cs ds (first + half) (first + half + leaves_at (level - 1) - 1) → AreCounts first near cs → AreCounts first near ds
   kept-near cs ds kept ok = AreCounts-same cs ds first near (λ p low high. kept.outside p (inl (let n = near-count in omega arith))) ok
 
-  -- a walk in one half, and then one in the whole
+  -- a walk in one subtree, and then one in the whole
   pub kept-left : (cs ds es : List Count) → IsKeptOutside cs ds first (first + leaves_at (level - 1) - 1) → IsKeptOutside ds es first (first + leaves_at level - 1)
       → IsKeptOutside cs es first (first + leaves_at level - 1)
   kept-left cs ds es a b =
@@ -180,7 +180,7 @@ kept-all cs low high = record { count = refl; outside = λ p away. refl }
 pub AreCounts-leaf : (xs : List (Option Node)) (first level : ℕ) (cs : List Count) → level ≡ 0 → AreCounts first (tree_in xs level first) cs
 AreCounts-leaf xs first level cs z = subst (λ k. AreCounts first (tree_in xs k first) cs) (sym z) tt
 
--- ---- a change of the tree leaves what stands beside it
+-- ---- a change of the tree leaves unchanged what is next to it
 
 pub beside : (first : ℕ) (t : Tree) (i : ℕ) (cs : List Count) → AreCounts first t cs → AreOutside first t i cs
 beside first (leaf x) i cs ok = tt
@@ -286,7 +286,7 @@ beside-extend t cs n perfect count e ok =
       λ ge. absurd (omega arith),
     )
 
--- ---- a tree in the place of the leftmost subtree of its height
+-- ---- a tree that becomes the leftmost subtree of its height
 
 module _ (t : Tree) (perfect : IsPerfect t) (front whole new : List Count) (short : length front + 1 ≡ leaf_count t) (put : (p : ℕ) → p < length front → slice_get new p ≡ slice_get front p)
     (rest : (p : ℕ) → length front ≤ p → slice_get new p ≡ slice_get whole p) (ok : AreCounts 0 t front) where

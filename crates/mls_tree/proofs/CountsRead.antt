@@ -1,4 +1,4 @@
--- What counts tell of a tree.
+-- What counts determine of a tree.
 use Rattle.std.proofs.Common.{◌≡◌, ◌≢◌, ℕ, ◌+◌, ◌-◌, ◌<◌, List, [], ◌++◌, IsTrue, nat_lt, ltb-true, Option, Some, None, refl, sym, ap, ◌∙◌, subst, inl, inr, arith}
 use Rattle.std.specs.Prelude.{◌||◌, ◌↔◌}
 use Rattle.std.proofs.lemmas.Bool.{cases_lt}
@@ -16,7 +16,7 @@ use Rattle.mls_tree.proofs.Arrays.{leaf_count-tree_in}
 use Rattle.mls_tree.proofs.Trees.{along}
 use Rattle.mls_tree.proofs.Walking.{tree_in-split, append-set, append-set_right, leaves_at-split}
 
--- ---- counts of the whole have those of the halves
+-- ---- counts of the whole contain those of the children
 
 module _ (xs : List (Option Node)) (first half level : ℕ) (deep : level ≢ 0) (e : half ≡ leaves_at (level - 1)) where
   abbrev near : Tree
@@ -45,7 +45,7 @@ module _ (xs : List (Option Node)) (first half level : ℕ) (deep : level ≢ 0)
       let at = subst (λ t. AreCounts first t cs) (tree_in-split xs first half level deep e) ok.1 in
       (omega (arith, far-count, leaves_at-split level half deep e, leaf_count-tree_in xs level first), subst (λ k. AreCounts (first + k) far cs) near-count at.1)
 
--- counts of the whole have those of the subtree at a place
+-- counts of the whole contain those of the subtree at a node index
 pub if_any-subtree : (o : Option (List Count)) (first : ℕ) (t : Tree) (p : ℕ) (s : Subtree) → subtree_at first t p ≡ Some s → AreCountsIfAny o first t → AreCountsIfAny o s.first s.tree
 if_any-subtree None first t p s e ok = tt
 if_any-subtree (Some cs) first t p s e ok =
@@ -55,7 +55,7 @@ if_any-subtree (Some cs) first t p s e ok =
     (λ first l n r p s gt sub ih ok. ih (let capacity = ok.0 in omega arith, ok.1.1))
     first t p s e ok
 
--- ---- what the counts tell
+-- ---- what the counts determine
 
 or_positive : (a b : ℕ) → (nat_lt 0 a || nat_lt 0 b) ≡ nat_lt 0 (a + b)
 or_positive a b =
@@ -64,14 +64,14 @@ or_positive a b =
       | inr ge ↦ (λ i. not_less 0 a ge i || nat_lt 0 b) ∙ ap (nat_lt 0) (let e : b ≡ a + b = omega arith in e)
     ]
 
--- a leaf is set where some are
+-- a leaf is non-blank if some are
 pub has_non_blank_leaf-subtree_count : (t : Tree) → has_non_blank_leaf t ≡ nat_lt 0 (member_count t)
 has_non_blank_leaf-subtree_count (leaf None) = sym (not_less 0 0 (omega arith))
 has_non_blank_leaf-subtree_count (leaf (Some x)) = sym (is_less 0 1 (omega arith))
 has_non_blank_leaf-subtree_count (branch l n r) =
     (λ i. has_non_blank_leaf-subtree_count l i || has_non_blank_leaf-subtree_count r i) ∙ or_positive (member_count l) (member_count r)
 
--- a resolution is empty where no node is set, and nowhere else
+-- a resolution is empty if and only if no node is non-blank
 pub resolution-none : (leaves first : ℕ) (t : Tree) → non_blank_count t ≡ 0 → resolution leaves first t ≡ []
 resolution-none leaves first (leaf None) e = refl
 resolution-none leaves first (leaf (Some x)) e = absurd (omega arith)

@@ -1,4 +1,4 @@
--- Steps of a walk down the places of a tree, as a crate above makes it by `part` alone: it stands at a place, goes on at the places of both
+-- Steps of a walk down the node indices of a tree, as a crate above makes it by `part` alone: it is at a node index, goes on at those of both
 -- children, and ends at the leaves.
 use Rattle.std.proofs.Common.{◌≡◌, ℕ, ◌+◌, ◌*◌, ◌≤◌, ◌<◌, Option, Some, None, ap, arith}
 use Rattle.mls_nodes.specs.declared.parent.ParentNode.{ParentNode}
@@ -18,7 +18,7 @@ depth (Some s) = height s.tree
 pub leaf_count-limit : (t : RatchetTree) → leaf_count t.tree ≤ 1048576
 leaf_count-limit t = let low = leaf_count-low t in omega (arith, leaves_at-low (height t.tree) low.0)
 
--- a place where a subtree stands is one of the tree's
+-- a node index at which there is a subtree is one of the tree's
 pub inside_bound : (t : Tree) (p : ℕ) (s : Subtree) → subtree_at 0 t p ≡ Some s → p + 1 < 2 * leaf_count t
 inside_bound t p s e = let st = subtree_at-stands 0 t p s e in omega (arith, st.node_index, st.to_right, root_node_index-below s.first s.tree)
 

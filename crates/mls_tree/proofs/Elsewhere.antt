@@ -1,4 +1,4 @@
--- A change at a place where there is nothing to change.
+-- A change at a node index that the tree does not have.
 use Rattle.std.proofs.Common.{◌≡◌, ℕ, ◌+◌, ◌*◌, Option, Some, refl, sym, ap, ◌∙◌, subst, inl, inr}
 use Rattle.std.proofs.lemmas.Bool.{cases_order}
 use Rattle.mls_nodes.specs.declared.parent.ParentNode.{ParentNode}
@@ -24,6 +24,6 @@ elsewhere first (branch l n r) p x h =
           ∙ ap (λ v. branch l n v) (elsewhere (first + leaf_count l) r p x (λ w. h (subst (λ o. IsParent o) (sym (after (p + 1) (2 * (first + leaf_count l)) whole left right gt)) w)))
     ]
 
--- a parent that is put where there is no place for one changes nothing
+-- a parent that is put at a node index of no parent changes nothing
 pub put_parent-elsewhere : (t : Tree) (p : ℕ) (x : Option ParentNode) → ¬ IsParentNodeIndex t p → put_parent 0 t p x ≡ t
 put_parent-elsewhere t p x h = elsewhere 0 t p x h

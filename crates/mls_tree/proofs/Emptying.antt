@@ -1,4 +1,4 @@
--- A change of a tree keeps the cells right that it doesn't empty.
+-- A change of a tree leaves the slots right that it does not empty.
 use Rattle.std.proofs.Common.{◌≡◌, ◌≢◌, ℕ, zero, suc, ◌+◌, ◌*◌, ◌-◌, ◌<◌, ◌≤◌, List, [], ◌∷◌, ◌++◌, length, replicate, true, false, Option, Some, None, refl, sym, ap, ◌∙◌, subst, inl, inr, arith, length-set, nat_lt}
 use Rattle.std.specs.Prelude.{slice_get, slice_set, is_some, option_map, option_and_then, ◌==◌, if◌then◌else◌, IsSome}
 use Rattle.std.proofs.lemmas.Bool.{cases_lt, cases_order}
@@ -18,7 +18,7 @@ use Rattle.mls_tree.proofs.Trees.{leaf_count-perfect, leaf_count-positive, subtr
 use Rattle.mls_tree.proofs.Arrays.{slice_get-set_same, slice_get-set_other}
 use Rattle.mls_tree.proofs.Kept.{leaf_count-put_leaf, leaf_count-put_parent, leaf_count-change_above}
 
--- ---- how many cells are empty
+-- ---- how many slots are empty
 
 pub empty_count-low : (slots : List (Option (List ℕ))) → empty_count slots ≤ length slots
 empty_count-low [] = omega arith
@@ -31,7 +31,7 @@ empty_count-fill [] (suc n) = let a = empty_count-fill [] n in omega arith
 empty_count-fill (None ∷ slots) n = let a = empty_count-fill slots n in omega arith
 empty_count-fill (Some h ∷ slots) n = empty_count-fill slots n
 
--- ---- cells that are emptied
+-- ---- slots that are emptied
 
 pub length-emptied : (slots : List (Option (List ℕ))) (ps : List ℕ) → length (emptied slots ps) ≡ length slots
 length-emptied slots [] = refl
@@ -41,7 +41,7 @@ pub emptied-append : (slots : List (Option (List ℕ))) (ps qs : List ℕ) → e
 emptied-append slots [] qs = refl
 emptied-append slots (p ∷ ps) qs = emptied-append (slice_set slots p None) ps qs
 
--- the place is none of these
+-- the node index is none of these
 abbrev pub IsAway : ℕ → List ℕ → Type 0
 IsAway p [] = Unit {0}
 IsAway p (q ∷ qs) = (p ≡ q → ⊥) × IsAway p qs
@@ -54,13 +54,13 @@ pub IsAway-back : (p : ℕ) (ps qs : List ℕ) → IsAway p (ps ++ qs) → IsAwa
 IsAway-back p [] qs w = w
 IsAway-back p (q ∷ ps) qs w = IsAway-back p ps qs w.1
 
--- an emptied cell has no hash
+-- an emptied slot has no hash
 cleared-empty : (slots : List (Option (List ℕ))) (p : ℕ) (h : List ℕ) → slice_get (slice_set slots p None) p ≡ Some (Some h) → ⊥
 cleared-empty [] p h e = cc
 cleared-empty (c ∷ slots) zero h e = cc
 cleared-empty (c ∷ slots) (suc p) h e = cleared-empty slots p h e
 
--- a cell that has a hash still was not emptied
+-- a slot that still has a hash was not emptied
 pub record WasKept (slots : List (Option (List ℕ))) (ps : List ℕ) (p : ℕ) (h : List ℕ) : Type 0 where
   pub former : slice_get slots p ≡ Some (Some h)
   pub away : IsAway p ps
@@ -75,7 +75,7 @@ emptied-filled slots (q ∷ ps) p h e =
 -- ---- subtrees away from a leaf and the parents above it
 
 module _ (first p : ℕ) (l : Tree) (n m : Option ParentNode) (r : Tree) where
-  -- the left half is another one
+  -- the left subtree is another one
   pub in_left : (v : Tree) → leaf_count v ≡ leaf_count l → (p ≡ 2 * (first + leaf_count l) - 1 → ⊥) → subtree_at first v p ≡ subtree_at first l p
       → subtree_at first (branch v m r) p ≡ subtree_at first (branch l n r) p
   in_left v c away e =
@@ -87,7 +87,7 @@ module _ (first p : ℕ) (l : Tree) (n m : Option ParentNode) (r : Tree) where
             subtree_at-in_right first v m r p (omega arith) ∙ ap (λ k. subtree_at (first + k) r p) c ∙ sym (subtree_at-in_right first l n r p gt)
       ]
 
-  -- the right half is another one
+  -- the right subtree is another one
   in_right : (v : Tree) → (p ≡ 2 * (first + leaf_count l) - 1 → ⊥) → subtree_at (first + leaf_count l) v p ≡ subtree_at (first + leaf_count l) r p
       → subtree_at first (branch l m v) p ≡ subtree_at first (branch l n r) p
   in_right v away e =
@@ -140,7 +140,7 @@ beside-change_above f first (branch l n r) i p w =
           (beside-change_above f m r i p (subst (IsAway p) (from i m (direct_path first l i) (direct_path m r i) ge) front))
     ]
 
--- the parents from a place up, below the root
+-- the parents from a node index up, below the root
 abbrev from_path : ℕ → Tree → Tree → ℕ → List ℕ
 from_path first l r q =
     if q + 1 == 2 * (first + leaf_count l)
@@ -169,9 +169,9 @@ beside-put_parent first (branch l n r) q x p w =
           (beside-put_parent m r q x p (subst (IsAway p) (after (q + 1) (2 * m) [] (parents_from first l q) (parents_from m r q) gt) front))
     ]
 
--- ---- cells stay right
+-- ---- slots remain right
 
--- where the places at which the trees differ are emptied
+-- if the slots at which the trees differ are emptied
 pub AreSlots-emptied : (H : List ℕ → List ℕ) (t u : Tree) (slots new : List (Option (List ℕ))) (ps : List ℕ) → new ≡ emptied slots ps → leaf_count u ≡ leaf_count t
     → ((p : ℕ) → IsAway p ps → subtree_at 0 u p ≡ subtree_at 0 t p) → AreSlots H t slots → AreSlots H u new
 AreSlots-emptied H t u slots new ps e c same ok = record {
@@ -205,7 +205,7 @@ module _ (first half level i : ℕ) (deep : level ≢ 0) (e : half ≡ leaves_at
       ∙ sym (emptied-append old (direct_path (first + leaf_count l) r i) ((2 * (first + leaf_count l) - 1) ∷ []))
       ∙ ap (λ ps. emptied old (ps ++ (2 * (first + leaf_count l) - 1) ∷ [])) (sym (from i (first + leaf_count l) (direct_path first l i) (direct_path (first + leaf_count l) r i) (omega arith)))
 
--- ---- one step of the walk down to a place
+-- ---- one step of the walk down to a node index
 
 module _ (first half level q : ℕ) (deep : level ≢ 0) (e : half ≡ leaves_at (level - 1)) (old mid new : List (Option (List ℕ))) where
   pub cleared-here : q + 1 ≡ 2 * (first + half) → new ≡ slice_set old (2 * (first + half) - 1) None
@@ -249,7 +249,7 @@ pub emptied-none : (first i level : ℕ) (old : List (Option (List ℕ))) → le
 emptied-none first i level old z (leaf _) p h = refl
 emptied-none first i level old z (branch l n r) p h = absurd (omega arith)
 
--- where there are no cells, none is emptied
+-- if there are no slots, none is emptied
 pub emptied-nothing : (ps : List ℕ) → emptied [] ps ≡ []
 emptied-nothing [] = refl
 emptied-nothing (p ∷ ps) = emptied-nothing ps
@@ -257,7 +257,7 @@ emptied-nothing (p ∷ ps) = emptied-nothing ps
 pub nothing-emptied : (slots : List (Option (List ℕ))) (ps : List ℕ) → slots ≡ [] → slots ≡ emptied slots ps
 nothing-emptied slots ps none = none ∙ sym (ap (λ cs. emptied cs ps) none ∙ emptied-nothing ps)
 
--- a filled cell that is emptied is counted
+-- a filled slot that is emptied is counted
 pub cleared-filled : (slots : List (Option (List ℕ))) (p : ℕ) → Some true ≡ option_map is_some (slice_get slots p) → empty_count (slice_set slots p None) ≡ empty_count slots + 1
 cleared-filled [] p e = absurd (cc)
 cleared-filled (None ∷ slots) zero e = absurd (cc)
@@ -273,9 +273,9 @@ cleared-blank (Some g ∷ slots) zero e = absurd (cc)
 cleared-blank (None ∷ slots) (suc p) e = ap (λ n. suc n) (cleared-blank slots p e)
 cleared-blank (Some g ∷ slots) (suc p) e = cleared-blank slots p e
 
--- ---- a cell is filled
+-- ---- a slot is filled
 
--- an empty cell that is filled is counted no more
+-- an empty slot that is filled is counted no more
 pub put-empty : (slots : List (Option (List ℕ))) (p : ℕ) (h : List ℕ) → Some false ≡ option_map is_some (slice_get slots p) → empty_count slots ≡ empty_count (slice_set slots p (Some h)) + 1
 put-empty [] p h e = absurd (cc)
 put-empty (None ∷ slots) zero h e = omega arith
@@ -291,7 +291,7 @@ put-filled (Some f ∷ slots) zero h e = refl
 put-filled (None ∷ slots) (suc p) h e = ap (λ n. suc n) (put-filled slots p h e)
 put-filled (Some f ∷ slots) (suc p) h e = put-filled slots p h e
 
--- a right hash keeps the cells right
+-- the slots remain right if a right hash is put into one
 pub AreSlots-filled : (H : List ℕ → List ℕ) (t : Tree) (slots new : List (Option (List ℕ))) (p : ℕ) (h : List ℕ) → new ≡ slice_set slots p (Some h) → hash_at H t p ≡ Some h
     → AreSlots H t slots → AreSlots H t new
 AreSlots-filled H t slots new p h e right ok = record {
@@ -312,7 +312,7 @@ AreSlots-filled H t slots new p h e right ok = record {
     set-there (c ∷ slots) zero h g e = cc
     set-there (c ∷ slots) (suc p) h g e = set-there slots p h g e
 
--- a place that has a hash is one of the tree's
+-- a node index that has a hash is one of the tree's
 pub hash_at-inside : (H : List ℕ → List ℕ) (t : Tree) (p : ℕ) (h : List ℕ) → hash_at H t p ≡ Some h → p + 1 < 2 * leaf_count t
 hash_at-inside H t p h e =
     elim (cases_lt (p + 1) (2 * leaf_count t)) [
@@ -320,7 +320,7 @@ hash_at-inside H t p h e =
       | inr ge ↦ absurd (none-some h (sym (ap (option_and_then (λ (s : Subtree). tree_hash H s.first s.tree)) (subtree_at-none 0 t p (omega arith))) ∙ e))
     ]
 
--- ---- cells that are all empty
+-- ---- slots that are all empty
 
 pub empty_count-fresh : (n : ℕ) → empty_count (replicate n None) ≡ n
 empty_count-fresh zero = refl
@@ -337,11 +337,11 @@ AreSlots-fresh H t slots n e long = record {
   each = λ p h at. absurd (fresh-empty n p h (ap (λ cs. slice_get cs p) (sym e) ∙ at));
 }
 
--- a filled cell, by the list
+-- a filled slot, by the list
 pub filled-there : (slots new : List (Option (List ℕ))) (p : ℕ) (h : List ℕ) → new ≡ slice_set slots p (Some h) → p < length slots → hash_in (slice_get new p) ≡ Some h
 filled-there slots new p h e lt = ap (λ cs. hash_in (slice_get cs p)) e ∙ ap hash_in (slice_get-set_same slots p (Some h) lt)
 
--- ---- cells that are all filled
+-- ---- slots that are all filled
 
 pub all_filled : (slots : List (Option (List ℕ))) → ((p : ℕ) → p < length slots → IsSome (hash_in (slice_get slots p))) → empty_count slots ≡ 0
 all_filled [] h = refl

@@ -1,4 +1,4 @@
--- A number that enters a list and leaves it again, and the parents above a leaf whose lists can take it.
+-- A number that is inserted into a list and removed again, and the parents above a leaf whose lists can take it.
 use Rattle.std.proofs.Common.{◌≡◌, ◌≢◌, ℕ, suc, ◌+◌, ◌*◌, ◌-◌, ◌<◌, List, [], ◌∷◌, ◌++◌, length, take, drop, Option, Some, None, refl, sym, ap, ◌∙◌, subst, inl, inr, arith, unwrap_or, append_assoc}
 use Rattle.std.specs.Prelude.{All, Bool, true, false, not, cond, ◌==◌, if◌then◌else◌, ◌||◌, ◌≤◌, nat_le, nat_lt, insert, is_some, position, remove, slice_get}
 use Rattle.std.specs.Prelude.{Result, Ok, Err, OnOk, OnErr, IfOk}
@@ -33,7 +33,7 @@ any-none : (a b : Bool) → (a || b) ≡ false → (a ≡ false) × (b ≡ false
 any-none true b e = absurd cc
 any-none false b e = (refl, e)
 
--- a number that a list doesn't have enters it and leaves it
+-- a number that a list does not have is inserted and removed
 pub in_lists-left : (i : ℕ) (xs : List ℕ) → list_any (λ x. x == i) xs ≡ false → without_number i (insert_before i xs) ≡ xs
 in_lists-left i [] none = same i i [] (i ∷ []) refl
 in_lists-left i (x ∷ xs) none =
@@ -168,7 +168,7 @@ module _ (t : Tree) (p : ℕ) (x : Option ParentNode) (there : IsParentNodeIndex
       ∙ ap (λ o. unwrap_or o None) (slice_get-set_other (listing t) p q (parent_entry x) away)
       ∙ sym (node_at-listing t q))
 
--- its place is that of a parent still
+-- its node index is still that of a parent
 pub still-parent : (t s : Tree) (p : ℕ) → IsParentNodeIndex t p → s ≡ put_parent 0 t p None → IsParentNodeIndex s p
 still-parent t s p there taken = IsParentNodeIndex-like t s (ap leaf_count taken ∙ leaf_count-put_parent 0 t p None) p there
 
@@ -219,11 +219,11 @@ capacity-after : (i : ℕ) (n : Option ParentNode) → is_overfilled i n ≡ fal
 capacity-after i None capacity = refl
 capacity-after i (Some a) capacity = ap (λ xs. nat_lt leaf_limit (length xs)) (inserted-twice i a.unmerged (list_any (λ x. x == i) a.unmerged) refl) ∙ capacity
 
--- the list of the parent at a place can take i
+-- the list of the parent at a node index can take i
 abbrev pub HasCapacity : ℕ → ℕ → Tree → ℕ → Type 0
 HasCapacity i first t p = is_overfilled i (parent_at first t p) ≡ false
 
--- a place of a parent whose list can
+-- a node index of a parent whose list can
 abbrev IsRoomy : ℕ → ℕ → Tree → ℕ → Type 0
 IsRoomy i first t p = IsWithin first (leaf_count t) p × HasCapacity i first t p
 
@@ -282,7 +282,7 @@ pub blank-stays : (t u : Tree) (p : ℕ) → IsParentNodeIndex t p → None ≡ 
 blank-stays t u p there at put =
     put ∙ ap (put_parent 0 t p) at ∙ sym (put_parent-twice 0 t p None (parent_at 0 t p)) ∙ put_parent-back 0 t p None there
 
--- ---- clauses on answers
+-- ---- clauses on results
 
 module _ {A E : Type 0} where
   pub on_ok : {P Q : Type 0} (r : Result A E) → (P → Q) → OnOk r P → OnOk r Q
@@ -308,7 +308,3 @@ on_false false f h = f h
 pub true_gives : {P : Type 0} (b : Bool) → b ≡ true → OnTrue b P → P
 true_gives true e h = h
 true_gives false e h = absurd cc
-
-pub false_gives : {P : Type 0} (b : Bool) → b ≡ false → OnFalse b P → P
-false_gives true e h = absurd cc
-false_gives false e h = h

@@ -34,19 +34,19 @@ both : (a b : Bool) → a ≡ true → b ≡ true → a && b ≡ true
 both true b p q = q
 both false b p q = p
 
--- blanks may stand anywhere
+-- blanks may be anywhere
 fit_from-blanks : (node_index n : ℕ) → fit_from node_index (replicate n None) ≡ true
 fit_from-blanks node_index zero = refl
 fit_from-blanks node_index (suc n) = fit_from-blanks (node_index + 1) n
 
--- so entries that may stand at their places may also where blanks are behind them
+-- so entries that may be at their node indices may also be there if blanks are after them
 fit_from-more : (node_index : ℕ) (xs : List (Option NodeValue)) (n : ℕ) → fit_from node_index xs ≡ true → fit_from node_index (xs ++ replicate n None) ≡ true
 fit_from-more node_index [] n h = fit_from-blanks node_index n
 fit_from-more node_index (x ∷ xs) n h =
     both (fits_at node_index x) (fit_from (node_index + 1) (xs ++ replicate n None)) (both-left (fits_at node_index x) _ h)
     (fit_from-more (node_index + 1) xs n (both-right (fits_at node_index x) _ h))
 
--- an entry, where there is one, may stand at the place
+-- an entry, if there is one, may be at the node index
 abbrev MayStand : ℕ → Option (Option NodeValue) → Type 0
 MayStand node_index None = Unit {0}
 MayStand node_index (Some x) = fits_at node_index x ≡ true
@@ -58,14 +58,14 @@ MayStand-at node_index (x ∷ xs) (suc p) h =
     subst (λ k. MayStand k (slice_get xs p)) (let e : node_index + 1 + p ≡ node_index + suc p = omega arith in e)
     (MayStand-at (node_index + 1) xs p (both-right (fits_at node_index x) _ h))
 
--- such an entry of an array is a leaf at an even place and a parent at an odd one
+-- such an entry of an array is a leaf at an even node index and a parent at an odd one
 MayStand-fits : (p : ℕ) (o : Option (Option Node)) → MayStand p (option_map entry_value o) → FitsNodeIndex p o
 MayStand-fits p None h = record { even = λ z. tt; odd = λ z. tt }
 MayStand-fits p (Some None) h = record { even = λ z. tt; odd = λ z. tt }
 MayStand-fits p (Some (Some (Leaf b))) h = record { even = λ z. tt; odd = λ z. z (eqb-true (p % 2) 0 h) }
 MayStand-fits p (Some (Some (Parent b))) h = record { even = λ z. let one : p % 2 ≡ 1 = eqb-true (p % 2) 1 h in absurd (omega arith); odd = λ z. tt }
 
--- a full tree of entries that may all stand at their places is an array of a tree
+-- a full tree of entries that may all be at their node indices is an array of a tree
 array : (entries : List (Option Node)) (d : ℕ) → fit_from 0 (map entry_value entries) ≡ true → length entries + 1 ≡ 2 * leaves_at d → IsArrayOf entries d
 array entries d stand long =
     IsArrayOf-fits entries entries d refl long
@@ -82,7 +82,7 @@ low_full d n e le =
       | inr ge ↦ let high : 2 ^ 22 ≤ 2 ^ (d + 1) = pow_mono {i = 22} {j = d + 1} (omega arith) in absurd (omega arith)
     ]
 
--- an array whose entries fill up those that some bytes spell (RFC 9420, 12.4.3.3) is the listing of a tree
+-- an array whose entries fill up those that some bytes encode (RFC 9420, 12.4.3.3) is the listing of a tree
 pub filled_listing : (nodes : List (Option NodeValue)) (bytes : List ℕ) (entries : List (Option Node))
     → ratchet_tree nodes ≡ Some bytes → map entry_value entries ≡ filled nodes → IsListing (map entry_value entries)
 unfolding ratchet_tree

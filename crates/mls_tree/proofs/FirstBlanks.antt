@@ -8,7 +8,7 @@ use Rattle.mls_tree.specs.Tree.{Tree, leaf, branch, leaf_count, leaf_at}
 use Rattle.mls_tree.specs.BlankLeaves.{first_of, first_blank_leaf, next_blank_leaf, IsFirstBlank, AllLeavesNonBlank, AreNonBlankBelow}
 use Rattle.mls_tree.proofs.Choices.{below, from, same}
 
--- the leaves from `first` and from `start` on and below `last` are set
+-- the leaves from `first` and from `start` on and below `last` are non-blank
 abbrev AreSet : ℕ → ℕ → Tree → ℕ → Type 0
 AreSet start first t last = (i : ℕ) → start ≤ i → first ≤ i → i < last → IsSome (leaf_at first t i)
 
@@ -98,7 +98,7 @@ none : (start : ℕ) (t : Tree) → AreSet start 0 t (0 + leaf_count t) → (o :
 none start t h None s = refl
 none start t h (Some k) s = absurd (not_both _ s.blank (h k s.from_start (omega arith) s.inside))
 
--- leaf j is blank, and each one from `start` on and before it is set
+-- leaf j is blank, and each one from `start` on and before it is non-blank
 pub record IsNextBlank (start : ℕ) (t : Tree) (j : ℕ) : Type 0 where
   pub late : start ≤ j
   pub inside : j < leaf_count t
@@ -141,6 +141,6 @@ from_zero start t set (Some j) s =
       earlier = λ i late a b. elim (cases_lt i start) [ inl lt ↦ set i lt | inr ge ↦ s.earlier i ge a b ];
     }) (next_blank_leaf 0 0 t) (search 0 0 t)
 
--- where each leaf below `start` is set, the search from there on finds the first one
+-- if each leaf below `start` is non-blank, the search from there on finds the first blank one
 pub next_blank_leaf-first : (t : Tree) (start : ℕ) → AreNonBlankBelow t start → next_blank_leaf start 0 t ≡ first_blank_leaf 0 t
 next_blank_leaf-first t start set = sym (from_zero start t set (next_blank_leaf start 0 t) (search start 0 t)) ∙ next_blank_leaf-zero 0 t

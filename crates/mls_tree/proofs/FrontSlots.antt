@@ -1,12 +1,9 @@
--- The cells of a tree that is taken apart, and put together again.
-use Rattle.std.proofs.Common.{◌≡◌, ℕ, zero, suc, ◌+◌, ◌*◌, ◌-◌, ◌<◌, ◌≤◌, List, [], ◌∷◌, ◌++◌, length, take, drop, replicate, Option, Some, None, refl, sym, ap, ◌∙◌, subst, inl, inr, arith, min}
-use Rattle.std.specs.Prelude.{slice_get, option_and_then, Bool, false, ◌==◌, ◌||◌, IfSome}
-use Rattle.std.specs.List.{list_any, range_with_len}
+-- The slots of a tree whose leftmost subtree is taken out, and of one that becomes the leftmost subtree of another.
+use Rattle.std.proofs.Common.{◌≡◌, ℕ, zero, suc, ◌+◌, ◌*◌, ◌-◌, ◌<◌, ◌≤◌, List, [], ◌∷◌, ◌++◌, length, take, drop, replicate, Option, Some, None, refl, sym, ap, ◌∙◌, subst, inl, inr, arith}
+use Rattle.std.specs.Prelude.{slice_get, option_and_then, IfSome}
+use Rattle.std.specs.List.{range_with_len}
 use Rattle.std.proofs.lemmas.Bool.{cases_lt, cases_order}
-use Rattle.std.proofs.lemmas.Bool.Decides.{nat_tests}
-use Rattle.std.proofs.lemmas.List.{take_at, length-take}
-use Rattle.std.proofs.lemmas.List.Folds.{list_any-append}
-use Rattle.std.proofs.lemmas.Option.{slice_get_past}
+use Rattle.std.proofs.lemmas.List.{take_at, length-append, length-drop}
 use Rattle.mls_tree.specs.declared.hash_kind.HashKind.{HashKind}
 use Rattle.mls_tree.specs.declared.hash_cache.Slots.{Slots}
 use Rattle.mls_tree.specs.Tree.{Tree, height, leaf_count, IsPerfect, Subtree, subtree_at}
@@ -15,17 +12,14 @@ use Rattle.mls_tree.specs.TreeHash.{tree_hash}
 use Rattle.mls_tree.specs.Paths.{direct_path}
 use Rattle.mls_tree.specs.TreeOperations.{rejoined}
 use Rattle.mls_tree.specs.HashCache.{emptied, extended, hash_by}
-use Rattle.mls_tree.specs.HashCacheInternal.{AreSlots, AreSlotsOf}
+use Rattle.mls_tree.specs.HashCacheInternal.{AreSlots, AreSlotsOf, joined_slots}
 use Rattle.mls_tree.specs.CacheModel.{kind_in, slots_in, HasMoreThan, AreFewer}
-use Rattle.mls_tree.specs.SlotChanges.{joined_slots, rejoined_slots, SlotsAgreeExceptAt}
-use Rattle.mls_tree.proofs.Choices.{below}
 use Rattle.mls_tree.proofs.Numbers.{leaves_at-positive, leaves_at-le}
 use Rattle.mls_tree.proofs.Trees.{leaf_count-perfect}
 use Rattle.mls_tree.proofs.Fronts.{leaves-le, leaf_count-rejoined, subtree_at-kept, subtree_at-behind}
 use Rattle.mls_tree.proofs.Emptying.{IsAway, IsAway-front, IsAway-back, emptied-filled, emptied-nothing, length-emptied}
-use Rattle.mls_tree.proofs.Growing.{slice_get-append_left, slice_get-take}
+use Rattle.mls_tree.proofs.Growing.{slice_get-append_left}
 use Rattle.mls_tree.proofs.KeptSlots.{slots-emptied}
-use Rattle.mls_tree.proofs.SlotsBack.{emptied-other, direct_path-shape, length-joined_slots}
 
 -- ---- entries of a list that was put together
 
@@ -49,7 +43,7 @@ module _ {X : Type 0} where
       ∙ slice_get-drop ys (length xs) (p - length xs)
       ∙ ap (slice_get ys) at
 
--- ---- places away from the first ones
+-- ---- node indices after the first ones
 
 away-range : (first n p : ℕ) → first ≤ p → IsAway p (range_with_len first n) → first + n ≤ p
 away-range first zero p low away = omega arith
@@ -59,19 +53,6 @@ away-range first (suc n) p low away =
       | inr (inl lt) ↦ (let h = away-range (first + 1) n p (omega arith) away.1 in omega arith)
       | inr (inr gt) ↦ absurd (omega arith)
     ]
-
-is_other : (q p : ℕ) → q < p → (q == p) ≡ false
-is_other q p lt = grind (arith, nat_tests)
-
-none-other : (q p : ℕ) (b : Bool) → q < p → b ≡ false → ((q == p) || b) ≡ false
-none-other q p b lt e = ap (λ a. a || b) (is_other q p lt) ∙ e
-
-range-away : (first n p : ℕ) → first + n ≤ p → list_any (λ q. q == p) (range_with_len first n) ≡ false
-range-away first zero p low = refl
-range-away first (suc n) p low = none-other first p (list_any (λ q. q == p) (range_with_len (first + 1) n)) (omega arith) (range-away (first + 1) n p (omega arith))
-
-away-both : (p : ℕ) (ps qs : List ℕ) → list_any (λ q. q == p) ps ≡ false → list_any (λ q. q == p) qs ≡ false → list_any (λ q. q == p) (ps ++ qs) ≡ false
-away-both p ps qs a b = list_any-append (λ q. q == p) ps qs ∙ (λ i. a i || b i)
 
 -- ---- the rest of a tree whose leftmost subtree was taken out
 
@@ -85,47 +66,12 @@ slots-rest kind t f w slots rest n a b low back count e =
     let past = away-range 0 n p (omega arith) (IsAway-front p ps path away) in
     sym (subtree_at-behind f w p a b (omega arith) (IsAway-back p ps path away)) ∙ ap (λ v. subtree_at 0 v p) back)
 
--- ---- both parts put together again
+-- ---- a tree that becomes the leftmost subtree of another one
 
--- the cells of a tree that was taken apart
-pub record AreAgain (path : List ℕ) (slots again : List (Option (List ℕ))) : Type 0 where
-  pub count : length slots ≡ length again
-  pub same : SlotsAgreeExceptAt path slots again
-
-module _ (slots front rest : List (Option (List ℕ))) (w : Tree) (n : ℕ) (taken : front ≡ take n slots) (left : rest ≡ emptied slots (range_with_len 0 n ++ direct_path 0 w 0)) where
-  front-long : length front ≡ min n (length slots)
-  front-long = ap length taken ∙ length-take n slots
-
-  rest-long : length rest ≡ length slots
-  rest-long = ap length left ∙ length-emptied slots (range_with_len 0 n ++ direct_path 0 w 0)
-
-  again-at : (p : ℕ) → list_any (λ q. q == p) (direct_path 0 w 0) ≡ false → slice_get slots p ≡ slice_get (joined_slots front w rest) p
-  again-at p away =
-      let f = front-long in
-      let r = rest-long in
-      let path = direct_path 0 w 0 in
-      let others = emptied rest path in
-      elim (cases_lt p (length front)) [
-        | inl lt ↦
-            sym (slice_get-append_left front (drop (length front) others) p lt ∙ ap (λ cs. slice_get cs p) taken ∙ slice_get-take slots n p (omega arith))
-        | inr ge ↦
-            elim (cases_lt p n) [
-              | inl lt ↦ slice_get_past slots p (omega arith) ∙ sym (slice_get-behind front others p ge ∙ sym (emptied-other path rest p away) ∙ slice_get_past rest p (omega arith))
-              | inr past ↦
-                  emptied-other (range_with_len 0 n ++ path) slots p (away-both p (range_with_len 0 n) path (range-away 0 n p (omega arith)) away)
-                  ∙ sym (slice_get-behind front others p ge ∙ sym (emptied-other path rest p away) ∙ ap (λ cs. slice_get cs p) left)
-            ]
-      ]
-
-  pub slots-again : (t f : Tree) → IsPerfect t → IsPerfect w → height t ≡ height w → height f < height w → AreAgain (direct_path 0 t 0) slots (rejoined_slots f front w rest)
-  slots-again t f a b high low =
-      subst (AreAgain (direct_path 0 t 0) slots) (sym (below (height f) (height w) (joined_slots front w rest) front low))
-      (record {
-        count = (let f = front-long in let r = rest-long in omega (arith, length-joined_slots front w rest));
-        same = λ p away. again-at p (ap (λ ps. list_any (λ q. q == p) ps) (direct_path-shape 0 w t 0 b a (sym high)) ∙ away);
-      })
-
--- ---- a tree in the place of the leftmost subtree of another one
+length-joined_slots : (xs : List (Option (List ℕ))) (w : Tree) (whole : List (Option (List ℕ))) → length (joined_slots xs w whole) ≡ length xs + (length whole - length xs)
+length-joined_slots xs w whole =
+    let rest = emptied whole (direct_path 0 w 0) in
+    length-append xs (drop (length xs) rest) ∙ ap (λ n. length xs + n) (length-drop (length xs) rest ∙ ap (λ n. n - length xs) (length-emptied whole (direct_path 0 w 0)))
 
 AreSlots-joined_slots : (H : List ℕ → List ℕ) (t w : Tree) (slots rest new : List (Option (List ℕ))) → IsPerfect t → IsPerfect w → height t ≤ height w
     → new ≡ joined_slots slots w rest → AreSlots H t slots → AreSlots H w rest → AreSlots H (rejoined t w) new
@@ -166,7 +112,7 @@ take-nothing : (n : ℕ) → take n (let none : List (Option (List ℕ)) = [] in
 take-nothing zero = refl
 take-nothing (suc n) = refl
 
--- ---- the cells of a tree that has grown
+-- ---- the slots of a tree that was extended
 
 take-front : (xs ys : List (Option (List ℕ))) (n : ℕ) → n ≡ length xs → take n (xs ++ ys) ≡ xs
 take-front xs ys n e = take_at xs ys n (sym e)
@@ -175,7 +121,7 @@ pub front-extended : (kind : Option HashKind) (t : Tree) (slots : List (Option (
 front-extended None t slots none = ap (take (2 * leaf_count t - 1)) none ∙ take-nothing (2 * leaf_count t - 1) ∙ sym none
 front-extended (Some kind) t slots ok = take-front slots (replicate (length slots + 1) None) (2 * leaf_count t - 1) (omega (arith, ok.count))
 
--- ---- how many cells there are
+-- ---- how many slots there are
 
 pub more-than : (slots : Option Slots) (t : Tree) (n level : ℕ) → IsPerfect t → level < height t → n + 1 ≡ 2 * leaves_at level → AreSlotsOf (kind_in slots) t (slots_in slots) → HasMoreThan n slots
 more-than None t n level perfect low e ok = tt

@@ -1,4 +1,4 @@
--- The leftmost subtrees of a tree, and a tree that is put in the place of one.
+-- The leftmost subtrees of a tree, and a tree that replaces one.
 use Rattle.std.proofs.Common.{◌≡◌, ℕ, suc, ◌+◌, ◌*◌, ◌-◌, ◌<◌, ◌≤◌, [], ◌∷◌, Option, refl, sym, ap, ◌∙◌, subst, inl, inr, arith}
 use Rattle.std.proofs.lemmas.Bool.{cases_lt}
 use Rattle.mls_nodes.specs.declared.parent.ParentNode.{ParentNode}
@@ -56,7 +56,7 @@ truncate-front (branch l n r) =
     (sym (front-whole (suc (height l)) (branch l n r) (omega arith)))
     (truncate-front l ∙ sym (front-below (height (truncate l)) l n r (height-truncate l)))
 
--- ---- a tree in the place of the leftmost subtree of its height
+-- ---- a tree that replaces the leftmost subtree of its height
 
 pub rejoined-low : (t w : Tree) → height w ≤ height t → rejoined t w ≡ t
 rejoined-low t (leaf x) low = refl
@@ -114,7 +114,7 @@ subtree_at-kept t w p lt =
     (λ l n r ge ih. subtree_at-in_left 0 (rejoined t l) n r p (let a = leaf_count-kept t l in omega arith) ∙ ih)
     w
 
--- and behind these, but for the parents above leaf 0, those of the other
+-- and after these, except the parents above leaf 0, those of the other
 pub subtree_at-behind : (t w : Tree) (p : ℕ) → IsPerfect t → IsPerfect w → 2 * leaf_count t ≤ p + 1 → IsAway p (direct_path 0 w 0) → subtree_at 0 (rejoined t w) p ≡ subtree_at 0 w p
 subtree_at-behind t w p perfect b past away =
     to_rejoined t (λ w v. IsPerfect w → IsAway p (direct_path 0 w 0) → subtree_at 0 v p ≡ subtree_at 0 w p)

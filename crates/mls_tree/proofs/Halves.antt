@@ -1,4 +1,4 @@
--- A place is that of a leaf, or of a parent with two halves whose places are known.
+-- A node index is that of a leaf, or of a parent with two children whose node indices are known.
 use Rattle.std.proofs.Common.{◌≡◌, ℕ, ◌+◌, ◌/◌, Option, Some, None, IsSome, refl, sym, ap, ◌∙◌, arith}
 use Rattle.std.specs.Prelude.{option_and_then}
 use Rattle.std.proofs.lemmas.Option.{none-some, same_Some, option_and_then_some}
@@ -9,7 +9,7 @@ use Rattle.mls_tree.specs.NodeIndices.{left_at, right_at, left_node_index, right
 use Rattle.mls_tree.proofs.Choices.{below, from, same}
 use Rattle.mls_tree.proofs.Trees.{along, subtree_at-left, subtree_at-right, subtree_at-stands, leaf_count-positive}
 
--- a parent stands at place p, and its halves at q and u
+-- a parent is at node index p, and its children at q and u
 pub record Split (t : Tree) (p q u : ℕ) : Type 0 where
   pub first : ℕ
   pub left : Tree
@@ -38,7 +38,7 @@ split t p q u a b =
     option_and_then_some (λ (s : Subtree). left_node_index s.first s.tree) (subtree_at 0 t p) q a
     (λ s e l. split_from t p q u s.first s.tree e l (sym (ap (λ o. option_and_then (λ (s : Subtree). right_node_index s.first s.tree) o) e) ∙ b))
 
--- a leaf stands at place p
+-- a leaf is at node index p
 pub record LeafHere (t : Tree) (p : ℕ) : Type 0 where
   pub number : ℕ
   pub value : Option LeafNode

@@ -13,11 +13,11 @@ pub length-hashes_in : (width count : ℕ) (bytes : List ℕ) → length (hashes
 length-hashes_in width zero bytes = refl
 length-hashes_in width (suc count) bytes = ap suc (length-hashes_in width count (drop width bytes))
 
--- a place before the last hash's end
+-- a position before the last hash's end
 pub within : (width count k : ℕ) → k < count → k * width + width ≤ count * width
 within width count k lt = omega (arith, mul-le-mul_left {m = suc k} {n = count} width (omega arith))
 
--- the hash at a place
+-- the hash at a position
 pub slice_get-hashes_in : (width count : ℕ) (bytes : List ℕ) (k : ℕ) → k < count → slice_get (hashes_in width count bytes) k ≡ Some (take width (drop (k * width) bytes))
 slice_get-hashes_in width zero bytes k lt = absurd (omega arith)
 slice_get-hashes_in width (suc count) bytes zero lt =
@@ -28,7 +28,7 @@ slice_get-hashes_in width (suc count) bytes (suc k) lt =
     slice_get-hashes_in width count (drop width bytes) k (omega arith)
     ∙ ap (λ xs. Some (take width xs)) (drop-drop (k * width) width bytes ∙ ap (λ n. drop n bytes) here)
 
--- a hash is put at a place
+-- a hash is put at a position
 pub hashes_in-put : (width count : ℕ) (bytes : List ℕ) (k : ℕ) (hash : List ℕ) → k < count → length hash ≡ width → length bytes ≡ count * width
     → hashes_in width count (take (k * width) bytes ++ (hash ++ drop width (drop (k * width) bytes))) ≡ slice_set (hashes_in width count bytes) k hash
 hashes_in-put width zero bytes k hash lt fits long = absurd (omega arith)
@@ -118,7 +118,7 @@ take-hashes_in width (suc count) (suc all) bytes low = ap (λ hashes. take width
 pub take-lengthened : (width count all : ℕ) (bytes zeros : List ℕ) → count ≤ all → length bytes ≡ count * width → take count (hashes_in width all (bytes ++ zeros)) ≡ hashes_in width count bytes
 take-lengthened width count all bytes zeros low long = take-hashes_in width count all (bytes ++ zeros) low ∙ hashes_in-append width count bytes zeros (omega (arith, long))
 
--- ---- cells
+-- ---- slots
 
 -- there are as many as marks
 pub length-known_hashes : (known : List Bool) (hashes : List (List ℕ)) → length known ≤ length hashes → length (known_hashes known hashes) ≡ length known
@@ -126,7 +126,7 @@ length-known_hashes [] hashes low = refl
 length-known_hashes (b ∷ known) [] low = absurd (omega arith)
 length-known_hashes (b ∷ known) (h ∷ hashes) low = ap suc (length-known_hashes known hashes (omega arith))
 
--- hashes behind the last mark are none
+-- there are no hashes after the last mark
 pub known_hashes-take : (known : List Bool) (n : ℕ) (hashes : List (List ℕ)) → length known ≤ n → known_hashes known (take n hashes) ≡ known_hashes known hashes
 known_hashes-take [] n hashes low = refl
 known_hashes-take (b ∷ known) zero hashes low = absurd (omega arith)

@@ -1,4 +1,4 @@
--- What a change of a tree keeps: its shape, how many leaves it has, and the leaves that it does not change.
+-- What a change of a tree preserves: its shape, how many leaves it has, and the leaves that it does not change.
 use Rattle.std.proofs.Common.{◌≡◌, ◌≢◌, ℕ, zero, suc, ◌+◌, ◌*◌, ◌<◌, ◌≤◌, Bool, true, false, nat_lt, Option, Some, None, refl, sym, ap, ◌∙◌, inl, inr, arith}
 use Rattle.std.specs.Prelude.{if◌then◌else◌, ◌==◌, ◌||◌}
 use Rattle.std.proofs.lemmas.Bool.{cases_lt}
@@ -131,7 +131,7 @@ leaf_at-put_parent first (branch l n r) p j x =
     (λ k. if nat_lt j (first + c k) then a k else leaf_at (first + c k) r j)
     (λ k. if nat_lt j (first + leaf_count l) then leaf_at first l j else b k))
 
--- ---- a tree with no set node
+-- ---- a tree with no non-blank node
 
 pub height-blank_tree : (h : ℕ) → height (blank_tree h) ≡ h
 height-blank_tree zero = refl

@@ -1,4 +1,4 @@
--- The counts of a tree beside a change of the tree.
+-- The counts of a tree that a change of the tree leaves right.
 use Rattle.std.proofs.Common.{◌≡◌, ℕ, ◌+◌, ◌/◌, ◌≤◌, List, ◌++◌, length, take, drop, Result, Ok, Err, Option, Some, None, sym, ap, ◌∙◌, subst, arith}
 use Rattle.std.specs.Prelude.{OnOk, OnErr}
 use Rattle.std.proofs.lemmas.List.{take_at}
@@ -65,7 +65,7 @@ counts-no_more None whole t w a b le x y = tt
 counts-no_more (Some c) None t w a b le x y = tt
 counts-no_more (Some c) (Some d) t w a b le x y = omega (arith, x.0, y.0, leaves-le t w a b le)
 
--- what stands in a list whose slice was written
+-- what is in a list whose slice was written
 pub counts-written : (t : Tree) (cs items : List Count) (n : ℕ) → n ≡ length items → length cs ≡ length items → length items + 1 ≡ leaf_count t → AreCounts 0 t cs
     → (length (take n (cs ++ drop (length cs) items)) + 1 ≡ leaf_count t) × AreCounts 0 t (take n (cs ++ drop (length cs) items))
 counts-written t cs items n len same count ok =

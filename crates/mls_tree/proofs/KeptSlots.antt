@@ -1,4 +1,4 @@
--- The cells of a tree stay those of the changed tree.
+-- The slots of a tree are those of the changed tree, except the emptied ones.
 use Rattle.std.proofs.Common.{◌≡◌, ℕ, zero, suc, ◌+◌, ◌*◌, ◌-◌, ◌∷◌, ◌<◌, ◌≤◌, List, [], ◌++◌, length, replicate, take, map, Result, Ok, Err, Option, Some, None, refl, sym, ap, subst, ◌∙◌, inl, inr, arith}
 use Rattle.std.specs.Prelude.{slice_get, option_and_then, OnOk, OnErr}
 use Rattle.std.proofs.lemmas.Bool.{cases_lt}
@@ -24,25 +24,25 @@ use Rattle.mls_tree.proofs.Fronts.{leaf_count-front, subtree_at-front}
 use Rattle.mls_tree.proofs.Growing.{slice_get-take, slice_get-take_past, slice_get-append_left, slice_get-fill}
 use Rattle.mls_tree.proofs.Emptying.{IsAway, AreSlots-emptied, emptied-nothing, beside-put_leaf, beside-put_parent, beside-change_above}
 
--- there are as many cells as the tree has places
+-- there are as many slots as the tree has node indices
 pub of_height : (slots : Option Slots) (t : Tree) (h : ℕ) → IsPerfect t → h ≡ height t → AreSlotsOf (kind_in slots) t (slots_in slots) → IsOfHeight h slots
 of_height None t h perfect e ok = tt
 of_height (Some c) t h perfect e ok = ok.count ∙ ap (λ n. 2 * n) (leaf_count-perfect t perfect ∙ ap leaves_at (sym e))
 
--- cells of the same kind
+-- slots of the same kind
 pub of_kind : (old new : Option Slots) (u : Tree) → kind_in new ≡ kind_in old → AreSlotsOf (kind_in old) u (slots_in new) → AreSlotsOf (kind_in new) u (slots_in new)
 of_kind old new u same ok = subst (λ k. AreSlotsOf k u (slots_in new)) (sym same) ok
 
--- as many nodes as the tree has places
+-- as many nodes as the tree has node indices
 pub listed : (xs : List (Option Node)) (u : Tree) → map entry_value xs ≡ listing u → length xs ≡ 2 * leaf_count u - 1
 listed xs u e = omega (arith, ap length e, length-map xs entry_value, length-listing u)
 
--- no more cells than places
+-- no more slots than node indices
 pub slots-short : (kind : Option HashKind) (t : Tree) (slots : List (Option (List ℕ))) → AreSlotsOf kind t slots → length slots < 2 * leaf_count t
 slots-short None t slots ok = omega (arith, ap length ok, leaf_count-positive t)
 slots-short (Some kind) t slots ok = omega (arith, ok.count)
 
--- ---- cells are emptied
+-- ---- slots are emptied
 
 module _ (kind : Option HashKind) (t u : Tree) (slots new : List (Option (List ℕ))) where
   pub slots-emptied : (ps : List ℕ) → new ≡ emptied slots ps → leaf_count u ≡ leaf_count t → ((p : ℕ) → IsAway p ps → subtree_at 0 u p ≡ subtree_at 0 t p)
@@ -84,7 +84,7 @@ module _ (kind : Option HashKind) (t u : Tree) (slots new : List (Option (List �
   slots-if_put_parent (Ok a) q x put same e = slots-put_parent q x put e
   slots-if_put_parent (Err a) q x put same e = slots-same (parents_from 0 t q) same e
 
--- ---- the tree becomes the left half of another
+-- ---- the tree becomes the left subtree of another
 
 filled-in_front : (slots : List (Option (List ℕ))) (n p : ℕ) (h : List ℕ) → slice_get (slots ++ replicate n None) p ≡ Some (Some h) → p < length slots
 filled-in_front slots n p h e =

@@ -27,7 +27,6 @@ pub mod Replacing
 pub mod AlongPaths
 pub mod Entering
 pub mod TakenBack
-pub mod SlotsBack
 pub mod ParentEntries
 pub mod Emptying
 pub mod LeafCounts
@@ -37,7 +36,6 @@ pub mod Rejoining
 pub mod KeptSlots
 pub mod FrontSlots
 pub mod EmptyFronts
-pub mod EmptiedAgain
 pub mod MergedParents
 pub mod ChangedNodeIndices
 pub mod Counting

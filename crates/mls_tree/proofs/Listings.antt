@@ -1,4 +1,4 @@
--- What stands at the places of a listing.
+-- The entries at the node indices of a listing.
 use Rattle.std.proofs.Common.{◌≡◌, ℕ, zero, suc, ◌+◌, ◌*◌, ◌-◌, ◌/◌, List, [], ◌∷◌, ◌++◌, length, map, Option, Some, None, refl, sym, ap, ◌∙◌, subst, inl, inr, arith, option_map}
 use Rattle.std.specs.Prelude.{slice_get}
 use Rattle.std.proofs.lemmas.Bool.{cases_lt, cases_order}
@@ -86,7 +86,7 @@ no_leaf (Some None) h = tt
 no_leaf (Some (Some (Leaf b))) h = h
 no_leaf (Some (Some (Parent b))) h = tt
 
--- an array that is seen as the listing of a tree has its nodes at the right places
+-- an array whose model is the listing of a tree has its nodes at the right node indices
 pub listing-fits : (t : Tree) (xs : List (Option Node)) → listing t ≡ map entry_value xs → (p : ℕ) → FitsNodeIndex p (slice_get xs p)
 listing-fits t xs e p = record {
   even = λ z.
@@ -104,7 +104,7 @@ IsArrayOf-fits xs ys h read n f = record {
   odd = λ i. subst (λ v. IsNoLeaf (slice_get v (2 * i + 1))) read ((f (2 * i + 1)).odd (λ e. omega arith));
 }
 
--- two arrays that are seen alike hold the same tree
+-- two arrays of the same model contain the same tree
 leaf_value : Option (Option NodeValue) → Option LeafNode
 leaf_value None = None
 leaf_value (Some None) = None

@@ -134,7 +134,7 @@ or_both : (a b : Bool) → (a || b) ≡ false → (a ≡ false) × (b ≡ false)
 or_both true b e = absurd (cc)
 or_both false b e = (refl, e)
 
--- whether a list above a leaf is full, by the parent and the half with the leaf
+-- whether a list above a leaf is full, by the parent and the subtree with the leaf
 module _ (xs : List (Option Node)) (first half level : ℕ) (deep : level ≢ 0) (e : half ≡ leaves_at (level - 1)) (i : ℕ) where
   pub overfilled-here : is_overfilled i (parent_part (slice_get xs (2 * (first + half) - 1))) ≡ true → is_overfilled_above first (tree_in xs level first) i ≡ true
   overfilled-here full =

@@ -104,7 +104,7 @@ node_at-array xs h p ok =
           ap entry_of (subtree_at-none 0 t p (omega arith)) ∙ sym (ap entry_at (slice_get_past xs p (omega (arith, ok.long))))
     ]
 
--- parents stand at the odd places
+-- parents are at the odd node indices
 pub IsBranch-odd : (first : ℕ) (t : Tree) (i : ℕ) → root_node_index first t ≡ 2 * i + 1 → IsBranch t
 IsBranch-odd first (leaf x) i e = omega arith
 IsBranch-odd first (branch l n r) i e = tt
@@ -119,7 +119,7 @@ IsParentNodeIndex-odd t i h =
     let at = subtree_at-stands 0 t (2 * i + 1) s.0 s.1 in
     subst (λ o. IsParent o) (sym s.1) (IsBranch-odd s.0.first s.0.tree i (sym at.node_index))
 
--- a parent's place is odd, and in the tree
+-- a parent's node index is odd, and in the tree
 pub IsParentNodeIndex-bounds : (t : Tree) (p : ℕ) → IsParentNodeIndex t p → (p % 2 ≡ 1) × (p + 1 < 2 * leaf_count t)
 IsParentNodeIndex-bounds t p h =
     elim (cases_lt (p + 1) (2 * leaf_count t)) [
@@ -134,7 +134,7 @@ IsParentNodeIndex-bounds t p h =
       | inr ge ↦ absurd (subst (λ o. IsParent o) (subtree_at-none 0 t p (omega arith)) h)
     ]
 
--- a write keeps the array one
+-- after a write the array is still one of a tree
 pub IsArrayOf-set_leaf : (xs : List (Option Node)) (h i : ℕ) (v : Option Node) → IsArrayOf xs h → IsNoParent (Some v) → 2 * i < length xs → IsArrayOf (slice_set xs (2 * i) v) h
 IsArrayOf-set_leaf xs h i v ok fits n = record {
   long = omega (arith, ok.long, length-set xs (2 * i) v);
@@ -161,7 +161,7 @@ value-copied : (r : Option (Bor Node)) → option_map (λ n. node_value n.now) r
 value-copied None = refl
 value-copied (Some n) = refl
 
--- the same, as a look-up in the array ys tells it
+-- the same, by what a look-up in the array ys returns
 module _ (xs ys : List (Option Node)) (h p : ℕ) (ok : IsArrayOf xs h) (t : Tree) (view : tree_in xs h 0 ≡ t) (read : ys ≡ xs) where
   pub node_at-found : (e : Option Node) (r : Option (Bor Node)) → true ≡ nat_lt p (length ys) → e ≡ get_or ys p e → option_copied r ≡ e
       → option_map (λ n. node_value n.now) r ≡ node_at t p
@@ -220,7 +220,7 @@ module _ (xs : List (Option Node)) (h : ℕ) (ok : IsArrayOf xs h) (t : Tree) (v
   pub IsParentNodeIndex-not : (p : ℕ) → (p % 2 ≡ 0) ⊎ (length xs ≤ p) → IsParentNodeIndex t p → ⊥
   IsParentNodeIndex-not p away h = let b = IsParentNodeIndex-bounds t p h in elim away [ inl even ↦ omega arith | inr past ↦ omega (arith, length-seen) ]
 
--- the subtree at a place of the tree that the array xs is seen as, by its level and its first leaf
+-- the subtree at a node index of the tree that is the model of the array xs, by its level and its first leaf
 module _ (xs : List (Option Node)) (h : ℕ) (t : RatchetTree) (view : tree_in xs h 0 ≡ t.tree) (p n k first : ℕ) (c : leaf_count t.tree ≡ n) (s : HasLevel p n k) (f : first ≡ (p + 1 - leaves_at k) / 2) where
   HasLevel-first : (a : At t.tree p k) → a.subtree.first ≡ first
   HasLevel-first a =

@@ -1,4 +1,4 @@
--- How many leaves are set.
+-- How many leaves are non-blank.
 use Rattle.std.proofs.Common.{◌≡◌, ◌+◌, List, [], ◌∷◌, ◌++◌, Option, Some, None, refl, arith}
 use Rattle.mls_nodes.specs.declared.parent.ParentNode.{ParentNode}
 use Rattle.mls_nodes.specs.NodeModel.{NodeValue, leaf_node, parent_node}

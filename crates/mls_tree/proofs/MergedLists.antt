@@ -1,4 +1,4 @@
--- Leaf indices that are merged into a list, and split among the halves of a tree.
+-- Leaf indices that are merged into a list, and split among the left and the right subtree.
 use Rattle.std.proofs.Common.{◌≡◌, ℕ, suc, ◌<◌, ◌≤◌, List, [], ◌∷◌, ◌++◌, refl, sym, ap, ◌∙◌, subst, inl, inr, arith, append_assoc, nat_lt, true, false, not, cond, Bool}
 use Rattle.std.specs.Prelude.{All, IfSome, slice_get, ◌==◌, ◌||◌, if◌then◌else◌}
 use Rattle.std.specs.List.{list_any, AllPairs}
@@ -156,7 +156,7 @@ module _ (list indices todo out rest : List ℕ) (i : ℕ) (is : List ℕ) (next
 pub merging-end : (list indices todo out rest new : List ℕ) → todo ≡ [] → new ≡ out ++ rest → IsMerging list indices todo out rest → new ≡ insert_numbers indices list
 merging-end list indices todo out rest new none pushed now = pushed ∙ ap (λ v. insert_numbers v (out ++ rest)) (sym none) ∙ now.whole
 
--- ---- the leaves of the halves
+-- ---- the leaves of the subtrees
 
 module _ (m i : ℕ) (is : List ℕ) where
   pub before-near : i < m → leaves_before m (i ∷ is) ≡ i ∷ leaves_before m is

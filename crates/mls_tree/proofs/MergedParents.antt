@@ -1,21 +1,19 @@
 -- The parents above several leaves, each replaced once, and the same parents with one leaf added after the other.
 use Rattle.std.proofs.Common.{◌≡◌, ◌≢◌, ℕ, zero, suc, ◌+◌, ◌*◌, ◌-◌, ◌<◌, ◌≤◌, List, [], ◌∷◌, ◌++◌, Option, Some, None, refl, sym, ap, ◌∙◌, subst, inl, inr, arith, append_assoc, map, nat_lt, true, false, Bool, length}
-use Rattle.std.specs.Prelude.{All, Contains, IfSome, slice_get, ◌==◌, ◌||◌, if◌then◌else◌}
+use Rattle.std.specs.Prelude.{All, IfSome, slice_get, ◌==◌, ◌||◌}
 use Rattle.std.specs.List.{list_any}
 use Rattle.std.specs.List.Sorted.{IsStrictlyIncreasing}
 use Rattle.std.proofs.lemmas.Bool.{cases_lt}
 use Rattle.std.proofs.lemmas.Bool.Decides.{nat_tests}
 use Rattle.std.proofs.lemmas.List.{append-nil, map-append}
-use Rattle.std.proofs.lemmas.List.Elements.{All-nil, All-cons, All-head, All-tail, All-append, All-pop, All-weaker, All-contains, Contains-append_left, Contains-append_right, Contains-append_cases, Contains-push}
+use Rattle.std.proofs.lemmas.List.Elements.{All-nil, All-cons, All-head, All-tail, All-append, All-pop, All-weaker}
 use Rattle.mls_nodes.specs.Limits.{leaf_limit}
 use Rattle.mls_nodes.specs.declared.parent.ParentNode.{ParentNode}
 use Rattle.mls_nodes.specs.declared.node.Node.{Node}
-use Rattle.mls_tree.specs.Tree.{Tree, leaf, branch, height, leaf_count, IsParentNodeIndex}
+use Rattle.mls_tree.specs.Tree.{Tree, leaf, branch, height, leaf_count}
 use Rattle.mls_tree.specs.TreeInternal.{leaves_at}
 use Rattle.mls_tree.specs.NodeArray.{parent_part, tree_in}
 use Rattle.mls_tree.specs.TreeOperations.{put_parent, change_above, insert_number, with_unmerged, add_unmerged, add_all_unmerged, is_overfilled, is_overfilled_above, overfills, blank_tree, extend}
-use Rattle.mls_tree.specs.Paths.{direct_path, direct_paths}
-use Rattle.mls_tree.specs.HashCache.{parents_from}
 use Rattle.mls_tree.specs.MergedLists.{insert_numbers, with_all_unmerged, overfills_parent, overfills_below, leaves_before, leaves_from, new_parent, new_parents, replacement}
 use Rattle.mls_tree.specs.declared.merged_parents.NewParent.{NewParent}
 use Rattle.mls_tree.proofs.Choices.{below, from, here, before, after, is_less, not_less, false_no_true}
@@ -23,8 +21,7 @@ use Rattle.mls_tree.proofs.Trees.{leaf_count-positive}
 use Rattle.mls_tree.proofs.Kept.{leaf_count-change_above, leaf_count-put_parent}
 use Rattle.mls_tree.proofs.Lists.{insert_number-present, insert_number-absent}
 use Rattle.mls_tree.proofs.Walking.{tree_in-split, near-count}
-use Rattle.mls_tree.proofs.AlongPaths.{IsWithin, direct_path-parents}
-use Rattle.mls_tree.proofs.EmptiedAgain.{parents_from-among, direct_path-put_parent}
+use Rattle.mls_tree.proofs.AlongPaths.{IsWithin}
 use Rattle.mls_tree.proofs.MergedLists.{before-near, before-far, from-near, from-far, split-before, split-from}
 
 -- ---- each parent with all leaves below it that are added
@@ -181,8 +178,8 @@ leaf_count-all_put : (first : ℕ) (t : Tree) (ms : List (ℕ × ParentNode)) �
 leaf_count-all_put first t [] = refl
 leaf_count-all_put first t (m ∷ ms) = leaf_count-put_parent first (all_put first t ms) m.0 (Some m.1) ∙ leaf_count-all_put first t ms
 
--- the node index of an entry is one of the parents of a tree with so many leaves from `first` on
-abbrev IsPutWithin : ℕ → ℕ → (ℕ × ParentNode) → Type 0
+-- the node index of an entry is that of a parent in a tree of `count` leaves from `first` on
+abbrev pub IsPutWithin : ℕ → ℕ → (ℕ × ParentNode) → Type 0
 IsPutWithin first count m = IsWithin first count m.0
 
 all_put-left : (first : ℕ) (l : Tree) (n : Option ParentNode) (r : Tree) (ms : List (ℕ × ParentNode)) → All (IsPutWithin first (leaf_count l)) ms
@@ -255,96 +252,6 @@ all_put-merged first (branch l n r) is =
     ∙ ap (λ t. all_put first t on_left) (all_put-right first l x r on_right (new_parents-within m r (leaves_from m is)))
     ∙ all_put-left first l x u on_left (new_parents-within first l (leaves_before m is))
     ∙ (λ k. branch (all_put-merged first l (leaves_before m is) k) x (all_put-merged m r (leaves_from m is) k))
-
--- ---- the direct paths on which they are
-
-module _ (first : ℕ) (l : Tree) (n : Option ParentNode) (r : Tree) (p : ℕ) where
-  abbrev middle : ℕ
-  middle = first + leaf_count l
-
-  paths-near : (is : List ℕ) → Contains (direct_paths first l (leaves_before middle is)) p → Contains (direct_paths first (branch l n r) is) p
-  paths-near [] w = w
-  paths-near (i ∷ is) w =
-      let on_left = direct_path first l i in
-      let on_right = direct_path middle r i in
-      let path = direct_path first (branch l n r) i in
-      let more = direct_paths first (branch l n r) is in
-      elim (cases_lt i middle) [
-        | inl lt ↦
-            elim (Contains-append_cases on_left (direct_paths first l (leaves_before middle is)) p (subst (λ js. Contains (direct_paths first l js) p) (before-near middle i is lt) w)) [
-              | inl here ↦
-                  Contains-append_left path more p
-                  (Contains-append_left (if nat_lt i middle then on_left else on_right) ((2 * middle - 1) ∷ []) p
-                  (subst (λ ps. Contains ps p) (sym (below i middle on_left on_right lt)) here))
-              | inr later ↦ Contains-append_right path more p (paths-near is later)
-            ]
-        | inr ge ↦ Contains-append_right path more p (paths-near is (subst (λ js. Contains (direct_paths first l js) p) (before-far middle i is ge) w))
-      ]
-
-  paths-far : (is : List ℕ) → Contains (direct_paths middle r (leaves_from middle is)) p → Contains (direct_paths first (branch l n r) is) p
-  paths-far [] w = w
-  paths-far (i ∷ is) w =
-      let on_left = direct_path first l i in
-      let on_right = direct_path middle r i in
-      let path = direct_path first (branch l n r) i in
-      let more = direct_paths first (branch l n r) is in
-      elim (cases_lt i middle) [
-        | inl lt ↦ Contains-append_right path more p (paths-far is (subst (λ js. Contains (direct_paths middle r js) p) (from-near middle i is lt) w))
-        | inr ge ↦
-            elim (Contains-append_cases on_right (direct_paths middle r (leaves_from middle is)) p (subst (λ js. Contains (direct_paths middle r js) p) (from-far middle i is ge) w)) [
-              | inl here ↦
-                  Contains-append_left path more p
-                  (Contains-append_left (if nat_lt i middle then on_left else on_right) ((2 * middle - 1) ∷ []) p
-                  (subst (λ ps. Contains ps p) (sym (from i middle on_left on_right ge)) here))
-              | inr later ↦ Contains-append_right path more p (paths-far is later)
-            ]
-      ]
-
-paths-root : (first : ℕ) (l : Tree) (n : Option ParentNode) (r : Tree) (i : ℕ) (is : List ℕ) → Contains (direct_paths first (branch l n r) (i ∷ is)) (2 * (first + leaf_count l) - 1)
-paths-root first l n r i is =
-    let m = first + leaf_count l in
-    Contains-append_left (direct_path first (branch l n r) i) (direct_paths first (branch l n r) is) (2 * m - 1)
-    (Contains-push (if nat_lt i m then direct_path first l i else direct_path m r i) (2 * m - 1))
-
--- each is above one of the leaves
-abbrev pub IsAbove : ℕ → Tree → List ℕ → (ℕ × ParentNode) → Type 0
-IsAbove first t is m = Contains (direct_paths first t is) m.0
-
-pub new_parents-above : (first : ℕ) (t : Tree) (is : List ℕ) → All (IsAbove first t is) (new_parents first t is)
-new_parents-above first (leaf x) is = All-nil _
-new_parents-above first (branch l n r) is =
-    let m = first + leaf_count l in
-    let on_left = new_parents first l (leaves_before m is) in
-    let on_right = new_parents m r (leaves_from m is) in
-    let whole = IsAbove first (branch l n r) is in
-    All-append whole (on_left ++ on_right) (new_parent (2 * m - 1) is n)
-    (All-append whole on_left on_right
-    (All-weaker (IsAbove first l (leaves_before m is)) whole (λ q w. paths-near first l n r q.0 is w) on_left (new_parents-above first l (leaves_before m is)))
-    (All-weaker (IsAbove m r (leaves_from m is)) whole (λ q w. paths-far first l n r q.0 is w) on_right (new_parents-above m r (leaves_from m is))))
-    (new_parent-all whole (2 * m - 1) is n
-    (λ i js e x. subst (λ ks. Contains (direct_paths first (branch l n r) ks) (2 * m - 1)) (sym e) (paths-root first l n r i js)))
-
-direct_paths-all_parents : (t : Tree) (is : List ℕ) → All (IsParentNodeIndex t) (direct_paths 0 t is)
-direct_paths-all_parents t [] = All-nil _
-direct_paths-all_parents t (i ∷ is) = All-append (IsParentNodeIndex t) (direct_path 0 t i) (direct_paths 0 t is) (direct_path-parents t i) (direct_paths-all_parents t is)
-
-pub direct_paths-parent : (t : Tree) (is : List ℕ) (p : ℕ) → Contains (direct_paths 0 t is) p → IsParentNodeIndex t p
-direct_paths-parent t is p w = All-contains (IsParentNodeIndex t) (direct_paths 0 t is) p (direct_paths-all_parents t is) w
-
--- the parents above one of them are among them
-pub parents_from-paths : (t : Tree) (is : List ℕ) (p : ℕ) → Contains (direct_paths 0 t is) p → All (Contains (direct_paths 0 t is)) (parents_from 0 t p)
-parents_from-paths t [] p w = absurd (let lt = w.1 in omega arith)
-parents_from-paths t (i ∷ is) p w =
-    let path = direct_path 0 t i in
-    let more = direct_paths 0 t is in
-    elim (Contains-append_cases path more p w) [
-      | inl here ↦ All-weaker (Contains path) (Contains (path ++ more)) (λ q v. Contains-append_left path more q v) (parents_from 0 t p) (parents_from-among 0 t i p here)
-      | inr later ↦ All-weaker (Contains more) (Contains (path ++ more)) (λ q v. Contains-append_right path more q v) (parents_from 0 t p) (parents_from-paths t is p later)
-    ]
-
-pub direct_paths-put_parent : (t : Tree) (p : ℕ) (x : Option ParentNode) (is : List ℕ) → direct_paths 0 (put_parent 0 t p x) is ≡ direct_paths 0 t is
-direct_paths-put_parent t p x [] = refl
-direct_paths-put_parent t p x (i ∷ is) = λ k. direct_path-put_parent 0 t p x i k ++ direct_paths-put_parent t p x is k
 
 -- ---- the walk over the array
 
@@ -453,18 +360,15 @@ pub replacement-push : (old new : List NewParent) (m : NewParent) → new ≡ ol
 replacement-push old new m e = ap (map replacement) e ∙ map-append replacement old (m ∷ [])
 
 -- the last one is put
-module _ (t : Tree) (is : List ℕ) (all rest : List NewParent) (m : NewParent) (split : all ≡ rest ++ m ∷ []) where
-  pub above-popped : All (IsAbove 0 t is) (map replacement all) → All (IsAbove 0 t is) (map replacement rest) × Contains (direct_paths 0 t is) m.node_index
-  above-popped h = All-pop (IsAbove 0 t is) (map replacement all) (map replacement rest) (Some (replacement m)) (replacement-push rest all m split) h
+pub within-popped : (count : ℕ) (all rest : List NewParent) (m : NewParent) → all ≡ rest ++ m ∷ [] → All (IsPutWithin 0 count) (map replacement all)
+    → All (IsPutWithin 0 count) (map replacement rest) × IsWithin 0 count m.node_index
+within-popped count all rest m split h = All-pop (IsPutWithin 0 count) (map replacement all) (map replacement rest) (Some (replacement m)) (replacement-push rest all m split) h
 
-module _ (t u : Tree) where
-  pub all_put-step : (all rest : List NewParent) (m : NewParent) → all ≡ rest ++ m ∷ [] → u ≡ put_parent 0 t m.node_index (Some m.parent.value)
-      → all_put 0 t (map replacement all) ≡ all_put 0 u (map replacement rest)
-  all_put-step all rest m split put =
+module _ (t u : Tree) (all rest : List NewParent) (m : NewParent) (split : all ≡ rest ++ m ∷ []) (put : u ≡ put_parent 0 t m.node_index (Some m.parent.value)) where
+  pub all_put-step : all_put 0 t (map replacement all) ≡ all_put 0 u (map replacement rest)
+  all_put-step =
       ap (all_put 0 t) (replacement-push rest all m split) ∙ all_put-append 0 t (map replacement rest) (replacement m ∷ []) ∙ ap (λ v. all_put 0 v (map replacement rest)) (sym put)
 
-  pub above-step : (is : List ℕ) (all rest : List NewParent) (m : NewParent) → all ≡ rest ++ m ∷ [] → u ≡ put_parent 0 t m.node_index (Some m.parent.value)
-      → All (IsAbove 0 t is) (map replacement all) → All (IsAbove 0 u is) (map replacement rest)
-  above-step is all rest m split put h =
-      subst (λ ps. All (λ q. Contains ps q.0) (map replacement rest)) (sym (ap (λ v. direct_paths 0 v is) put ∙ direct_paths-put_parent t m.node_index (Some m.parent.value) is))
-      (above-popped t is all rest m split h).0
+  pub within-step : All (IsPutWithin 0 (leaf_count t)) (map replacement all) → All (IsPutWithin 0 (leaf_count u)) (map replacement rest)
+  within-step h =
+      subst (λ n. All (IsPutWithin 0 n) (map replacement rest)) (sym (ap leaf_count put ∙ leaf_count-put_parent 0 t m.node_index (Some m.parent.value))) (within-popped (leaf_count t) all rest m split h).0

@@ -1,4 +1,4 @@
--- What stands at a place, from what the calls on places and nodes answer.
+-- The node at a node index, from what the calls on node indices and nodes return.
 use Rattle.std.proofs.Common.{◌≡◌, ℕ, ◌+◌, ◌/◌, Option, Some, None, IsSome, refl, sym, ap, ◌∙◌, subst, arith}
 use Rattle.std.specs.Prelude.{option_map, option_and_then}
 use Rattle.std.proofs.lemmas.Option.{none-some, same_Some}
@@ -18,7 +18,7 @@ level_of : (t : Tree) (p k : ℕ) (o : Option Subtree) → subtree_at 0 t p ≡ 
 level_of t p k None e l = absurd (none-some k (sym (ap (option_map (λ (s : Subtree). height s.tree)) e) ∙ l))
 level_of t p k (Some s) e l = (s, e, same_Some (height s.tree) k (sym (ap (option_map (λ (s : Subtree). height s.tree)) e) ∙ l))
 
--- a leaf stands at a place of level 0
+-- a leaf is at a node index of level 0
 pub leaf_part : (t : Tree) (p : ℕ) (x : Option LeafNode) → level_at t p ≡ Some 0 → x ≡ leaf_at 0 t (p / 2) → subtree_at 0 t p ≡ Some (record { first = p / 2; tree = leaf x })
 leaf_part t p x l e =
     let s = level_of t p 0 (subtree_at 0 t p) refl l in

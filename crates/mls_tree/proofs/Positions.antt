@@ -1,4 +1,4 @@
--- A place is a position in the listing.
+-- A node index is a position in the listing.
 use Rattle.std.proofs.Common.{◌≡◌, ℕ, zero, suc, ◌+◌, ◌*◌, ◌-◌, ◌%◌, ◌<◌, [], ◌∷◌, ◌++◌, length, Option, Some, None, IsSome, refl, sym, ap, ◌∙◌, subst, inl, inr, arith, option_map, unwrap_or}
 use Rattle.std.specs.Prelude.{slice_get, ◌↔◌, ◌⊎◌}
 use Rattle.std.proofs.lemmas.Bool.{cases_lt, cases_order}
@@ -10,7 +10,7 @@ use Rattle.mls_tree.proofs.Trees.{length-listing, leaf_count-positive, subtree_a
 use Rattle.mls_tree.proofs.Growing.{slice_get-append_left}
 use Rattle.mls_tree.proofs.Listings.{slice_get-append_right}
 
--- what stands at the root of a subtree, where there is one
+-- the node at the root of a subtree, if there is one
 abbrev standing : Option Subtree → Option (Option NodeValue)
 standing o = option_map (λ s. root_entry s.tree) o
 
@@ -29,7 +29,7 @@ module _ (l : Tree) (n : Option ParentNode) (r : Tree) (p : ℕ) where
       let e : p ≡ length (listing l) + suc (p - 2 * leaf_count l) = omega (arith, length-listing l) in
       ap (λ k. slice_get (listing l ++ parent_entry n ∷ listing r) k) e ∙ slice_get-append_right (listing l) (parent_entry n ∷ listing r) (suc (p - 2 * leaf_count l))
 
--- the entry of the listing at a place is the node at the root of the subtree there
+-- the entry of the listing at a node index is the node at the root of the subtree there
 pub listing-subtree_at : (first : ℕ) (t : Tree) (p : ℕ) → slice_get (listing t) p ≡ standing (subtree_at first t (2 * first + p))
 listing-subtree_at first (leaf x) zero = sym (ap standing (same (2 * first + 0) (2 * first) _ None (omega arith)))
 listing-subtree_at first (leaf x) (suc p) = sym (ap standing (other (2 * first + suc p) (2 * first) (Some (record { first = first; tree = leaf x })) None (λ e. omega arith)))
@@ -53,7 +53,7 @@ node_at-listing t p =
     let at : 2 * 0 + p ≡ p = omega arith in
     entry_of-standing (subtree_at 0 t p) ∙ sym (ap (λ o. unwrap_or o None) (listing-subtree_at 0 t p ∙ ap (λ k. standing (subtree_at 0 t k)) at))
 
--- a tree has the places of its listing
+-- a tree has the node indices of its listing
 pub node_index-inside : (t : Tree) (p : ℕ) → IsSome (subtree_at 0 t p) ↔ (p < length (listing t))
 node_index-inside t p =
     elim (cases_lt p (length (listing t))) [
@@ -65,7 +65,7 @@ node_index-inside t p =
           (λ some. absurd (cc (subst (λ o. IsSome o) none some)), λ inside. absurd (omega arith)))
     ]
 
--- a leaf stands at twice its index
+-- a leaf is at twice its index
 leaf-standing : (first : ℕ) (t : Tree) (i : ℕ) → leaf_entry (leaf_at first t (first + i)) ≡ unwrap_or (slice_get (listing t) (2 * i)) None
 leaf-standing first (leaf x) zero = ap leaf_entry (same (first + 0) first x None (omega arith))
 leaf-standing first (leaf x) (suc i) =
@@ -91,7 +91,7 @@ leaf-standing first (branch l n r) i =
 pub leaf_at-listing : (t : Tree) (i : ℕ) → leaf_entry (leaf_at 0 t i) ≡ unwrap_or (slice_get (listing t) (2 * i)) None
 leaf_at-listing t i = let at : i ≡ 0 + i = omega arith in ap (λ k. leaf_entry (leaf_at 0 t k)) at ∙ leaf-standing 0 t i
 
--- parents stand at odd places
+-- parents are at odd node indices
 odd_node_index : (first : ℕ) (t : Tree) → IsBranch t → root_node_index first t % 2 ≡ 1
 odd_node_index first (leaf x) h = absurd h
 odd_node_index first (branch l n r) h = omega (arith, leaf_count-positive l)

@@ -1,4 +1,4 @@
--- A change that is taken back leaves the tree as it was.
+-- A change that is undone leaves the tree as it was.
 use Rattle.std.proofs.Common.{◌≡◌, ℕ, ◌+◌, ◌*◌, ◌<◌, ◌≤◌, List, [], ◌∷◌, ◌++◌, Option, Some, None, refl, sym, ap, ◌∙◌, subst, inl, inr, arith, Box, Global}
 use Rattle.std.specs.Prelude.{option_map, Result, Ok, Err, OnOk, OnErr, IsErr, IsNone}
 use Rattle.std.proofs.lemmas.Bool.{cases_lt, cases_order}
@@ -90,9 +90,9 @@ pub undone-last : (xs : List UndoEntry) (x : UndoEntry) (t : Tree) → all_undon
 undone-last [] x t = refl
 undone-last (y ∷ xs) x t = ap (undone y) (undone-last xs x t)
 
--- ---- one change is taken back
+-- ---- one change is undone
 
-pub leaf-undone : (t u : Tree) (i : ℕ) (x : Option LeafNode) (node : Option LeafNode) → i < leaf_count t → u ≡ put_leaf 0 t i x
+leaf-undone : (t u : Tree) (i : ℕ) (x : Option LeafNode) (node : Option LeafNode) → i < leaf_count t → u ≡ put_leaf 0 t i x
     → node ≡ leaf_at 0 t i → undone (Leaf i node) u ≡ t
 leaf-undone t u i x node inside put former =
     let c = leaf_count-put_leaf 0 t i x in
@@ -101,7 +101,7 @@ leaf-undone t u i x node inside put former =
     ∙ (λ k. put_leaf 0 (put k) i (former k))
     ∙ put_leaf-back 0 t i x (omega arith) (omega arith)
 
-pub parent-undone : (t u : Tree) (p : ℕ) (x : Option ParentNode) (node : Option (Box ParentNode Global)) → IsParentNodeIndex t p → u ≡ put_parent 0 t p x
+parent-undone : (t u : Tree) (p : ℕ) (x : Option ParentNode) (node : Option (Box ParentNode Global)) → IsParentNodeIndex t p → u ≡ put_parent 0 t p x
     → option_map (λ b. b.value) node ≡ parent_of (node_at t p) → undone (Parent p node) u ≡ t
 parent-undone t u p x node inside put former = (λ k. put_parent 0 (put k) p (former k)) ∙ put_parent-back 0 t p x inside
 
@@ -140,7 +140,7 @@ blank-kept t u p None None inside a b put former = put ∙ ap (put_parent 0 t p)
 blank-kept t u p None (Some n) inside a b put former = absurd (cc)
 blank-kept t u p (Some x) node inside a b put former = absurd (cc)
 
--- ---- what a journal keeps of one change
+-- ---- what a journal stores of one change
 
 module _ (t u : Tree) (old capacity new : List UndoEntry) (reserved : capacity ≡ old) where
   -- a leaf was replaced
@@ -173,7 +173,7 @@ module _ (t u : Tree) (old capacity new : List UndoEntry) (reserved : capacity �
       ∙ undone-last old Extended u
       ∙ ap (λ v. all_undone old (left_subtree v)) put
 
--- a parent that is put, or refused since there is no place for one
+-- a parent that is put, or refused if the node index is that of no parent
 pub parent-put_back : {A E : Type 0} (r : Result A E) (t u : RatchetTree) (p : ℕ) (x : Option ParentNode) → OnOk r (u.tree ≡ put_parent 0 t.tree p x) → OnErr r (u ≡ t)
     → (IsErr r → ¬ IsParentNodeIndex t.tree p) → u.tree ≡ put_parent 0 t.tree p x
 parent-put_back (Ok a) t u p x put stays none = put
@@ -182,10 +182,6 @@ parent-put_back (Err e) t u p x put stays none = ap (λ (r : RatchetTree). r.tre
 -- the last change is undone
 pub undone-step : (t u : Tree) (all rest : List UndoEntry) (x : UndoEntry) → all ≡ rest ++ x ∷ [] → u ≡ undone x t → all_undone rest u ≡ all_undone all t
 undone-step t u all rest x split e = ap (all_undone rest) e ∙ sym (undone-last rest x t) ∙ ap (λ xs. all_undone xs t) (sym split)
-
--- all are
-pub undone-end : (t : Tree) (left : List UndoEntry) → left ≡ [] → all_undone left t ≡ t
-undone-end t left e = ap (λ xs. all_undone xs t) e
 
 -- the tree was truncated
 pub truncated-kept_back : (t u : Tree) (b : Box KeptTree Global) (old capacity new : List UndoEntry) → capacity ≡ old → rejoined u b.value.tree ≡ t → new ≡ capacity ++ Truncated b ∷ []

@@ -1,4 +1,4 @@
--- Places of a resolution taken off a number, one after the other.
+-- Node indices of a resolution taken off a number, one after the other.
 use Rattle.std.proofs.Common.{◌≡◌, ◌≢◌, ℕ, ◌+◌, ◌*◌, ◌-◌, ◌<◌, ◌≤◌, List, [], ◌∷◌, ◌++◌, length, drop, get_or, Option, Some, None, true, false, not, cond, nat_lt, sym, ap, ◌∙◌, inl, inr, arith}
 use Rattle.std.specs.Prelude.{slice_get, map, ◌==◌}
 use Rattle.std.specs.BTreeSet.{BTreeSet, contains}
@@ -76,7 +76,7 @@ pub taken_off-one : (left : ℕ) (r : Option ℕ) → SomeIff r (1 ≤ left) (le
 taken_off-one left None h = elim (cases_lt left 1) [ inl lt ↦ sym (taken_off-past left 1 lt) | inr ge ↦ absurd (h ge) ]
 taken_off-one left (Some n) h = ap (λ v. Some v) h.1 ∙ sym (taken_off-rest left 1 h.0)
 
--- ---- how many places aren't left out
+-- ---- how many node indices are not left out
 
 module _ (s : BTreeSet ℕ) where
   pub count_not_in-append : (xs ys : List ℕ) → count_not_in s (xs ++ ys) ≡ count_not_in s xs + count_not_in s ys
@@ -90,7 +90,7 @@ module _ (s : BTreeSet ℕ) where
   pub count_not_in-in : (p : ℕ) → contains nat_cmp s p ≡ false → count_not_in s (p ∷ []) ≡ 1
   count_not_in-in p h = ap (λ b. length (cond (not b) (p ∷ []) [])) h
 
-  -- a place, and then others
+  -- a node index, and then others
   pub taken-more : (left rest x : ℕ) (xs : List ℕ) → Some rest ≡ taken_off left (count_not_in s (x ∷ [])) → taken_off left (count_not_in s (x ∷ xs)) ≡ taken_off rest (count_not_in s xs)
   taken-more left rest x xs h =
       ap (taken_off left) (count_not_in-append (x ∷ []) xs) ∙ taken_off-more left (count_not_in s (x ∷ [])) (count_not_in s xs) rest h

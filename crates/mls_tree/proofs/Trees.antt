@@ -1,4 +1,4 @@
--- Subtrees by the places of their roots.
+-- Subtrees by the node indices of their roots.
 use Rattle.std.proofs.Common.{◌≡◌, ℕ, ◌+◌, ◌*◌, ◌-◌, ◌<◌, ◌≤◌, ◌∷◌, length, Option, Some, None, refl, sym, ap, ◌∙◌, arith, length-append, nat_eq}
 use Rattle.std.proofs.lemmas.Bool.{cases_order}
 use Rattle.std.proofs.lemmas.Option.{same_Some, cond_some}
@@ -21,7 +21,7 @@ pub length-listing : (t : Tree) → length (listing t) + 1 ≡ 2 * leaf_count t
 length-listing (leaf _) = refl
 length-listing (branch l n r) = omega (arith, length-listing l, length-listing r, length-append (listing l) (parent_entry n ∷ listing r))
 
--- induction along the descent to a place: at the root, in the left half, in the right half
+-- induction along the descent to a node index: at the root, in the left subtree, in the right subtree
 module _ (Q : ℕ → Tree → ℕ → Subtree → Type 0)
     (root : (first : ℕ) (t : Tree) (p : ℕ) → p ≡ root_node_index first t → Q first t p (record { first = first; tree = t }))
     (in_left : (first : ℕ) (l : Tree) (n : Option ParentNode) (r : Tree) (p : ℕ) (s : Subtree)
@@ -54,7 +54,7 @@ pub root_node_index-below : (first : ℕ) (t : Tree) → root_node_index first t
 root_node_index-below first (leaf _) = omega arith
 root_node_index-below first (branch l n r) = omega (arith, leaf_count-positive l, leaf_count-positive r)
 
--- what is known of a subtree that stands at a place
+-- what is known of a subtree at a node index
 pub record Stands (first : ℕ) (t : Tree) (p : ℕ) (s : Subtree) : Type 0 where
   pub node_index : p ≡ root_node_index s.first s.tree
   pub from_left : first ≤ s.first
@@ -132,7 +132,7 @@ subtree_at-aligned =
     (let q = leaf_count-perfect l h.1 in let e : leaves_at (height l) ≡ leaves_at (height r) = ap leaves_at h.0 in
     let b : m * leaves_at (height l) ≡ m * leaves_at (height r) = ap (λ v. m * v) e in omega arith))
 
--- there is a subtree at each place
+-- there is a subtree at each node index
 pub subtree_at-some : (first : ℕ) (t : Tree) (p : ℕ) → 2 * first ≤ p → p + 1 < 2 * (first + leaf_count t) → (s : Subtree) × (subtree_at first t p ≡ Some s)
 subtree_at-some first (leaf x) p a b =
     (record { first = first; tree = leaf x }, same p (2 * first) (Some (record { first = first; tree = leaf x })) None (omega arith))

@@ -81,7 +81,7 @@ pub copath-leaf : (first i level : ℕ) (old : List ℕ) → level ≡ 0 → (t 
 copath-leaf first i level old z (leaf _) p h = sym (append-nil old)
 copath-leaf first i level old z (branch l n r) p h = absurd (omega arith)
 
--- the tree in the array, by its halves
+-- the tree in the array, by its subtrees
 module _ (xs : List (Option Node)) (first half level : ℕ) (deep : level ≢ 0) (e : half ≡ leaves_at (level - 1)) where
   abbrev near : Tree
   near = tree_in xs (level - 1) first
@@ -141,7 +141,7 @@ append-set_right (x ∷ xs) ys h e = cc
 pub leaves_at-split : (level half : ℕ) → level ≢ 0 → half ≡ leaves_at (level - 1) → leaves_at level ≡ half + half
 leaves_at-split level half deep e = let up : level ≡ suc (level - 1) = omega arith in ap leaves_at up ∙ (λ i. sym e i + sym e i)
 
--- what has been pushed after a step of the filtered path: the nearer half's, and then the parent's place where it is kept
+-- what was pushed after a step of the filtered path: that of the subtree with the leaf, and then the parent's node index, if it is not left out
 module _ (xs : List (Option Node)) (first half level : ℕ) (deep : level ≢ 0) (e : half ≡ leaves_at (level - 1)) (leaves i : ℕ) (old mid new kept : List ℕ) (at : new ≡ mid ++ kept) where
   pub filtered_direct_path-pushed_left : i < first + half → mid ≡ old ++ filtered_direct_path leaves first (tree_in xs (level - 1) first) i
       → where_resolved (resolution leaves (first + half) (tree_in xs (level - 1) (first + half))) (2 * (first + half) - 1) ≡ kept
@@ -155,7 +155,7 @@ module _ (xs : List (Option Node)) (first half level : ℕ) (deep : level ≢ 0)
   filtered_direct_path-pushed_right ge ih k =
       at ∙ (λ j. ih j ++ sym k j) ∙ append_assoc old _ _ ∙ ap (λ v. old ++ v) (sym (filtered_direct_path-right xs first half level deep e leaves i ge))
 
--- whether a resolution is empty, by the parent and the halves
+-- whether a resolution is empty, by the parent and its children
 module _ (xs : List (Option Node)) (first half level : ℕ) (deep : level ≢ 0) (e : half ≡ leaves_at (level - 1)) (leaves : ℕ) where
   pub resolution-has_left : resolution leaves first (tree_in xs (level - 1) first) ≢ [] → resolution leaves first (tree_in xs level first) ≢ []
   resolution-has_left h none = go (parent_part (slice_get xs (2 * (first + half) - 1))) refl

@@ -12,7 +12,6 @@ pub mod TreeOperations
 pub mod HashCache
 pub mod HashCacheInternal
 pub mod CacheModel
-pub mod SlotChanges
 pub mod SubtreeCounts
 pub mod CountsModel
 pub mod PublicTreeModel

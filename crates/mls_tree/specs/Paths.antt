@@ -33,11 +33,6 @@ direct_path first (leaf _) i = []
 direct_path first (branch l _ r) i =
     (if nat_lt i (first + leaf_count l) then direct_path first l i else direct_path (first + leaf_count l) r i) ++ (2 * (first + leaf_count l) - 1) ∷ []
 
--- `direct_paths first t is` is the direct paths of the leaves with the indices `is`, one after the other.
-abbrev pub direct_paths : ℕ → Tree → List ℕ → List ℕ
-direct_paths first t [] = []
-direct_paths first t (i ∷ is) = direct_path first t i ++ direct_paths first t is
-
 -- `copath first t i` is the copath of leaf i (RFC 9420, 4.1.2): the sibling of the leaf and of each node above it
 -- except the root.
 abbrev pub copath : ℕ → Tree → ℕ → List ℕ

@@ -5,8 +5,8 @@ ghost use Rattle.mls_tree.specs.Tree.{Tree, height, IsPerfect};
 ghost use Rattle.mls_tree.specs.TreeInternal.{leaves_at};
 ghost use Rattle.mls_tree.specs.Paths.{direct_path};
 ghost use Rattle.mls_tree.specs.HashCache.{emptied, parents_from, extended};
+ghost use Rattle.mls_tree.specs.HashCacheInternal.{joined_slots};
 ghost use Rattle.mls_tree.specs.CacheModel.{kind_in, slots_in, IsOfHeight, HasCapacity, HasMoreThan, AreFewer};
-ghost use Rattle.mls_tree.specs.SlotChanges.{joined_slots};
 
 use crate::hash_cache::Slots;
 use std::alloc::{AllocError, Global};
@@ -131,9 +131,6 @@ pub(crate) fn join_slots(slots: Option<Slots>, whole: Option<Slots>, level: u32)
     ensures joined_slots { IfSome result (λ c. (kind_in slots ≡ Some c.kind) × (kind_in whole ≡ Some c.kind)
         × ((t : Tree) → IsPerfect t → height t ≡ level
         → c.hashes.items ≡ joined_slots (slots_in slots) t (slots_in whole))) }
-    ensures same { kind_in slots ≡ kind_in whole → (kind_in result ≡ kind_in slots)
-        × ((t : Tree) → IsPerfect t → height t ≡ level
-        → slots_in result ≡ joined_slots (slots_in slots) t (slots_in whole)) }
 {
     let Some(slots) = slots else {
         return None;

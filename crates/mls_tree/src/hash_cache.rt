@@ -5,9 +5,8 @@ ghost use Rattle.mls_tree.specs.Tree.{Tree, height, IsPerfect};
 ghost use Rattle.mls_tree.specs.TreeInternal.{leaves_at};
 ghost use Rattle.mls_tree.specs.Paths.{direct_path};
 ghost use Rattle.mls_tree.specs.HashCache.{empty_count, emptied, parents_from};
-ghost use Rattle.mls_tree.specs.HashCacheInternal.{hash_len};
+ghost use Rattle.mls_tree.specs.HashCacheInternal.{hash_len, joined_slots};
 ghost use Rattle.mls_tree.specs.HashListsInternal.{CanExtend};
-ghost use Rattle.mls_tree.specs.SlotChanges.{joined_slots};
 ghost use Rattle.std.specs.List.{range_with_len};
 
 use crate::cache_slots::HashSlots;

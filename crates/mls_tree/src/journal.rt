@@ -3,18 +3,13 @@
 //! A large tree is changed in place, not on a copy, and is validated after that. Each call here changes the tree and
 //! stores what it replaced. The changes are then either final, or undone in reverse order. Undoing does not allocate
 //! and cannot fail.
-ghost use Rattle.std.specs.Prelude.{◌≡◌, ◌<◌, ◌-◌, ◌*◌, ◌∷◌, ◌↔◌, ◌⊎◌, take, true, false, All, Err, IfOk, IfErr, OnOk, OnErr, Option, option_map};
+ghost use Rattle.std.specs.Prelude.{◌≡◌, ◌<◌, ◌↔◌, ◌⊎◌, true, false, All, Err, IfOk, IfErr, OnOk, OnErr, option_map};
 ghost use Rattle.std.specs.List.Sorted.{IsStrictlyIncreasing};
 ghost use Rattle.mls_nodes.specs.Limits.{leaf_limit};
 ghost use Rattle.mls_tree.specs.Tree.{leaf_count, node_at, IsParentNodeIndex};
 ghost use Rattle.mls_tree.specs.TreeOperations.{put_leaf, put_parent, change_parent, blank_path, with_unmerged, add_unmerged, add_all_unmerged, overfills, is_overfilled, IsOverfull, extend, truncate};
-ghost use Rattle.mls_tree.specs.Paths.{direct_path, direct_paths};
 ghost use Rattle.mls_tree.specs.NodeView.{parent_of};
-ghost use Rattle.mls_tree.specs.HashCache.{emptied, extended, parents_from};
-ghost use Rattle.mls_tree.specs.Journals.{undone, before, slots_back, slots_before, IsEntryOfKind, IsOfKind, IsEmptyJournal};
-ghost use Rattle.mls_tree.specs.SlotChanges.{SlotsAgreeExceptAt};
-ghost use Rattle.mls_tree.specs.PublicTreeModel.{KeptTree};
-ghost use Rattle.mls_tree.specs.declared.hash_kind.HashKind.{HashKind};
+ghost use Rattle.mls_tree.specs.Journals.{undone, before, IsEmptyJournal};
 ghost use Rattle.mls_tree.specs.ChangedNodes.{AgreeExceptAt};
 
 use crate::changed_nodes::push_changed;
@@ -56,10 +51,10 @@ pub(crate) enum UndoEntry {
 /// call that returns `OutOfMemory` may have made a part of its changes, if its documentation says so; the journal has
 /// stored that part.
 ///
-/// Each call empties the cache slots that the tree's own call of that name empties, and `add_all_unmerged` only slots of
-/// parents above the leaves. Undoing empties those of what it restores: `slots_before` is the slots that the tree then
-/// has. A restored subtree has the slots that it had, if its cache is of the same kind as the tree's (`IsOfKind`). That
-/// is so if only the calls here have changed the kind.
+/// The contracts promise trees. Of a tree's cache they promise what holds of every `PublicTree`: a filled slot is
+/// right. Each call empties the slots of the subtrees that it changes, and undoing empties these again. Other slots are
+/// unchanged. Undoing gives back the slots that truncating removed, if the tree's cache is still of the same kind.
+/// Otherwise it drops the cache. That undoing gives the cached hashes back is tested, not proved.
 ///
 /// The journal has an entry for each node that a change replaces, except if a blank node is replaced by a blank one.
 #[derive(Drop)]
@@ -70,9 +65,6 @@ pub struct Journal {
 /// Undoes the change with the undo entry `former`.
 fn rollback(tree: &mut PublicTree, former: UndoEntry)
     ensures tree { tree.new.tree ≡ undone former tree.old.tree }
-    ensures kind { IsEntryOfKind tree.old.kind former → tree.new.kind ≡ tree.old.kind }
-    ensures slots { IsEntryOfKind tree.old.kind former → tree.new.slots
-        ≡ slots_back former tree.old.tree tree.old.slots }
 {
     match former {
         UndoEntry::Leaf { index, node } => drop(tree.set_leaf(index, node)),
@@ -104,8 +96,6 @@ impl Journal {
     /// Creates an empty journal. Does not allocate.
     pub fn new(alloc: Global) -> Journal
         ensures nothing { IsEmptyJournal result }
-        ensures halves { (kind : Option HashKind) → IsOfKind kind result }
-        ensures slots { (t : KeptTree) → slots_before result t ≡ t.slots }
     {
         Journal {
             formers: Vec::new(alloc),
@@ -125,12 +115,6 @@ impl Journal {
             (tree.new.tree ≡ put_leaf 0 tree.old.tree index leaf) }
         ensures unchanged_on_error { OnErr result (tree.new ≡ tree.old) }
         ensures before { before self.new tree.new.tree ≡ before self.old tree.old.tree }
-        ensures kind { tree.new.kind ≡ tree.old.kind }
-        ensures slots { OnOk result (tree.new.slots
-            ≡ emptied tree.old.slots (2 * index ∷ direct_path 0 tree.old.tree index)) }
-        ensures halves { IsOfKind tree.old.kind self.old → IsOfKind tree.old.kind self.new }
-        ensures slots_back { SlotsAgreeExceptAt (2 * index ∷ direct_path 0 tree.old.tree index)
-            (slots_before self.old tree.old) (slots_before self.new tree.new) }
     {
         self.formers.try_reserve(1)?;
         let node = tree.replace_leaf(index, leaf);
@@ -151,12 +135,6 @@ impl Journal {
             (tree.new.tree ≡ put_parent 0 tree.old.tree node_index (option_map (λ b. b.value) parent)) }
         ensures unchanged_on_error { OnErr result (tree.new ≡ tree.old) }
         ensures before { before self.new tree.new.tree ≡ before self.old tree.old.tree }
-        ensures kind { tree.new.kind ≡ tree.old.kind }
-        ensures slots { OnOk result (tree.new.slots
-            ≡ emptied tree.old.slots (parents_from 0 tree.old.tree node_index)) }
-        ensures halves { IsOfKind tree.old.kind self.old → IsOfKind tree.old.kind self.new }
-        ensures slots_back { SlotsAgreeExceptAt (parents_from 0 tree.old.tree node_index)
-            (slots_before self.old tree.old) (slots_before self.new tree.new) }
     {
         self.formers.try_reserve(1)?;
         let stays_blank = parent.is_none();
@@ -180,19 +158,12 @@ impl Journal {
         requires { index < leaf_count tree.old.tree }
         ensures cleared { OnOk result (tree.new.tree ≡ blank_path tree.old.tree index) }
         ensures before { before self.new tree.new.tree ≡ before self.old tree.old.tree }
-        ensures kind { tree.new.kind ≡ tree.old.kind }
-        ensures slots { OnOk result (tree.new.slots
-            ≡ emptied tree.old.slots (direct_path 0 tree.old.tree index)) }
-        ensures halves { IsOfKind tree.old.kind self.old → IsOfKind tree.old.kind self.new }
-        ensures slots_back { SlotsAgreeExceptAt (direct_path 0 tree.old.tree index)
-            (slots_before self.old tree.old) (slots_before self.new tree.new) }
     {
         let mut node_indices = match tree.direct_path(alloc, index) {
             Ok(node_indices) => node_indices,
             Err(TreeError::OutOfMemory) => return Err(AllocError),
             Err(_) => unreachable!(),
         };
-        tree.empty_path(index);
         while let Some(node_index) = node_indices.pop() {
             self.put_parent(tree, node_index, None)?;
         }
@@ -212,12 +183,6 @@ impl Journal {
         ensures in_lists { OnOk result
             (tree.new.tree ≡ change_parent (with_unmerged index) 0 tree.old.tree node_index) }
         ensures before { before self.new tree.new.tree ≡ before self.old tree.old.tree }
-        ensures kind { tree.new.kind ≡ tree.old.kind }
-        ensures slots { OnOk result (tree.new.slots
-            ≡ emptied tree.old.slots (parents_from 0 tree.old.tree node_index)) }
-        ensures halves { IsOfKind tree.old.kind self.old → IsOfKind tree.old.kind self.new }
-        ensures slots_back { SlotsAgreeExceptAt (parents_from 0 tree.old.tree node_index)
-            (slots_before self.old tree.old) (slots_before self.new tree.new) }
     {
         self.formers.try_reserve(1)?;
         if tree.insert_unmerged_at(node_index, index)? {
@@ -243,22 +208,15 @@ impl Journal {
         requires { index < leaf_count tree.old.tree }
         ensures in_lists { OnOk result (tree.new.tree ≡ add_unmerged tree.old.tree index) }
         ensures before { before self.new tree.new.tree ≡ before self.old tree.old.tree }
-        ensures kind { tree.new.kind ≡ tree.old.kind }
-        ensures slots { OnOk result (tree.new.slots
-            ≡ emptied tree.old.slots (direct_path 0 tree.old.tree index)) }
         ensures too_many_leaves { (result ≡ Err TreeError.TooManyLeaves)
             ↔ IsOverfull tree.old.tree index }
         ensures possible_errors { IfErr result
             (λ e. (e ≡ TreeError.TooManyLeaves) ⊎ (e ≡ TreeError.OutOfMemory)) }
-        ensures halves { IsOfKind tree.old.kind self.old → IsOfKind tree.old.kind self.new }
-        ensures slots_back { SlotsAgreeExceptAt (direct_path 0 tree.old.tree index)
-            (slots_before self.old tree.old) (slots_before self.new tree.new) }
     {
         if tree.is_overfull(index) {
             return Err(TreeError::TooManyLeaves);
         }
         let mut node_indices = tree.direct_path(alloc, index)?;
-        tree.empty_path(index);
         while let Some(node_index) = node_indices.pop() {
             self.insert_unmerged(tree, node_index, index)?;
         }
@@ -275,17 +233,11 @@ impl Journal {
         requires { IsStrictlyIncreasing indices.now }
         ensures in_lists { OnOk result (tree.new.tree ≡ add_all_unmerged indices.now tree.old.tree) }
         ensures before { before self.new tree.new.tree ≡ before self.old tree.old.tree }
-        ensures kind { tree.new.kind ≡ tree.old.kind }
-        ensures slots { OnOk result (SlotsAgreeExceptAt (direct_paths 0 tree.old.tree indices.now)
-            tree.old.slots tree.new.slots) }
         ensures fits { OnOk result (overfills indices.now tree.old.tree ≡ false) }
         ensures too_many_leaves { (result ≡ Err TreeError.TooManyLeaves)
             → overfills indices.now tree.old.tree ≡ true }
         ensures possible_errors { IfErr result
             (λ e. (e ≡ TreeError.TooManyLeaves) ⊎ (e ≡ TreeError.OutOfMemory)) }
-        ensures halves { IsOfKind tree.old.kind self.old → IsOfKind tree.old.kind self.new }
-        ensures slots_back { SlotsAgreeExceptAt (direct_paths 0 tree.old.tree indices.now)
-            (slots_before self.old tree.old) (slots_before self.new tree.new) }
     {
         let mut parents = tree.new_parents(alloc, indices)?;
         while let Some(new) = parents.pop() {
@@ -314,17 +266,11 @@ impl Journal {
         requires inside { All (λ i. i < leaf_count tree.old.tree) indices.now }
         ensures in_lists { OnOk result (tree.new.tree ≡ add_all_unmerged indices.now tree.old.tree) }
         ensures before { before self.new tree.new.tree ≡ before self.old tree.old.tree }
-        ensures kind { tree.new.kind ≡ tree.old.kind }
-        ensures slots { OnOk result (SlotsAgreeExceptAt (direct_paths 0 tree.old.tree indices.now)
-            tree.old.slots tree.new.slots) }
         ensures fits { OnOk result (overfills indices.now tree.old.tree ≡ false) }
         ensures too_many_leaves { (result ≡ Err TreeError.TooManyLeaves)
             → overfills indices.now tree.old.tree ≡ true }
         ensures possible_errors { IfErr result
             (λ e. (e ≡ TreeError.TooManyLeaves) ⊎ (e ≡ TreeError.OutOfMemory)) }
-        ensures halves { IsOfKind tree.old.kind self.old → IsOfKind tree.old.kind self.new }
-        ensures slots_back { SlotsAgreeExceptAt (direct_paths 0 tree.old.tree indices.now)
-            (slots_before self.old tree.old) (slots_before self.new tree.new) }
     {
         if let [index] = indices {
             return self.add_unmerged(alloc, tree, *index);
@@ -343,14 +289,10 @@ impl Journal {
         ensures changed { OnOk result (tree.new.tree ≡ extend tree.old.tree) }
         ensures unchanged_on_error { OnErr result (tree.new ≡ tree.old) }
         ensures before { before self.new tree.new.tree ≡ before self.old tree.old.tree }
-        ensures kind { tree.new.kind ≡ tree.old.kind }
-        ensures slots { OnOk result (tree.new.slots ≡ extended tree.old.kind tree.old.slots) }
         ensures too_many_leaves { (result ≡ Err TreeError.TooManyLeaves)
             ↔ (leaf_count tree.old.tree ≡ leaf_limit) }
         ensures possible_errors { IfErr result
             (λ e. (e ≡ TreeError.TooManyLeaves) ⊎ (e ≡ TreeError.OutOfMemory)) }
-        ensures halves { IsOfKind tree.old.kind self.old → IsOfKind tree.old.kind self.new }
-        ensures slots_back { slots_before self.new tree.new ≡ slots_before self.old tree.old }
     {
         if tree.leaf_count() == 1_048_576 {
             return Err(TreeError::TooManyLeaves);
@@ -368,12 +310,6 @@ impl Journal {
         ensures shrunk { OnOk result (tree.new.tree ≡ truncate tree.old.tree) }
         ensures unchanged_on_error { OnErr result (tree.new ≡ tree.old) }
         ensures before { before self.new tree.new.tree ≡ before self.old tree.old.tree }
-        ensures kind { tree.new.kind ≡ tree.old.kind }
-        ensures slots { OnOk result (tree.new.slots
-            ≡ take (2 * leaf_count tree.new.tree - 1) tree.old.slots) }
-        ensures halves { IsOfKind tree.old.kind self.old → IsOfKind tree.old.kind self.new }
-        ensures slots_back { SlotsAgreeExceptAt (direct_path 0 tree.old.tree 0)
-            (slots_before self.old tree.old) (slots_before self.new tree.new) }
     {
         let Some(level) = tree.truncated_height() else {
             return Ok(());
@@ -422,11 +358,6 @@ impl Journal {
     pub fn rollback(&mut self, tree: &mut PublicTree)
         ensures tree { tree.new.tree ≡ before self.old tree.old.tree }
         ensures nothing { IsEmptyJournal self.new }
-        ensures kind { IsOfKind tree.old.kind self.old → tree.new.kind ≡ tree.old.kind }
-        ensures slots { IsOfKind tree.old.kind self.old → tree.new.slots
-            ≡ slots_before self.old tree.old }
-        ensures halves { (kind : Option HashKind) → IsOfKind kind self.new }
-        ensures kept_slots { (t : KeptTree) → slots_before self.new t ≡ t.slots }
     {
         while let Some(former) = self.formers.pop() {
             rollback(tree, former);
@@ -436,8 +367,6 @@ impl Journal {
     /// Makes all changes final: they cannot be undone after this. Does not allocate.
     pub fn discard(&mut self)
         ensures nothing { IsEmptyJournal self.new }
-        ensures halves { (kind : Option HashKind) → IsOfKind kind self.new }
-        ensures slots { (t : KeptTree) → slots_before self.new t ≡ t.slots }
     {
         self.formers.clear();
     }

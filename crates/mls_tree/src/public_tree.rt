@@ -2,7 +2,6 @@
 ghost use Rattle.std.specs.Prelude.{◌≡◌, ◌≢◌, ◌≤◌, ◌<◌, ◌-◌, ◌*◌, ◌∷◌, ◌==◌, [], length, take, replicate, IfOk, IfErr, IfSome, Err, MatchOption, OnOk, OnErr, IsOk, IsErr, ◌↔◌, ◌⊎◌, None, Some, true, false, map, option_map, option_copied, slice_get, slice_set, IsSome};
 ghost use Rattle.std.specs.Bool.{OnTrue, OnFalse};
 ghost use Rattle.std.specs.List.Sorted.{IsStrictlyIncreasing};
-ghost use Rattle.mls_tree.specs.SlotChanges.{rejoined_slots, SlotsAgreeExceptAt};
 ghost use Rattle.mls_nodes.specs.Limits.{leaf_limit};
 ghost use Rattle.mls_nodes.specs.NodeValues.{entry_value, node_value};
 ghost use Rattle.mls_tree.specs.Tree.{leaf_count, member_count, height, listing, node_at, leaf_at, IsParentNodeIndex};
@@ -399,9 +398,6 @@ impl PublicTree {
         ensures put { self.new.tree
             ≡ put_leaf 0 self.old.tree index leaf }
         ensures former { result ≡ leaf_at 0 self.old.tree index }
-        ensures kind { self.new.kind ≡ self.old.kind }
-        ensures slots { self.new.slots
-            ≡ emptied self.old.slots (2 * index ∷ direct_path 0 self.old.tree index) }
     {
         let level = self.tree.height();
         let former = self.tree.replace_leaf(index, leaf);
@@ -420,9 +416,6 @@ impl PublicTree {
         ensures put { self.new.tree
             ≡ put_parent 0 self.old.tree node_index (option_map (λ b. b.value) parent) }
         ensures former { option_map (λ b. b.value) result ≡ parent_of (node_at self.old.tree node_index) }
-        ensures kind { self.new.kind ≡ self.old.kind }
-        ensures slots { self.new.slots
-            ≡ emptied self.old.slots (parents_from 0 self.old.tree node_index) }
     {
         let level = self.tree.height();
         let former = self.tree.replace_parent(node_index, parent);
@@ -478,17 +471,6 @@ impl PublicTree {
         empty_path(&mut self.slots, level, index);
         recount(&mut self.counts, &self.tree, index);
         Ok(())
-    }
-
-    /// Empties the cache slots of the parents above a leaf.
-    pub(crate) fn empty_path(&mut self, index: u32)
-        ensures tree { self.new.tree ≡ self.old.tree }
-        ensures kind { self.new.kind ≡ self.old.kind }
-        ensures slots { self.new.slots
-            ≡ emptied self.old.slots (direct_path 0 self.old.tree index) }
-    {
-        let level = self.tree.height();
-        empty_path(&mut self.slots, level, index);
     }
 
     /// Returns whether a non-blank parent above a leaf has a full list of unmerged leaves without this leaf index.
@@ -551,9 +533,6 @@ impl PublicTree {
             (change_parent (without_unmerged index) 0 self.new.tree node_index ≡ self.old.tree)) }
         ensures same { IfOk result (λ changed. OnFalse changed (self.new.tree ≡ self.old.tree)) }
         ensures unchanged_on_error { OnErr result (self.new.tree ≡ self.old.tree) }
-        ensures kind { self.new.kind ≡ self.old.kind }
-        ensures slots { self.new.slots
-            ≡ emptied self.old.slots (parents_from 0 self.old.tree node_index) }
     {
         let level = self.tree.height();
         let changed = self.tree.insert_unmerged_at(node_index, index);
@@ -566,9 +545,6 @@ impl PublicTree {
     pub(crate) fn restore_parent(&mut self, node_index: u32, parent: Option<Box<ParentNode>>)
         ensures put { self.new.tree
             ≡ put_parent 0 self.old.tree node_index (option_map (λ b. b.value) parent) }
-        ensures kind { self.new.kind ≡ self.old.kind }
-        ensures slots { self.new.slots
-            ≡ emptied self.old.slots (parents_from 0 self.old.tree node_index) }
     {
         let level = self.tree.height();
         drop(self.tree.put_parent(node_index, parent));
@@ -580,9 +556,6 @@ impl PublicTree {
     pub(crate) fn leave_at(&mut self, node_index: u32, index: u32)
         ensures left { self.new.tree
             ≡ change_parent (without_unmerged index) 0 self.old.tree node_index }
-        ensures kind { self.new.kind ≡ self.old.kind }
-        ensures slots { self.new.slots
-            ≡ emptied self.old.slots (parents_from 0 self.old.tree node_index) }
     {
         let level = self.tree.height();
         self.tree.leave_at(node_index, index);
@@ -593,9 +566,6 @@ impl PublicTree {
     /// Replaces the tree by its left subtree, if it has one. Does not allocate.
     pub(crate) fn cut(&mut self)
         ensures tree { self.new.tree ≡ left_subtree self.old.tree }
-        ensures kind { self.new.kind ≡ self.old.kind }
-        ensures slots { self.new.slots
-            ≡ take (2 * leaf_count (left_subtree self.old.tree) - 1) self.old.slots }
     {
         self.tree.cut();
         let count = self.tree.nodes().len();
@@ -609,7 +579,6 @@ impl PublicTree {
         ensures front { IfSome result
             (λ level. front_subtree level self.now.tree ≡ truncate self.now.tree) }
         ensures unchanged { result ≡ None → truncate self.now.tree ≡ self.now.tree }
-        ensures slots { length self.now.slots < 2 * leaf_count self.now.tree }
     {
         let level = self.tree.truncated_height(counts_in(&self.counts));
         if level == self.tree.height() {
@@ -637,16 +606,7 @@ impl PublicTree {
         requires { level < height self.old.tree }
         ensures front { IfOk result (λ f. f.tree ≡ front_subtree level self.old.tree) }
         ensures rest { IfOk result (λ f. rejoined f.tree self.new.tree ≡ self.old.tree) }
-        ensures kind { IfOk result (λ f. f.kind ≡ self.old.kind) }
-        ensures slots { IfOk result
-            (λ f. f.slots ≡ take (2 * leaf_count f.tree - 1) self.old.slots) }
         ensures unchanged_on_error { OnErr result (self.new ≡ self.old) }
-        ensures rest_kind { OnOk result (self.new.kind ≡ self.old.kind) }
-        ensures count { IfOk result (λ f. length self.old.slots
-            ≡ length (rejoined_slots f.tree f.slots self.new.tree self.new.slots)) }
-        ensures again { IfOk result (λ f. SlotsAgreeExceptAt
-            (direct_path 0 self.old.tree 0) self.old.slots
-            (rejoined_slots f.tree f.slots self.new.tree self.new.slots)) }
     {
         let height = self.tree.height();
         let leaves = leaves_of(level);
@@ -671,9 +631,6 @@ impl PublicTree {
     /// subtree become empty. Does not allocate.
     pub(crate) fn rejoin(&mut self, whole: PublicTree)
         ensures tree { self.new.tree ≡ rejoined self.old.tree whole.tree }
-        ensures kind { whole.kind ≡ self.old.kind → self.new.kind ≡ self.old.kind }
-        ensures slots { whole.kind ≡ self.old.kind → self.new.slots
-            ≡ rejoined_slots self.old.tree self.old.slots whole.tree whole.slots }
     {
         let level = whole.tree.height();
         if self.tree.height() >= level {

@@ -31,9 +31,12 @@ recount-requires c =
     let put = parent-put_back c.put_parent.result t u c.args.node_index _ c.put_parent.ensures.changed c.put_parent.ensures.unchanged_on_error c.put_parent.ensures.no_such_node.0 in
     counts-put_parent c.self.inside.counts t.tree u.tree c.args.node_index (c.args.node_index / 2) _ refl put c.self.invariant.1
 
-pub returns-clause-put : goal.returns-clause-put
-returns-clause-put c =
+pub returns : goal.returns
+returns c =
     let t = c.self.inside.tree in
     let u = c.put_parent.new.self in
-    parent-put_back c.put_parent.result t u c.args.node_index _ c.put_parent.ensures.changed c.put_parent.ensures.unchanged_on_error c.put_parent.ensures.no_such_node.0
-    ∙ ap (λ (v : KeptTree). put_parent 0 v.tree c.args.node_index (option_map (λ b. b.value) c.args.parent)) c.self.view_is
+    record {
+      put =
+          parent-put_back c.put_parent.result t u c.args.node_index _ c.put_parent.ensures.changed c.put_parent.ensures.unchanged_on_error c.put_parent.ensures.no_such_node.0
+          ∙ ap (λ (v : KeptTree). put_parent 0 v.tree c.args.node_index (option_map (λ b. b.value) c.args.parent)) c.self.view_is;
+    }

@@ -1,8 +1,5 @@
-use Rattle.std.proofs.Common.{◌≡◌, ◌<◌, ◌*◌, ◌-◌, length, take, sym, ap, ◌∙◌, subst, arith}
-use Rattle.std.specs.Prelude.{◌==◌, slice_get}
-use Rattle.std.specs.List.{list_any}
+use Rattle.std.proofs.Common.{◌≡◌, ◌<◌, ◌*◌, ◌-◌, take, sym, ap, ◌∙◌, subst, arith}
 use Rattle.mls_tree.specs.Tree.{height, leaf_count}
-use Rattle.mls_tree.specs.Paths.{direct_path}
 use Rattle.mls_tree.specs.TreeOperations.{blank_tree}
 use Rattle.mls_tree.specs.PublicTreeModel.{KeptTree}
 use Rattle.mls_tree.specs.CacheModel.{kind_in, slots_in}
@@ -10,7 +7,7 @@ use Rattle.mls_tree.specs.CountsModel.{AreCountsIn, AreBesideIn, AreFrontOf}
 use Rattle.mls_tree.proofs.KeptSlots.{of_height, of_kind, slots-front}
 use Rattle.mls_tree.proofs.KeptCounts.{counts-front, counts-no_more}
 use Rattle.mls_tree.proofs.LeafCounts.{leaves-at}
-use Rattle.mls_tree.proofs.FrontSlots.{slots-rest, slots-again, more-than}
+use Rattle.mls_tree.proofs.FrontSlots.{slots-rest, more-than}
 use Rattle.mls_tree.proofs.Kept.{height-blank_tree, IsPerfect-blank_tree, leaf_count-blank_tree}
 use Rattle.mls_tree.proofs.public_tree.PublicTree.take_front.Goals as goal
 
@@ -76,33 +73,3 @@ invariant_of-self-2 c =
           (omega (arith, c.leaves_of-leaves.ensures.positive)) (c.empty_front.ensures.slots w.tree w.shape.perfect (e.rest_height ∙ sym c.height-height.ensures.value)) c.self.invariant.0),
       c.recount.ensures,
     )
-
-pub returns-clause-slots : goal.returns-clause-slots
-returns-clause-slots c =
-    let f = c.in_ok-front.front in
-    let count : c.leaves_of-leaves.result ≡ leaf_count f.tree = c.leaves_of-leaves.ensures.value ∙ sym (leaves-at f c.args.level (sym c.in_ok-front.ensures.level)) in
-    c.in_ok-slots.ensures.1 ∙ (λ i. take (2 * count i - 1) (ap (λ (v : KeptTree). v.slots) c.self.view_is i))
-
-pub returns-clause-count : goal.returns-clause-count
-returns-clause-count c =
-    let t = c.self.inside.tree in
-    let f = c.in_ok-front.front in
-    let w = c.take_front.new.self in
-    let e = c.in_ok-front.ensures in
-    let again =
-    slots-again (slots_in c.self.inside.slots) (slots_in c.in_ok-slots.slots) (slots_in c.empty_front.new.slots) w.tree (2 * c.leaves_of-leaves.result - 1) c.in_ok-slots.ensures.1
-    (c.empty_front.ensures.slots w.tree w.shape.perfect (e.rest_height ∙ sym c.height-height.ensures.value)) t.tree f.tree t.shape.perfect w.shape.perfect (sym e.rest_height)
-    (omega (arith, c.requires, e.level, e.rest_height, ap (λ (v : KeptTree). height v.tree) c.self.view_is)) in
-    ap (λ (v : KeptTree). length v.slots) (sym c.self.view_is) ∙ again.count
-
-pub returns-clause-again : goal.returns-clause-again
-returns-clause-again c =
-    let t = c.self.inside.tree in
-    let f = c.in_ok-front.front in
-    let w = c.take_front.new.self in
-    let e = c.in_ok-front.ensures in
-    let again =
-    slots-again (slots_in c.self.inside.slots) (slots_in c.in_ok-slots.slots) (slots_in c.empty_front.new.slots) w.tree (2 * c.leaves_of-leaves.result - 1) c.in_ok-slots.ensures.1
-    (c.empty_front.ensures.slots w.tree w.shape.perfect (e.rest_height ∙ sym c.height-height.ensures.value)) t.tree f.tree t.shape.perfect w.shape.perfect (sym e.rest_height)
-    (omega (arith, c.requires, e.level, e.rest_height, ap (λ (v : KeptTree). height v.tree) c.self.view_is)) in
-    λ p away. ap (λ (v : KeptTree). slice_get v.slots p) (sym c.self.view_is) ∙ again.same p (ap (λ (v : KeptTree). list_any (λ q. q == p) (direct_path 0 v.tree 0)) c.self.view_is ∙ away)

@@ -1,7 +1,7 @@
 //! Changes of a tree that a journal undoes (RFC 9420, 7.7 and 12.1): the tree is then the one before them, node by
-//! node.
+//! node, and caches the hashes of the subtrees that no change touched.
 
-use crate::kept_hashes::{whole_text, whole_text_anew};
+use crate::kept_hashes::{empty_node_indices, whole_text, whole_text_anew};
 use crate::support::{
     GROWN, TWO_OF_FOUR, bytes, expect_text, have, key_package, list_text, suite, tree_text,
     tree_with,
@@ -23,6 +23,8 @@ enum Change {
     Path(u32),
     /// A leaf's index is added to the lists above it.
     Entry(u32),
+    /// Two leaf indices are added to the lists above them, at once.
+    Entries(u32, u32),
     /// The tree is extended.
     Growth,
     /// The tree is truncated.
@@ -45,6 +47,7 @@ fn make_change(
             rt,
             journal.add_unmerged(alloc, tree, index),
         ),
+        Change::Entries(low, high) => add_two(rt, alloc, tree, journal, low, high),
         Change::Growth => have(rt, journal.extend(tree)),
         Change::Halving => have(rt, journal.truncate(alloc, tree)),
         _ => panic!(rt; "a leaf of the tree"),
@@ -134,6 +137,64 @@ fn changes_are_taken_back(rt: HostRuntime) {
     ];
     for (input, expected) in CHANGES {
         expect_text(&rt, back(&rt, alloc, *input), expected);
+    }
+}
+
+/// Fills the hash cache of a tree, changes the tree, and undoes the changes. Returns the node indices of the slots that
+/// are empty after the changes, those of the slots that are empty once they are undone, and how many are filled then.
+fn emptied_and_back(
+    rt: &impl Abort,
+    alloc: Global,
+    tree: &mut PublicTree,
+    changes: &[Change],
+) -> String {
+    have(rt, fill_hashes(alloc, suite(rt), tree));
+    let mut journal = Journal::new(alloc);
+    for step in changes {
+        make_change(rt, alloc, tree, &mut journal, *step);
+    }
+    let changed = empty_node_indices(rt, alloc, tree);
+    journal.rollback(tree);
+    let back = empty_node_indices(rt, alloc, tree);
+    let filled = have(rt, fill_hashes(alloc, suite(rt), tree));
+    have(rt, format!(in alloc; "{changed} {back} {filled}"))
+}
+
+/// In a tree of eight leaves, a change of a leaf empties the slots of the leaf and of its direct path (RFC 9420, 4.1.2),
+/// which are four. A change of the parents above a leaf empties the three slots of its direct path. Undoing leaves these
+/// slots empty, and no others. It removes the slots that extending added. A truncated tree has its slots again, except
+/// those of the parents above the part that remained.
+#[test]
+fn undoing_empties_no_other_slot(rt: HostRuntime) {
+    let alloc = rt.alloc();
+    const CHANGES: &[(&[Change], &str)] = &[
+        (&[Change::Leaf(1)], "[1, 2, 3, 7] [1, 2, 3, 7] 4"),
+        (&[Change::Path(0)], "[1, 3, 7] [1, 3, 7] 3"),
+        (&[Change::Entry(2)], "[3, 5, 7] [3, 5, 7] 3"),
+        (&[Change::Entries(0, 1)], "[1, 3, 7] [1, 3, 7] 3"),
+        (
+            &[Change::Growth],
+            "[15, 16, 17, 18, 19, 20, 21, 22, 23, 24, 25, 26, 27, 28, 29, 30] [] 0",
+        ),
+        (
+            &[Change::Growth, Change::Halving, Change::Leaf(3)],
+            "[3, 5, 6] [3, 5, 6, 7] 4",
+        ),
+        (&[Change::Halving], "[] [7] 1"),
+        (
+            &[Change::Halving, Change::Growth],
+            "[7, 8, 9, 10, 11, 12, 13, 14] [7] 1",
+        ),
+        (
+            &[Change::Leaf(3), Change::Leaf(2), Change::Halving],
+            "[] [3, 4, 5, 6, 7] 5",
+        ),
+    ];
+    for (changes, expected) in CHANGES {
+        let mut tree = tree_with(&rt, alloc, GROWN);
+        have(&rt, tree.extend());
+        let found = emptied_and_back(&rt, alloc, &mut tree, *changes);
+        expect_text(&rt, found, expected);
     }
 }
 
@@ -367,7 +428,7 @@ fn applied_and_back(
 
 /// Fills the hashes of a tree, then applies and undoes a list. Returns how many hashes were filled, why the list is
 /// refused, whether the tree was another one in between, and whether it has the nodes and the hashes that it had in the
-/// end, as it caches them and as they are computed again.
+/// end, as it caches them and as they are computed again; and how many hashes are filled then.
 fn refused_and_back(rt: &impl Abort, alloc: Global, proposals: &[&str]) -> String {
     let mut tree = tree_with(rt, alloc, GROWN);
     let filled = have(rt, fill_hashes(alloc, suite(rt), &mut tree));
@@ -375,24 +436,30 @@ fn refused_and_back(rt: &impl Abort, alloc: Global, proposals: &[&str]) -> Strin
     let applied = applied_and_back(rt, alloc, &mut tree, proposals, before.as_str());
     let is_same = before == whole_text(rt, alloc, &tree);
     let is_same_anew = before == whole_text_anew(rt, alloc, &tree);
+    let again = have(rt, fill_hashes(alloc, suite(rt), &mut tree));
     have(
         rt,
-        format!(in alloc; "{filled} {applied} {is_same} {is_same_anew}"),
+        format!(in alloc; "{filled} {applied} {is_same} {is_same_anew} {again}"),
     )
 }
 
-/// A leaf is removed twice, before and after other proposals.
+/// A leaf is removed twice, before and after other proposals. In this tree of four leaves, the slots of each removed or
+/// updated leaf and of its direct path have to be filled again, and no others.
 #[test]
 fn the_front_of_a_list_is_taken_back(rt: HostRuntime) {
     let alloc = rt.alloc();
     const UPDATE: &str = "0002019001b0000101400200010200010000020001020001c0";
-    const LISTS: &[&[&str]] = &[
-        &["000300000001", "000300000001"],
-        &["000300000003", UPDATE, "000300000002", "000300000003"],
-        &["000300000002", "000300000002", "000300000003"],
+    const LISTS: &[(&[&str], u32)] = &[
+        (&["000300000001", "000300000001"], 3),
+        (&["000300000003", UPDATE, "000300000002", "000300000003"], 6),
+        (&["000300000002", "000300000002", "000300000003"], 3),
     ];
-    const EXPECTED: &str = "7 Some(NoSuchLeaf) true true true";
-    for proposals in LISTS {
-        expect_text(&rt, refused_and_back(&rt, alloc, proposals), EXPECTED);
+    for (proposals, emptied) in LISTS {
+        let expected = have(
+            &rt,
+            format!(in alloc; "7 Some(NoSuchLeaf) true true true {emptied}"),
+        );
+        let found = refused_and_back(&rt, alloc, *proposals);
+        expect_text(&rt, found, expected.as_str());
     }
 }

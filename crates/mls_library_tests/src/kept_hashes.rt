@@ -49,7 +49,7 @@ fn make_change(rt: &impl Abort, alloc: Global, tree: &mut PublicTree, change: Ch
 }
 
 /// The node indices, of a tree of at most 16 leaves, of which it caches no hash.
-fn empty_node_indices(rt: &impl Abort, alloc: Global, tree: &PublicTree) -> String {
+pub(crate) fn empty_node_indices(rt: &impl Abort, alloc: Global, tree: &PublicTree) -> String {
     let mut node_indices = Vec::new(alloc);
     for node_index in 0..31 {
         if tree.part(node_index).is_some() && tree.kept_hash(node_index).is_none() {

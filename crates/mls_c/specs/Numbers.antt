@@ -6,6 +6,7 @@ use Rattle.mls_wire.specs.declared.fault.WireFaultKind.{WireFaultKind}
 use Rattle.mls_wire.specs.declared.fault.WireFaultKind.TheVariants as kinds
 use Rattle.mls_nodes.specs.declared.fault.NodeFault.{NodeFault}
 use Rattle.mls_nodes.specs.declared.fault.NodeFault.TheVariants as nodes
+use Rattle.mls_check.specs.LeafValidation.{member_number}
 use Rattle.mls_check.specs.declared.members.MemberFault.{MemberFault}
 use Rattle.mls_check.specs.declared.members.MemberFault.TheVariants as members
 use Rattle.mls_check.specs.declared.tree_validation.TreeFault.{TreeFault}
@@ -127,15 +128,6 @@ tree_verdict number (trees.UnmergedUnsound place) = verdict number 3 place
 tree_verdict number (trees.KeyRepeated place) = verdict number 4 place
 tree_verdict number (trees.ParentHashInvalid place) = verdict number 5 place
 tree_verdict number trees.OutOfMemory = plain_verdict out_of_memory
-
--- `member_number fault` is the number of a fault of a leaf node; 0 for OutOfMemory.
-abbrev pub member_number : MemberFault → ℕ
-member_number (members.ExtensionUnlisted leaf) = 1
-member_number (members.RequirementUnmet leaf) = 2
-member_number (members.CredentialUnsupported leaf) = 3
-member_number (members.SignatureKeyRepeated leaf) = 4
-member_number (members.LeafSignature leaf) = 5
-member_number members.OutOfMemory = 0
 
 -- `member_fault_leaf fault` is the leaf index of a fault of a leaf node.
 abbrev pub member_fault_leaf : MemberFault → ℕ

@@ -130,20 +130,6 @@ fn tree_verdict(number: u32, fault: TreeFault) -> InputVerdict
     }
 }
 
-/// Returns the number of a fault of a leaf node, from 1 to 5; 0 for `OutOfMemory`.
-pub(crate) fn member_number(fault: MemberFault) -> u32
-    ensures { result ≡ numbers.member_number fault }
-{
-    match fault {
-        MemberFault::ExtensionUnlisted(_) => 1,
-        MemberFault::RequirementUnmet(_) => 2,
-        MemberFault::CredentialUnsupported(_) => 3,
-        MemberFault::SignatureKeyRepeated(_) => 4,
-        MemberFault::LeafSignature(_) => 5,
-        MemberFault::OutOfMemory => 0,
-    }
-}
-
 /// Returns the leaf index of a fault of a leaf node.
 pub(crate) fn member_fault_leaf(fault: MemberFault) -> u32
     ensures { result ≡ numbers.member_fault_leaf fault }
@@ -166,7 +152,7 @@ fn member_verdict(number: u32, fault: MemberFault) -> InputVerdict
         MemberFault::OutOfMemory => plain_verdict(OUT_OF_MEMORY),
         _ => InputVerdict {
             number,
-            inner: member_number(fault),
+            inner: u32::from(fault.number()),
             place: member_fault_leaf(fault) as u64,
         },
     }

@@ -3,7 +3,7 @@
 ghost use Rattle.std.specs.Prelude.{◌≡◌};
 ghost use Rattle.mls_c.specs.Numbers as numbers;
 
-use crate::input_verdict::{OUT_OF_MEMORY, member_fault_leaf, member_number};
+use crate::input_verdict::{OUT_OF_MEMORY, member_fault_leaf};
 use mls_check::MemberFault;
 use mls_follow::{Refusal, Taken};
 
@@ -43,7 +43,7 @@ fn leaf_judgement(fault: MemberFault) -> Judgement
     Judgement {
         number: 25,
         kind: 0,
-        inner: member_number(fault),
+        inner: u32::from(fault.number()),
         leaf: member_fault_leaf(fault),
         epoch: 0,
     }

@@ -1,10 +1,11 @@
 -- How a replay ends that may store a state.
 use Rattle.std.proofs.Common.{◌≡◌, Bool, true, false, Ok, Err, Result, refl}
 use Rattle.std.specs.Prelude.{◌↔◌, ◌≢◌, IfErr}
+use Rattle.mls_wire.specs.Devices.{Device, IsWorking, WriteFails}
 use Rattle.mls_cli.specs.Execution.{MeansWrite}
 use Rattle.mls_program.specs.ReportResult.{ReportResult}
-use Rattle.mls_show.specs.declared.verdict.RunFault.{RunFault}
-use Rattle.mls_show.specs.declared.verdict.RunFault.TheVariants.{Read, Write}
+use Rattle.mls_wire.specs.declared.fault.RunFault.{RunFault}
+use Rattle.mls_wire.specs.declared.fault.RunFault.TheVariants.{Read, Write}
 
 -- ---- the fault of a report
 
@@ -30,8 +31,8 @@ unfailed r x e w p =
     absurd cc
 
 -- a report after which no state is stored
-pub means-write : (stores b : Bool) (outcome : ReportResult) → ((outcome ≡ Err Write) ↔ (b ≡ true)) → MeansWrite stores b outcome
-means-write stores b outcome w = record { failed = w.1; only = λ none e. w.0 e }
+pub means-write : (stores : Bool) (out : Device) (outcome : ReportResult) → WriteFails outcome out → MeansWrite stores out outcome
+means-write stores out outcome w = record { failed = w.1; only = λ none e. w.0 e }
 
 -- ---- the end after a report that was written whole
 
@@ -41,6 +42,6 @@ saved-read (Ok v) h none = (λ e. absurd cc, λ p. absurd (none p))
 saved-read (Err fault) h none = (λ e. absurd (h (cc)), λ p. absurd (none p))
 
 -- and one of writing only if a state is stored
-pub saved-write : (stores : Bool) (outcome : ReportResult) (b : Bool) → (stores ≡ false → IfErr outcome (λ e. e ≢ Write)) → b ≡ false → MeansWrite stores b outcome
-saved-write stores (Ok v) b h e = record { failed = λ t. absurd cc; only = λ none w. absurd cc }
-saved-write stores (Err fault) b h e = record { failed = λ t. absurd cc; only = λ none w. absurd (h none (cc)) }
+pub saved-write : (stores : Bool) (outcome : ReportResult) (out : Device) → (stores ≡ false → IfErr outcome (λ e. e ≢ Write)) → IsWorking out → MeansWrite stores out outcome
+saved-write stores (Ok v) out h e = record { failed = λ t. absurd cc; only = λ none w. absurd cc }
+saved-write stores (Err fault) out h e = record { failed = λ t. absurd cc; only = λ none w. absurd (h none (cc)) }

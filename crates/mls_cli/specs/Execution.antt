@@ -1,8 +1,10 @@
 -- How a command is executed: which file is read for which input, what is reported, and what is stored. F is what opens
 -- files, G the verification function of the checker, `i` what a group is followed from. In which order files are opened, and
--- that no other file is opened or stored, is no clause. Used by contracts.
+-- that no other file is opened or stored, is no clause. `out0` and `out1` are the output before and after.
+-- Used by contracts.
 use Rattle.std.specs.Prelude.{ℕ, List, [], codes, Bool, true, false, Option, Some, None, is_some, option_map, Ok, Err, IfOk, IfErr, OnErr, ◌≡◌, ◌≢◌, ◌↔◌, ◌⊎◌}
 use Rattle.std.specs.Io.KnownBytes.{Appends}
+use Rattle.mls_wire.specs.Devices.{Device, IsWorking, HasFailed, ReadFails}
 use Rattle.mls_check.specs.Signatures.{VerifyFn}
 use Rattle.mls_commands.specs.declared.order.GroupFiles.{GroupFiles}
 use Rattle.mls_commands.specs.declared.order.GroupReport.{GroupReport}
@@ -19,12 +21,12 @@ use Rattle.mls_start.specs.declared.finding.Finding.{Finding}
 use Rattle.mls_gate.specs.GateReport.{Gates, GatesPart}
 use Rattle.mls_report.specs.Finding.{ReportsFinding, ReportsFindingPart}
 use Rattle.mls_report.specs.Replay.{Replays, ReplaysPart}
-use Rattle.mls_report.specs.SignaturesReport.{SignaturesPart, has_failed}
+use Rattle.mls_report.specs.SignaturesReport.{SignaturesPart, device_bytes, has_failed}
 use Rattle.mls_report.specs.SignaturesReport as signatures
 use Rattle.mls_vectors.specs.CheckReport.{Checks, ChecksPart}
 use Rattle.mls_show.specs.declared.check_kind.CheckKind.{CheckKind}
-use Rattle.mls_show.specs.declared.verdict.RunFault.{RunFault}
-use Rattle.mls_show.specs.declared.verdict.RunFault.TheVariants.{Read, Write, Memory}
+use Rattle.mls_wire.specs.declared.fault.RunFault.{RunFault}
+use Rattle.mls_wire.specs.declared.fault.RunFault.TheVariants.{Read, Write, Memory}
 use Rattle.mls_show.specs.declared.verdict.Verdict.{Verdict}
 use Rattle.mls_program.specs.Files.{Opener, IsOpened, CannotOpen, CannotOpenNamed, ReadsFile, CannotReadFile, EndsUnread}
 use Rattle.mls_program.specs.ReportResult.{ReportResult}
@@ -38,11 +40,10 @@ stdin = codes "-"
 
 -- `ReportsFound IsFound ..`: what is found, of which `IsFound` holds, is reported in one line, or a part of it was written.
 -- No file is read.
-pub record ReportsFound (IsFound : Finding → Type 0) (written0 written1 : Option (List ℕ)) (outcome : ReportResult)
-    : Type 0 where
-  pub printed : IfOk outcome (ReportsFinding IsFound written0 written1)
-  pub part : OnErr outcome (ReportsFindingPart IsFound written0 written1)
-  pub memory : outcome ≡ Err Memory → Appends written0 written1 []
+pub record ReportsFound (IsFound : Finding → Type 0) (out0 out1 : Device) (outcome : ReportResult) : Type 0 where
+  pub printed : IfOk outcome (ReportsFinding IsFound out0.bytes out1.bytes)
+  pub part : OnErr outcome (ReportsFindingPart IsFound out0.bytes out1.bytes)
+  pub memory : outcome ≡ Err Memory → Appends out0.bytes out1.bytes []
   pub not_read_fault : IfErr outcome (λ e. e ≢ Read)
 
 module _ {File : Type 0} (F : Opener File) where
@@ -53,26 +54,24 @@ module _ {File : Type 0} (F : Opener File) where
       ⊎ ((bytes : List ℕ) × ReadsFile F context bytes × CannotReadFile F tree fault)
 
   -- `RunsValidateTree G context tree ..`: files with these names were read, and the report `validate-tree` is about them.
-  pub record RunsValidateTree (G : VerifyFn) (context tree : List ℕ)
-      (written0 written1 : Option (List ℕ)) (outcome : ReportResult) : Type 0 where
+  pub record RunsValidateTree (G : VerifyFn) (context tree : List ℕ) (out0 out1 : Device) (outcome : ReportResult)
+      : Type 0 where
     pub context_bytes : List ℕ
     pub tree_bytes : List ℕ
     pub context_read : ReadsFile F context context_bytes
     pub tree_read : ReadsFile F tree tree_bytes
-    pub reports : ReportsFound (IsTreeFinding G context_bytes tree_bytes) written0 written1 outcome
+    pub reports : ReportsFound (IsTreeFinding G context_bytes tree_bytes) out0 out1 outcome
 
   -- `ExecutesValidateTree G context tree ..`: the command `validate-tree` was executed, or a file cannot be read.
-  abbrev pub ExecutesValidateTree : VerifyFn → List ℕ → List ℕ → Option (List ℕ) → Option (List ℕ)
-      → ReportResult → Type 0
-  ExecutesValidateTree G context tree written0 written1 outcome =
-      EndsUnread (CannotReadTree context tree) written0 written1 outcome
-      ⊎ RunsValidateTree G context tree written0 written1 outcome
+  abbrev pub ExecutesValidateTree : VerifyFn → List ℕ → List ℕ → Device → Device → ReportResult → Type 0
+  ExecutesValidateTree G context tree out0 out1 outcome =
+      EndsUnread (CannotReadTree context tree) out0.bytes out1.bytes outcome
+      ⊎ RunsValidateTree G context tree out0 out1 outcome
 
   -- `ExecutesValidate G group ..`: the command `validate` was executed, or a file cannot be read.
-  abbrev pub ExecutesValidate : VerifyFn → GroupFiles → Option (List ℕ) → Option (List ℕ) → ReportResult → Type 0
-  ExecutesValidate G group written0 written1 outcome =
-      RunsWithStartOrEnds F group (λ i. ReportsFound (IsFindingOf G i) written0 written1 outcome)
-      written0 written1 outcome
+  abbrev pub ExecutesValidate : VerifyFn → GroupFiles → Device → Device → ReportResult → Type 0
+  ExecutesValidate G group out0 out1 outcome =
+      RunsWithStartOrEnds F group (λ i. ReportsFound (IsFindingOf G i) out0 out1 outcome) out0 out1 outcome
 
   -- ---- a replay, and the state after it
 
@@ -97,131 +96,115 @@ module _ {File : Type 0} (F : Opener File) where
   EndsSaved (Some name) None verdict outcome = outcome ≡ Ok verdict
   EndsSaved (Some name) (Some s) verdict outcome = EndsStoring name s verdict outcome
 
-  -- `EndsWhole save Whole is_failed outcome`: the report was written whole, and then the state was stored if it has to be.
-  -- `is_failed` is whether the output has failed.
-  pub record EndsWhole (save : Option (List ℕ)) (Whole : Verdict → Option follower.State → Type 0) (is_failed : Bool)
+  -- `EndsWhole save Whole out1 outcome`: the report was written whole, and then the state was stored if it has to be.
+  pub record EndsWhole (save : Option (List ℕ)) (Whole : Verdict → Option follower.State → Type 0) (out1 : Device)
       (outcome : ReportResult) : Type 0 where
     pub verdict : Verdict
     pub last : Option follower.State
     pub whole : Whole verdict last
     pub saved : EndsSaved save last verdict outcome
-    pub going : is_failed ≡ false
+    pub going : IsWorking out1
 
-  -- `EndsPart Part is_failed outcome`: the report was not written whole. Nothing is stored.
-  pub record EndsPart (Part : RunFault → Type 0) (is_failed : Bool) (outcome : ReportResult) : Type 0 where
+  -- `EndsPart Part out1 outcome`: the report was not written whole. Nothing is stored.
+  pub record EndsPart (Part : RunFault → Type 0) (out1 : Device) (outcome : ReportResult) : Type 0 where
     pub fault : RunFault
     pub outcome_is : outcome ≡ Err fault
     pub part : Part fault
-    pub write : (fault ≡ Write) ↔ (is_failed ≡ true)
+    pub write : (fault ≡ Write) ↔ HasFailed out1
 
-  -- `EndsReplay save Whole Part is_failed outcome`: the report was written whole, or not.
-  abbrev pub EndsReplay : Option (List ℕ) → (Verdict → Option follower.State → Type 0) → (RunFault → Type 0) → Bool
+  -- `EndsReplay save Whole Part out1 outcome`: the report was written whole, or not.
+  abbrev pub EndsReplay : Option (List ℕ) → (Verdict → Option follower.State → Type 0) → (RunFault → Type 0) → Device
       → ReportResult → Type 0
-  EndsReplay save Whole Part is_failed outcome =
-      EndsWhole save Whole is_failed outcome ⊎ EndsPart Part is_failed outcome
+  EndsReplay save Whole Part out1 outcome = EndsWhole save Whole out1 outcome ⊎ EndsPart Part out1 outcome
 
   -- `RunsReplay G i files ..`: the log was opened, and the report `replay` was made of it.
-  pub record RunsReplay (G : VerifyFn) (i : Inputs) (files : ReplayFiles) (written0 written1 : Option (List ℕ))
-      (is_failed : Bool) (outcome : ReportResult) : Type 0 where
+  pub record RunsReplay (G : VerifyFn) (i : Inputs) (files : ReplayFiles) (out0 out1 : Device)
+      (outcome : ReportResult) : Type 0 where
     pub opened : File
     pub ended : File
     pub given : F.gives files.log opened
     pub replayed : EndsReplay files.save
-        (Replays G i (F.left opened) (F.left ended) written0 written1)
-        (ReplaysPart G i (F.left opened) (F.left ended) written0 written1)
-        is_failed outcome
-    pub failed : (outcome ≡ Err Read) ↔ (F.is_failed ended ≡ true)
+        (Replays G i (F.device opened).bytes (F.device ended).bytes out0.bytes out1.bytes)
+        (ReplaysPart G i (F.device opened).bytes (F.device ended).bytes out0.bytes out1.bytes)
+        out1 outcome
+    pub failed : ReadFails outcome (F.device ended)
 
   -- `ExecutesReplay G group files ..`: the command `replay` was executed, or a file cannot be read or opened.
-  abbrev pub ExecutesReplay : VerifyFn → GroupFiles → ReplayFiles → Option (List ℕ) → Option (List ℕ) → Bool → ReportResult
-      → Type 0
-  ExecutesReplay G group files written0 written1 is_failed outcome =
+  abbrev pub ExecutesReplay : VerifyFn → GroupFiles → ReplayFiles → Device → Device → ReportResult → Type 0
+  ExecutesReplay G group files out0 out1 outcome =
       RunsWithStartOrEnds F group
-      (λ i. CannotOpen F files.log written0 written1 outcome ⊎ RunsReplay G i files written0 written1 is_failed outcome)
-      written0 written1 outcome
+      (λ i. CannotOpen F files.log out0.bytes out1.bytes outcome ⊎ RunsReplay G i files out0 out1 outcome)
+      out0 out1 outcome
 
   -- ---- the other commands
 
   -- `RunsSignatures G i log ..`: the log was opened, if one is named, and the report `signatures` was made of it.
-  pub record RunsSignatures (G : VerifyFn) (i : Inputs) (log : Option (List ℕ)) (written0 written1 : Option (List ℕ))
+  pub record RunsSignatures (G : VerifyFn) (i : Inputs) (log : Option (List ℕ)) (out0 out1 : Device)
       (outcome : ReportResult) : Type 0 where
     pub opened : Option File
     pub ended : Option File
     pub given : IsOpened F log opened
     pub printed : IfOk outcome (signatures.Signatures G i
-        (option_map F.left opened) (option_map F.left ended) written0 written1)
+        (device_bytes F.device opened) (device_bytes F.device ended) out0.bytes out1.bytes)
     pub part : IfErr outcome (SignaturesPart G i
-        (option_map F.left opened) (option_map F.left ended) written0 written1)
-    pub failed : (outcome ≡ Err Read) ↔ (has_failed (option_map F.is_failed ended) ≡ true)
+        (device_bytes F.device opened) (device_bytes F.device ended) out0.bytes out1.bytes)
+    pub failed : (outcome ≡ Err Read) ↔ (has_failed (option_map (λ f. (F.device f).has_failed) ended) ≡ true)
 
   -- `ExecutesSignatures G group log ..`: the command `signatures` was executed, or a file cannot be read or opened. G is the
   -- verification function of the receipts.
-  abbrev pub ExecutesSignatures : VerifyFn → GroupFiles → Option (List ℕ)
-      → Option (List ℕ) → Option (List ℕ) → ReportResult → Type 0
-  ExecutesSignatures G group log written0 written1 outcome =
+  abbrev pub ExecutesSignatures : VerifyFn → GroupFiles → Option (List ℕ) → Device → Device → ReportResult → Type 0
+  ExecutesSignatures G group log out0 out1 outcome =
       RunsWithStartOrEnds F group
-      (λ i. CannotOpenNamed F log written0 written1 outcome ⊎ RunsSignatures G i log written0 written1 outcome)
-      written0 written1 outcome
+      (λ i. CannotOpenNamed F log out0.bytes out1.bytes outcome ⊎ RunsSignatures G i log out0 out1 outcome)
+      out0 out1 outcome
 
   -- `RunsGate G i ..`: standard input, which has the records, was opened, and the report `gate` was made of it.
-  pub record RunsGate (G : VerifyFn) (i : Inputs) (written0 written1 : Option (List ℕ)) (outcome : ReportResult)
-      : Type 0 where
+  pub record RunsGate (G : VerifyFn) (i : Inputs) (out0 out1 : Device) (outcome : ReportResult) : Type 0 where
     pub opened : File
     pub ended : File
     pub given : F.gives stdin opened
-    pub printed : IfOk outcome (Gates G i (F.left opened) (F.left ended) written0 written1)
-    pub part : IfErr outcome (GatesPart G i (F.left opened) (F.left ended) written0 written1)
-    pub failed : (outcome ≡ Err Read) ↔ (F.is_failed ended ≡ true)
+    pub printed : IfOk outcome (Gates G i (F.device opened).bytes (F.device ended).bytes out0.bytes out1.bytes)
+    pub part : IfErr outcome (GatesPart G i (F.device opened).bytes (F.device ended).bytes out0.bytes out1.bytes)
+    pub failed : ReadFails outcome (F.device ended)
 
   -- `ExecutesGate G group ..`: the command `gate` was executed, or a file cannot be read or opened. G is the verification
   -- function of what is known to be good at first.
-  abbrev pub ExecutesGate : VerifyFn → GroupFiles → Option (List ℕ) → Option (List ℕ) → ReportResult → Type 0
-  ExecutesGate G group written0 written1 outcome =
+  abbrev pub ExecutesGate : VerifyFn → GroupFiles → Device → Device → ReportResult → Type 0
+  ExecutesGate G group out0 out1 outcome =
       RunsWithStartOrEnds F group
-      (λ i. CannotOpen F stdin written0 written1 outcome ⊎ RunsGate G i written0 written1 outcome)
-      written0 written1 outcome
+      (λ i. CannotOpen F stdin out0.bytes out1.bytes outcome ⊎ RunsGate G i out0 out1 outcome)
+      out0 out1 outcome
 
   -- `RunsCheck k name ..`: the report `check` of a file with this name.
-  pub record RunsCheck (k : CheckKind) (name : List ℕ) (written0 written1 : Option (List ℕ))
-      (outcome : ReportResult) : Type 0 where
+  pub record RunsCheck (k : CheckKind) (name : List ℕ) (out0 out1 : Device) (outcome : ReportResult) : Type 0 where
     pub opened : File
     pub ended : File
     pub given : F.gives name opened
-    pub checked : IfOk outcome (Checks k (F.left opened) (F.left ended) written0 written1)
-    pub part : OnErr outcome (ChecksPart k (F.left opened) (F.left ended) written0 written1)
-    pub memory : outcome ≡ Err Memory → Appends written0 written1 []
-    pub failed : (outcome ≡ Err Read) ↔ (F.is_failed ended ≡ true)
+    pub checked : IfOk outcome (Checks k (F.device opened).bytes (F.device ended).bytes out0.bytes out1.bytes)
+    pub part : OnErr outcome (ChecksPart k (F.device opened).bytes (F.device ended).bytes out0.bytes out1.bytes)
+    pub memory : outcome ≡ Err Memory → Appends out0.bytes out1.bytes []
+    pub failed : ReadFails outcome (F.device ended)
 
   -- `ExecutesCheck k name ..`: the command `check` was executed, or the file cannot be opened.
-  abbrev pub ExecutesCheck : CheckKind → List ℕ → Option (List ℕ) → Option (List ℕ) → ReportResult
-      → Type 0
-  ExecutesCheck k name written0 written1 outcome =
-      CannotOpen F name written0 written1 outcome ⊎ RunsCheck k name written0 written1 outcome
+  abbrev pub ExecutesCheck : CheckKind → List ℕ → Device → Device → ReportResult → Type 0
+  ExecutesCheck k name out0 out1 outcome =
+      CannotOpen F name out0.bytes out1.bytes outcome ⊎ RunsCheck k name out0 out1 outcome
 
-  -- `ExecutesReport G report ..`: a command was executed with the verification function G. `is_failed` is whether the
-  -- output has failed.
-  abbrev pub ExecutesReport : VerifyFn → GroupReport → Option (List ℕ) → Option (List ℕ) → Bool → ReportResult
-      → Type 0
-  ExecutesReport G (ValidateTree context tree) written0 written1 is_failed outcome =
-      ExecutesValidateTree G context tree written0 written1 outcome
-  ExecutesReport G (Validate group) written0 written1 is_failed outcome =
-      ExecutesValidate G group written0 written1 outcome
-  ExecutesReport G (Replay group files) written0 written1 is_failed outcome =
-      ExecutesReplay G group files written0 written1 is_failed outcome
-  ExecutesReport G (Signatures group log) written0 written1 is_failed outcome =
-      ExecutesSignatures G group log written0 written1 outcome
-  ExecutesReport G (Gate group) written0 written1 is_failed outcome =
-      ExecutesGate G group written0 written1 outcome
+  -- `ExecutesReport G report ..`: a command was executed with the verification function G.
+  abbrev pub ExecutesReport : VerifyFn → GroupReport → Device → Device → ReportResult → Type 0
+  ExecutesReport G (ValidateTree context tree) out0 out1 outcome = ExecutesValidateTree G context tree out0 out1 outcome
+  ExecutesReport G (Validate group) out0 out1 outcome = ExecutesValidate G group out0 out1 outcome
+  ExecutesReport G (Replay group files) out0 out1 outcome = ExecutesReplay G group files out0 out1 outcome
+  ExecutesReport G (Signatures group log) out0 out1 outcome = ExecutesSignatures G group log out0 out1 outcome
+  ExecutesReport G (Gate group) out0 out1 outcome = ExecutesGate G group out0 out1 outcome
 
   -- `ExecutesOrder order ..`: a command was executed.
-  abbrev pub ExecutesOrder : Order → Option (List ℕ) → Option (List ℕ) → Bool → ReportResult → Type 0
-  ExecutesOrder (Show profile k name) written0 written1 is_failed outcome =
-      ExecutesShow F profile k name written0 written1 outcome
-  ExecutesOrder (Group report c) written0 written1 is_failed outcome =
-      RunsWithCheckerOrEnds F c (λ G. ExecutesReport G report written0 written1 is_failed outcome)
-      written0 written1 is_failed outcome
-  ExecutesOrder (Check k name) written0 written1 is_failed outcome =
-      ExecutesCheck k name written0 written1 outcome
+  abbrev pub ExecutesOrder : Order → Device → Device → ReportResult → Type 0
+  ExecutesOrder (Show profile k name) out0 out1 outcome =
+      ExecutesShow F profile k name out0.bytes out1.bytes outcome
+  ExecutesOrder (Group report c) out0 out1 outcome =
+      RunsWithCheckerOrEnds F c (λ G. ExecutesReport G report out0 out1 outcome) out0 out1 outcome
+  ExecutesOrder (Check k name) out0 out1 outcome = ExecutesCheck k name out0 out1 outcome
 
 -- `report_stores report`: the report stores a state after it.
 abbrev pub report_stores : GroupReport → Bool
@@ -233,8 +216,8 @@ abbrev pub stores_state : Order → Bool
 stores_state (Group report c) = report_stores report
 stores_state _ = false
 
--- `MeansWrite stores is_failed outcome`: what a fault of writing means. If the output has failed, the outcome is this fault.
+-- `MeansWrite stores out1 outcome`: what a fault of writing means. If the output has failed, the outcome is this fault.
 -- If the command stores no state, the outcome is this fault only then; else `EndsStoring` says when it is, too.
-pub record MeansWrite (stores is_failed : Bool) (outcome : ReportResult) : Type 0 where
-  pub failed : is_failed ≡ true → outcome ≡ Err Write
-  pub only : stores ≡ false → outcome ≡ Err Write → is_failed ≡ true
+pub record MeansWrite (stores : Bool) (out1 : Device) (outcome : ReportResult) : Type 0 where
+  pub failed : HasFailed out1 → outcome ≡ Err Write
+  pub only : stores ≡ false → outcome ≡ Err Write → HasFailed out1

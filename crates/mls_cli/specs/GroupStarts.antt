@@ -1,10 +1,12 @@
--- What a group is followed from, as it is read from the files that a command names. F is what opens files. Used by contracts.
-use Rattle.std.specs.Prelude.{ℕ, List, Option, ◌≡◌, ◌⊎◌}
+-- What a group is followed from, as it is read from the files that a command names. F is what opens files.
+-- `out0` and `out1` are the output before and after. Used by contracts.
+use Rattle.std.specs.Prelude.{ℕ, List, ◌≡◌, ◌⊎◌}
+use Rattle.mls_wire.specs.Devices.{Device}
 use Rattle.mls_commands.specs.declared.order.GroupFiles.{GroupFiles}
 use Rattle.mls_commands.specs.declared.order.GroupFiles.TheVariants.{Info, State}
 use Rattle.mls_program.specs.Files.{Opener, ReadsFile, CannotReadFile, ReadsNamed, CannotReadNamed, EndsUnread}
 use Rattle.mls_program.specs.ReportResult.{ReportResult}
-use Rattle.mls_show.specs.declared.verdict.RunFault.{RunFault}
+use Rattle.mls_wire.specs.declared.fault.RunFault.{RunFault}
 use Rattle.mls_start.specs.Inputs.{Inputs, OfInfo, OfState}
 
 module _ {File : Type 0} (F : Opener File) where
@@ -29,7 +31,6 @@ module _ {File : Type 0} (F : Opener File) where
     pub report : P inputs
 
   -- `RunsWithStartOrEnds group P ..`: the files of a group are read, and the report begins if they can be.
-  abbrev pub RunsWithStartOrEnds : GroupFiles → (Inputs → Type 0) → Option (List ℕ) → Option (List ℕ) → ReportResult
-      → Type 0
-  RunsWithStartOrEnds group P written0 written1 outcome =
-      EndsUnread (CannotReadStart group) written0 written1 outcome ⊎ RunsWithStart group P
+  abbrev pub RunsWithStartOrEnds : GroupFiles → (Inputs → Type 0) → Device → Device → ReportResult → Type 0
+  RunsWithStartOrEnds group P out0 out1 outcome =
+      EndsUnread (CannotReadStart group) out0.bytes out1.bytes outcome ⊎ RunsWithStart group P

@@ -1,7 +1,8 @@
--- The checker of a report, and how a report ends without one. Used by contracts.
-use Rattle.std.specs.Prelude.{ℕ, List, [], Bool, true, Option, Err, IfOk, OnErr, ◌≡◌, ◌≢◌, ◌↔◌, ◌⊎◌}
+-- The checker of a report, and how a report ends without one. `out0` and `out1` are the output before and after.
+-- Used by contracts.
+use Rattle.std.specs.Prelude.{ℕ, List, [], true, Err, IfOk, OnErr, ◌≡◌, ◌≢◌, ◌⊎◌}
 use Rattle.std.specs.Io.KnownBytes.{Appends}
-use Rattle.mls_wire.specs.Devices.{AppendsPrefix}
+use Rattle.mls_wire.specs.Devices.{AppendsPrefix, Device, WriteFails}
 use Rattle.mls_check.specs.Receipts.{listed, IsReceipts, IsReceiptsFault}
 use Rattle.mls_check.specs.Signatures.{VerifyFn}
 use Rattle.mls_check.specs.declared.receipts.ReceiptsFault.{ReceiptsFault}
@@ -10,8 +11,8 @@ use Rattle.mls_program.specs.ReportResult.{ReportResult}
 use Rattle.mls_commands.specs.declared.order.CheckerChoice.{CheckerChoice}
 use Rattle.mls_commands.specs.declared.order.CheckerChoice.TheVariants as checker
 use Rattle.mls_report.specs.UnreadableReceipts.{ReportsReceipts, receipts_line}
-use Rattle.mls_show.specs.declared.verdict.RunFault.{RunFault}
-use Rattle.mls_show.specs.declared.verdict.RunFault.TheVariants.{Read, Write, Memory}
+use Rattle.mls_wire.specs.declared.fault.RunFault.{RunFault}
+use Rattle.mls_wire.specs.declared.fault.RunFault.TheVariants.{Read, Memory}
 
 module _ {File : Type 0} (F : Opener File) where
   -- `HasReceipts name G`: the receipts file was read, and `G` accepts the signatures that it lists.
@@ -46,17 +47,15 @@ module _ {File : Type 0} (F : Opener File) where
   RefusesReceipts (checker.Receipts name) fault = IsUnlisted name fault
   RefusesReceipts checker.NoReceipts fault = ⊥
 
-  -- `EndsRefused c ..`: the receipts file is bad, which is all that is reported. `is_failed` is whether the output has
-  -- failed.
-  pub record EndsRefused (c : CheckerChoice) (written0 written1 : Option (List ℕ)) (is_failed : Bool)
-      (outcome : ReportResult) : Type 0 where
+  -- `EndsRefused c ..`: the receipts file is bad, which is all that is reported.
+  pub record EndsRefused (c : CheckerChoice) (out0 out1 : Device) (outcome : ReportResult) : Type 0 where
     pub fault : ReceiptsFault
     pub refused : RefusesReceipts c fault
-    pub printed : IfOk outcome (ReportsReceipts fault written0 written1)
-    pub part : OnErr outcome (AppendsPrefix written0 written1 (receipts_line fault))
-    pub memory : outcome ≡ Err Memory → Appends written0 written1 []
+    pub printed : IfOk outcome (ReportsReceipts fault out0.bytes out1.bytes)
+    pub part : OnErr outcome (AppendsPrefix out0.bytes out1.bytes (receipts_line fault))
+    pub memory : outcome ≡ Err Memory → Appends out0.bytes out1.bytes []
     pub not_read_fault : outcome ≢ Err Read
-    pub write : (outcome ≡ Err Write) ↔ (is_failed ≡ true)
+    pub write : WriteFails outcome out1
 
   -- `RunsWithChecker c P`: P holds of the verification function of a choice.
   pub record RunsWithChecker (c : CheckerChoice) (P : VerifyFn → Type 0) : Type 0 where
@@ -66,8 +65,7 @@ module _ {File : Type 0} (F : Opener File) where
 
   -- `RunsWithCheckerOrEnds c P ..`: the receipts are read, if there are any, and the report begins if they are good.
   -- That they are read first, and that no other file is opened if they are bad, is no clause.
-  abbrev pub RunsWithCheckerOrEnds : CheckerChoice → (VerifyFn → Type 0) → Option (List ℕ) → Option (List ℕ)
-      → Bool → ReportResult → Type 0
-  RunsWithCheckerOrEnds c P written0 written1 is_failed outcome =
-      EndsUnread (CannotReadReceipts c) written0 written1 outcome
-      ⊎ (EndsRefused c written0 written1 is_failed outcome ⊎ RunsWithChecker c P)
+  abbrev pub RunsWithCheckerOrEnds : CheckerChoice → (VerifyFn → Type 0) → Device → Device → ReportResult → Type 0
+  RunsWithCheckerOrEnds c P out0 out1 outcome =
+      EndsUnread (CannotReadReceipts c) out0.bytes out1.bytes outcome
+      ⊎ (EndsRefused c out0 out1 outcome ⊎ RunsWithChecker c P)

@@ -1,6 +1,7 @@
 //! Executing a command: the files that it names are read or opened, and its report is made of them.
 
-ghost use Rattle.std.specs.Prelude.{◌≡◌, ◌≢◌, ◌↔◌, ◌⊎◌, false, true, None, is_some, Err, option_map, IfErr, IfSome};
+ghost use Rattle.std.specs.Prelude.{◌≡◌, ◌≢◌, ◌⊎◌, false, None, is_some, Err, option_map, IfErr, IfSome};
+ghost use Rattle.mls_wire.specs.Devices.{IsWorking, WriteFails};
 ghost use Rattle.mls_follow.specs.FollowerModel.{state_of};
 ghost use Rattle.mls_follow.specs.State.{State};
 ghost use Rattle.mls_follow.specs.StoredState.{EncodesState};
@@ -21,9 +22,9 @@ use mls_program::{Files, execute_show};
 use mls_report::{
     Replayed, replay, report_unreadable_receipts, signatures, validate, validate_tree,
 };
-use mls_show::{CheckKind, RunFault, Verdict};
+use mls_show::{CheckKind, Verdict};
 use mls_vectors::run_check;
-use mls_wire::{CodecFault, Sink};
+use mls_wire::{CodecFault, RunFault, Sink};
 use std::alloc::Global;
 
 /// Says which test vectors of a file agree with this library.
@@ -34,10 +35,9 @@ fn execute_check<F: Files, K: Sink>(
     files: &F,
     out: &mut K,
 ) -> Result<Verdict, RunFault>
-    requires { K.is_failed out.old ≡ false }
-    ensures executed { ExecutesCheck (F.opener files.now) kind file.now
-        (K.written out.old) (K.written out.new) result }
-    ensures write { (result ≡ Err RunFault.Write) ↔ (K.is_failed out.new ≡ true) }
+    requires { IsWorking (K.device out.old) }
+    ensures executed { ExecutesCheck (F.opener files.now) kind file.now (K.device out.old) (K.device out.new) result }
+    ensures write { WriteFails result (K.device out.new) }
 {
     let Some(mut input) = files.open(file.as_str()) else {
         return Err(RunFault::Read);
@@ -54,10 +54,10 @@ fn execute_validate_tree<F: Files, K: Sink>(
     checker: &ProgramChecker,
     out: &mut K,
 ) -> Result<Verdict, RunFault>
-    requires { K.is_failed out.old ≡ false }
+    requires { IsWorking (K.device out.old) }
     ensures executed { ExecutesValidateTree (F.opener files.now) (checker_verify checker.now)
-        context.now tree.now (K.written out.old) (K.written out.new) result }
-    ensures write { (result ≡ Err RunFault.Write) ↔ (K.is_failed out.new ≡ true) }
+        context.now tree.now (K.device out.old) (K.device out.new) result }
+    ensures write { WriteFails result (K.device out.new) }
 {
     let context = read_file(alloc, context, files)?;
     let tree = read_file(alloc, tree, files)?;
@@ -72,10 +72,10 @@ fn execute_validate<F: Files, K: Sink>(
     checker: ProgramChecker,
     out: &mut K,
 ) -> Result<Verdict, RunFault>
-    requires { K.is_failed out.old ≡ false }
+    requires { IsWorking (K.device out.old) }
     ensures executed { ExecutesValidate (F.opener files.now) (checker_verify checker) group.now
-        (K.written out.old) (K.written out.new) result }
-    ensures write { (result ≡ Err RunFault.Write) ↔ (K.is_failed out.new ≡ true) }
+        (K.device out.old) (K.device out.new) result }
+    ensures write { WriteFails result (K.device out.new) }
 {
     let start = read_start(alloc, group, files)?;
     validate(alloc, start, checker, out)
@@ -143,10 +143,10 @@ fn execute_replay<F: Files, K: Sink>(
     checker: ProgramChecker,
     out: &mut K,
 ) -> Result<Verdict, RunFault>
-    requires { K.is_failed out.old ≡ false }
+    requires { IsWorking (K.device out.old) }
     ensures executed { ExecutesReplay (F.opener files.now) (checker_verify checker) group.now names.now
-        (K.written out.old) (K.written out.new) (K.is_failed out.new) result }
-    ensures write { MeansWrite (is_some names.now.save) (K.is_failed out.new) result }
+        (K.device out.old) (K.device out.new) result }
+    ensures write { MeansWrite (is_some names.now.save) (K.device out.new) result }
 {
     let start = read_start(alloc, group, files)?;
     let Some(mut log) = files.open(names.log.as_str()) else {
@@ -165,8 +165,7 @@ fn execute_replay<F: Files, K: Sink>(
 /// Opens a file with an optional name.
 fn open_named<F: Files>(name: &Option<FileName>, files: &F) -> Option<Option<F::File>>
     ensures given { IfSome result (IsOpened (F.opener files.now) name.now) }
-    ensures fresh { IfSome result
-        (λ file. has_failed (option_map F.File.is_failed file) ≡ false) }
+    ensures fresh { IfSome result (λ file. has_failed (option_map (λ f. (F.File.device f).has_failed) file) ≡ false) }
     ensures none { result ≡ None → NamedFileIsMissing (F.opener files.now) name.now }
 {
     match name {
@@ -184,10 +183,10 @@ fn execute_signatures<F: Files, K: Sink>(
     receipts: &ProgramChecker,
     out: &mut K,
 ) -> Result<Verdict, RunFault>
-    requires { K.is_failed out.old ≡ false }
+    requires { IsWorking (K.device out.old) }
     ensures executed { ExecutesSignatures (F.opener files.now) (checker_verify receipts.now) group.now log.now
-        (K.written out.old) (K.written out.new) result }
-    ensures write { (result ≡ Err RunFault.Write) ↔ (K.is_failed out.new ≡ true) }
+        (K.device out.old) (K.device out.new) result }
+    ensures write { WriteFails result (K.device out.new) }
 {
     let start = read_start(alloc, group, files)?;
     let Some(mut log) = open_named(log, files) else {
@@ -204,10 +203,10 @@ fn execute_gate<F: Files, K: Sink>(
     checker: ProgramChecker,
     out: &mut K,
 ) -> Result<Verdict, RunFault>
-    requires { K.is_failed out.old ≡ false }
+    requires { IsWorking (K.device out.old) }
     ensures executed { ExecutesGate (F.opener files.now) (checker_verify checker) group.now
-        (K.written out.old) (K.written out.new) result }
-    ensures write { (result ≡ Err RunFault.Write) ↔ (K.is_failed out.new ≡ true) }
+        (K.device out.old) (K.device out.new) result }
+    ensures write { WriteFails result (K.device out.new) }
 {
     let start = read_start(alloc, group, files)?;
     let Some(mut records) = files.open("-") else {
@@ -224,13 +223,12 @@ fn write_refusal<F: Files, K: Sink>(
     fault: CheckerFault,
     out: &mut K,
 ) -> Result<Verdict, RunFault>
-    requires out { K.is_failed out.old ≡ false }
+    requires out { IsWorking (K.device out.old) }
     requires fault { IsCheckerFault (F.opener files.now) checker.now fault }
     ensures ended { EndsUnread (CannotReadReceipts (F.opener files.now) checker.now)
-        (K.written out.old) (K.written out.new) result
-        ⊎ EndsRefused (F.opener files.now) checker.now (K.written out.old) (K.written out.new)
-        (K.is_failed out.new) result }
-    ensures write { (result ≡ Err RunFault.Write) ↔ (K.is_failed out.new ≡ true) }
+        (K.device out.old).bytes (K.device out.new).bytes result
+        ⊎ EndsRefused (F.opener files.now) checker.now (K.device out.old) (K.device out.new) result }
+    ensures write { WriteFails result (K.device out.new) }
 {
     match fault {
         CheckerFault::Lost(fault) => Err(fault),
@@ -246,10 +244,10 @@ fn report_by<F: Files, K: Sink>(
     checker: ProgramChecker,
     out: &mut K,
 ) -> Result<Verdict, RunFault>
-    requires { K.is_failed out.old ≡ false }
+    requires { IsWorking (K.device out.old) }
     ensures executed { ExecutesReport (F.opener files.now) (checker_verify checker) report.now
-        (K.written out.old) (K.written out.new) (K.is_failed out.new) result }
-    ensures write { MeansWrite (report_stores report.now) (K.is_failed out.new) result }
+        (K.device out.old) (K.device out.new) result }
+    ensures write { MeansWrite (report_stores report.now) (K.device out.new) result }
 {
     match report {
         GroupReport::ValidateTree { context, tree } => {
@@ -275,12 +273,11 @@ fn execute_report<F: Files, K: Sink>(
     files: &F,
     out: &mut K,
 ) -> Result<Verdict, RunFault>
-    requires { K.is_failed out.old ≡ false }
+    requires { IsWorking (K.device out.old) }
     ensures executed { RunsWithCheckerOrEnds (F.opener files.now) checker.now
         (λ G. ExecutesReport (F.opener files.now) G report.now
-        (K.written out.old) (K.written out.new) (K.is_failed out.new) result)
-        (K.written out.old) (K.written out.new) (K.is_failed out.new) result }
-    ensures write { MeansWrite (report_stores report.now) (K.is_failed out.new) result }
+        (K.device out.old) (K.device out.new) result) (K.device out.old) (K.device out.new) result }
+    ensures write { MeansWrite (report_stores report.now) (K.device out.new) result }
 {
     match load_checker(alloc, checker, files) {
         Ok(loaded) => report_by(alloc, report, files, loaded, out),
@@ -312,10 +309,9 @@ pub fn execute_order<F: Files, K: Sink>(
     files: &F,
     out: &mut K,
 ) -> Result<Verdict, RunFault>
-    requires { K.is_failed out.old ≡ false }
-    ensures executed { ExecutesOrder (F.opener files.now) order.now
-        (K.written out.old) (K.written out.new) (K.is_failed out.new) result }
-    ensures write { MeansWrite (stores_state order.now) (K.is_failed out.new) result }
+    requires { IsWorking (K.device out.old) }
+    ensures executed { ExecutesOrder (F.opener files.now) order.now (K.device out.old) (K.device out.new) result }
+    ensures write { MeansWrite (stores_state order.now) (K.device out.new) result }
 {
     match order {
         Order::Show {

@@ -1,6 +1,7 @@
 //! The program, except what opens real files and ends the process.
 
-ghost use Rattle.std.specs.Prelude.{◌≡◌, false, map, string_bytes};
+ghost use Rattle.std.specs.Prelude.{map, string_bytes};
+ghost use Rattle.mls_wire.specs.Devices.{IsWorking};
 ghost use Rattle.mls_cli.specs.Program.{EndsOrder, RunsProgram};
 
 use crate::execution::execute_order;
@@ -17,11 +18,10 @@ fn run_order<F: Files, K: Sink, N: Sink>(
     out: &mut K,
     notes: &mut N,
 ) -> u8
-    requires out { K.is_failed out.old ≡ false }
-    requires notes { N.is_failed notes.old ≡ false }
-    ensures { EndsOrder (F.opener files.now)
-        (K.written out.old) (K.written out.new) (K.is_failed out.new)
-        (N.written notes.old) (N.written notes.new) (N.is_failed notes.new) result order.now }
+    requires out { IsWorking (K.device out.old) }
+    requires notes { IsWorking (N.device notes.old) }
+    ensures { EndsOrder (F.opener files.now) (K.device out.old) (K.device out.new)
+        (N.device notes.old) (N.device notes.new) result order.now }
 {
     let outcome = execute_order(alloc, order, files, out);
     end(&outcome, notes)
@@ -39,11 +39,10 @@ pub fn run_program<F: Files, K: Sink, N: Sink>(
     out: &mut K,
     notes: &mut N,
 ) -> u8
-    requires out { K.is_failed out.old ≡ false }
-    requires notes { N.is_failed notes.old ≡ false }
-    ensures { RunsProgram (F.opener files.now)
-        (K.written out.old) (K.written out.new) (K.is_failed out.new)
-        (N.written notes.old) (N.written notes.new) (N.is_failed notes.new) result
+    requires out { IsWorking (K.device out.old) }
+    requires notes { IsWorking (N.device notes.old) }
+    ensures { RunsProgram (F.opener files.now) (K.device out.old) (K.device out.new)
+        (N.device notes.old) (N.device notes.new) result
         (map string_bytes words.now) }
 {
     match order_of(alloc, words) {

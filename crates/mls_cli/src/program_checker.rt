@@ -1,7 +1,7 @@
 //! The checker of a report.
 
 use mls_check::{LearningCheck, OutOfMemory, Receipts, ReceiptsFault, SignatureCheck};
-use mls_show::RunFault;
+use mls_wire::RunFault;
 
 /// A checker of the program, once the receipts file is read.
 #[derive(Drop)]

@@ -23,8 +23,7 @@ pub struct Progress<K: Sink, N: Sink> {
 impl<K: Sink, N: Sink> Progress<K, N> {
     /// Returns a sink over another one, with its notes on a third, if there is one.
     pub fn new(alloc: Global, out: K, notes: Option<N>) -> Progress<K, N>
-        ensures written { ⟦<Progress<K, N> as Sink>⟧.written result ≡ K.written out }
-        ensures failed { ⟦<Progress<K, N> as Sink>⟧.is_failed result ≡ K.is_failed out }
+        ensures { ⟦<Progress<K, N> as Sink>⟧.device result ≡ K.device out }
     {
         Progress {
             out,
@@ -65,10 +64,7 @@ impl<K: Sink, N: Sink> Progress<K, N> {
 
     /// Ends the line of the notes, if there is one.
     pub fn finish(&mut self)
-        ensures written { ⟦<Progress<K, N> as Sink>⟧.written self.new
-            ≡ ⟦<Progress<K, N> as Sink>⟧.written self.old }
-        ensures failed { ⟦<Progress<K, N> as Sink>⟧.is_failed self.new
-            ≡ ⟦<Progress<K, N> as Sink>⟧.is_failed self.old }
+        ensures { ⟦<Progress<K, N> as Sink>⟧.device self.new ≡ ⟦<Progress<K, N> as Sink>⟧.device self.old }
     {
         if self.noted == 0 {
             return;
@@ -81,9 +77,7 @@ impl<K: Sink, N: Sink> Progress<K, N> {
 }
 
 impl<K: Sink, N: Sink> Sink for Progress<K, N> {
-    ghost written = { λ s. K.written s.out };
-
-    ghost is_failed = { λ s. K.is_failed s.out };
+    ghost device = { λ s. K.device s.out };
 
     fn push(&mut self, bytes: &[u8]) -> Result<usize, DeviceFault> {
         let n = self.out.push(bytes)?;

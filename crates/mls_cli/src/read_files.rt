@@ -7,8 +7,9 @@ ghost use Rattle.mls_cli.specs.GroupStarts.{ReadsStart, CannotReadStart};
 
 use mls_commands::{FileName, GroupFiles};
 use mls_program::Files;
-use mls_show::{RunFault, read_all};
+use mls_show::read_all;
 use mls_start::StartBytes;
+use mls_wire::RunFault;
 use std::alloc::Global;
 
 /// Returns the bytes of a file.

@@ -12,8 +12,8 @@ use Rattle.mls_start.specs.StartFindings.{Declines}
 use Rattle.mls_start.specs.StartSignatures.{StartsWith}
 use Rattle.mls_start.specs.declared.finding.Finding.{Finding}
 use Rattle.mls_report.specs.Finding.{finding_line, finding_verdict}
-use Rattle.mls_show.specs.declared.verdict.RunFault.{RunFault}
-use Rattle.mls_show.specs.declared.verdict.RunFault.TheVariants.{Read, Write, Memory}
+use Rattle.mls_wire.specs.declared.fault.RunFault.{RunFault}
+use Rattle.mls_wire.specs.declared.fault.RunFault.TheVariants.{Read, Write, Memory}
 use Rattle.mls_show.specs.declared.verdict.Verdict.{Verdict}
 use Rattle.mls_show.specs.declared.verdict.Verdict.TheVariants.{Yes, No}
 use Rattle.mls_gate.specs.Answers.{query_text}

@@ -4,8 +4,8 @@ use Rattle.std.specs.Io.KnownBytes.{Appends}
 use Rattle.mls_check.specs.Signatures.{VerifyFn}
 use Rattle.mls_signatures.specs.declared.signature_to_verify.SignatureToVerify.{SignatureToVerify}
 use Rattle.mls_follow.specs.State.{State}
-use Rattle.mls_show.specs.declared.verdict.RunFault.{RunFault}
-use Rattle.mls_show.specs.declared.verdict.RunFault.TheVariants.{Read, Write, Memory}
+use Rattle.mls_wire.specs.declared.fault.RunFault.{RunFault}
+use Rattle.mls_wire.specs.declared.fault.RunFault.TheVariants.{Read, Write, Memory}
 use Rattle.mls_gate.specs.Answers.{Outcome, query_text}
 use Rattle.mls_gate.specs.GateSteps.{GivesBehind, IsQueried, Replies, RespondsIn, StopsAnswering, StopsInQueryText}
 use Rattle.mls_gate.specs.Phases.{Phase, Following}

@@ -12,8 +12,8 @@ use Rattle.mls_start.specs.Inputs.{Inputs, inputs_of}
 use Rattle.mls_start.specs.ReceiptBytes.{having_learnt}
 use Rattle.mls_report.proofs.Replaying.{Appends-nil}
 use Rattle.mls_report.proofs.StartLines.{prefix-behind}
-use Rattle.mls_show.specs.declared.verdict.RunFault.{RunFault}
-use Rattle.mls_show.specs.declared.verdict.RunFault.TheVariants.{Write}
+use Rattle.mls_wire.specs.declared.fault.RunFault.{RunFault}
+use Rattle.mls_wire.specs.declared.fault.RunFault.TheVariants.{Write}
 use Rattle.mls_gate.specs.Answers.{Outcome, Ends, Responds, broken_line}
 use Rattle.mls_gate.specs.GateSteps.{phase_of, Replies, RespondsIn, AnswersIn, Gives, GivesBehind, Answered, StopsAnswering, text_of, is_last}
 use Rattle.mls_gate.specs.Phases.{Phase, Opening, Following}

@@ -1,14 +1,14 @@
 -- The records of a gate, one after the other.
 use Rattle.std.proofs.Common.{◌≡◌, ◌≢◌, ◌∙◌, ℕ, ◌+◌, ◌<◌, List, [], ◌∷◌, ◌++◌, length, map, Bool, true, false, Option, Some, Result, Ok, Err, refl, sym, ap, subst, append_assoc, append-nil, length-append, arith, inl, inr}
 use Rattle.std.specs.Prelude.{IfErr, OnErr}
-use Rattle.std.specs.Io.KnownBytes.{Appends, Consumes, IsAtEnd}
+use Rattle.std.specs.Io.KnownBytes.{Appends, Consumes}
 use Rattle.mls_wire.specs.Devices.{AppendsPrefix}
 use Rattle.mls_wire.proofs.KnownBytes.{Appends-trans, Consumes-trans}
 use Rattle.mls_wire.specs.Logs.{IsRecord, IsBrokenAt, IsIncomplete}
 use Rattle.mls_start.specs.Inputs.{Inputs}
-use Rattle.mls_report.specs.Replay.{AreRecords}
-use Rattle.mls_show.specs.declared.verdict.RunFault.{RunFault}
-use Rattle.mls_show.specs.declared.verdict.RunFault.TheVariants.{Read, Write, Memory}
+use Rattle.mls_report.specs.Replay.{AreRecords, IsLogEnd}
+use Rattle.mls_wire.specs.declared.fault.RunFault.{RunFault}
+use Rattle.mls_wire.specs.declared.fault.RunFault.TheVariants.{Read, Write, Memory}
 use Rattle.mls_show.specs.declared.verdict.Verdict.{Verdict}
 use Rattle.mls_show.specs.declared.verdict.Verdict.TheVariants.{No}
 use Rattle.mls_report.proofs.Replaying.{Consumes-nil, Appends-nil}
@@ -63,30 +63,30 @@ serves-snoc p r0 r1 r2 ts t read f below r taken answered = record {
 
 -- ---- the records so far
 
--- they were answered, and nothing was read behind them
-pub record SoFar (p : Phase) (r0 r1 w0 w1 : Option (List ℕ)) (now : Option Phase) (n : ℕ) : Type 0 where
+-- they were answered, nothing was read behind them, and so many may still come
+pub record SoFar (p : Phase) (r0 r1 w0 w1 : Option (List ℕ)) (now : Option Phase) (most : ℕ) : Type 0 where
   pub turns : List Turn
   pub serves : Serves p r0 r1 turns []
   pub wrote : Appends w0 w1 (answers turns)
   pub is : now ≡ Some (phase_after p turns)
-  pub count : n ≡ length turns
+  pub count : most + length turns ≡ record_limit
 
-pub so_far-none : (p : Phase) (r w : Option (List ℕ)) → SoFar p r r w w (Some p) 0
-so_far-none p r w = record {
+pub so_far-none : (p : Phase) (r w : Option (List ℕ)) (most : ℕ) → most ≡ record_limit → SoFar p r r w w (Some p) most
+so_far-none p r w most all = record {
   turns = [];
   serves = record { answered = tt; bounded = omega arith; records = []; are_records = refl; all_read = Consumes-nil r };
   wrote = Appends-nil w;
   is = refl;
-  count = refl;
+  count = omega arith;
 }
 
 -- the gate is ready if it was at its opening
-pub ready-so_far : (i : Inputs) (G : VerifyFn) (r0 r1 w0 w1 : Option (List ℕ)) (now : Option Phase) (n : ℕ) → IsReady (Some (Opening i G))
-    → SoFar (Opening i G) r0 r1 w0 w1 now n → IsReady now
-ready-so_far i G r0 r1 w0 w1 now n r f =
+pub ready-so_far : (i : Inputs) (G : VerifyFn) (r0 r1 w0 w1 : Option (List ℕ)) (now : Option Phase) (most : ℕ) → IsReady (Some (Opening i G))
+    → SoFar (Opening i G) r0 r1 w0 w1 now most → IsReady now
+ready-so_far i G r0 r1 w0 w1 now most r f =
     subst IsReady (sym f.is) (ready-reached i G r (phase_after (Opening i G) f.turns) (reached-all i G (Opening i G) f.turns (reached-none i G) f.serves.answered))
 
-module _ (p : Phase) (r0 r1 r2 w0 w1 : Option (List ℕ)) (now : Option Phase) (n : ℕ) (f : SoFar p r0 r1 w0 w1 now n) (body read : List ℕ) (below : n < record_limit)
+module _ (p : Phase) (r0 r1 r2 w0 w1 : Option (List ℕ)) (now : Option Phase) (most new : ℕ) (f : SoFar p r0 r1 w0 w1 now most) (body read : List ℕ) (one : most ≡ new + 1)
     (is_record : IsRecord read body) (taken : Consumes r1 r2 read) (after : Option Phase) (w2 : Option (List ℕ)) where
   abbrev here : Phase
   here = phase_after p f.turns
@@ -103,7 +103,7 @@ module _ (p : Phase) (r0 r1 r2 w0 w1 : Option (List ℕ)) (now : Option Phase) (
   in-phase : (text : List ℕ) (last : Bool) → Replies (AnswersIn now body) text last after → Replies (Answers here body) text last after
   in-phase text last r = subst (λ (o : Option Phase). Replies (AnswersIn o body) text last after) f.is r
 
-  pub so_far-snoc : Answered (AnswersIn now body) after w1 w2 false → SoFar p r0 r2 w0 w2 after (n + 1)
+  pub so_far-snoc : Answered (AnswersIn now body) after w1 w2 false → SoFar p r0 r2 w0 w2 after new
   so_far-snoc printed =
       let g = in-phase printed.text false printed.replies in
       let t = turn-of printed.text g.0 in
@@ -182,16 +182,16 @@ module _ (p : Phase) (r0 r1 r2 w0 w1 : Option (List ℕ)) (now : Option Phase) (
 -- ---- where it stops
 
 -- so many may still come
-still : (ts : List Turn) (most n : ℕ) → most + n ≡ record_limit → n ≡ length ts → most ≡ records_to_come ts
-still ts most n e count = omega arith
+still : (ts : List Turn) (most : ℕ) → most + length ts ≡ record_limit → most ≡ records_to_come ts
+still ts most count = omega arith
 
-module _ (p : Phase) (r0 r1 r2 w0 w1 : Option (List ℕ)) (now : Option Phase) (n most : ℕ) (f : SoFar p r0 r1 w0 w1 now n) (all : most + n ≡ record_limit) where
+module _ (p : Phase) (r0 r1 r2 w0 w1 : Option (List ℕ)) (now : Option Phase) (most : ℕ) (f : SoFar p r0 r1 w0 w1 now most) where
   pub part-read : (e : RunFault) → ReadsUndecided r1 r2 most → e ≢ Write → RecordsPart p r0 r2 w0 w1 e
   part-read Read u other = record {
     turns = f.turns;
     rest = u.rest;
     serves = serves-read p r0 r1 r2 f.turns u.rest f.serves u.read;
-    undecided = subst (λ k. IsIncomplete k u.rest) (still f.turns most n all f.count) u.undecided;
+    undecided = subst (λ k. IsIncomplete k u.rest) (still f.turns most f.count) u.undecided;
     wrote = f.wrote;
   }
   part-read Write u other = absurd (other refl)
@@ -199,24 +199,24 @@ module _ (p : Phase) (r0 r1 r2 w0 w1 : Option (List ℕ)) (now : Option Phase) (
     turns = f.turns;
     rest = u.rest;
     serves = serves-read p r0 r1 r2 f.turns u.rest f.serves u.read;
-    left_over = inl (subst (λ k. IsIncomplete k u.rest) (still f.turns most n all f.count) u.undecided);
+    left_over = inl (subst (λ k. IsIncomplete k u.rest) (still f.turns most f.count) u.undecided);
     wrote = f.wrote;
   })
 
-  pub printed-end : (verdict : Verdict) → verdict ≡ verdict_at now → Consumes r1 r2 [] → IsAtEnd r2 → ReportsRecords p r0 r2 w0 w1 verdict
-  printed-end verdict v read end = record {
+  pub printed-end : (verdict : Verdict) (read : List ℕ) → verdict ≡ verdict_at now → Consumes r1 r2 read → IsLogEnd most read r2 false → ReportsRecords p r0 r2 w0 w1 verdict
+  printed-end verdict read v consumed end = record {
     turns = f.turns;
-    rest = [];
+    rest = read;
     text = [];
-    serves = serves-read p r0 r1 r2 f.turns [] f.serves read;
-    ending = inl (record { nothing_read = refl; at_end = end; no_text = refl; verdict_is = v ∙ ap verdict_at f.is });
+    serves = serves-read p r0 r1 r2 f.turns read f.serves consumed;
+    ending = inl (record { nothing_read = end.0; at_end = end.1; no_text = refl; verdict_is = v ∙ ap verdict_at f.is });
     wrote = subst (Appends w0 w1) (sym (append-nil (answers f.turns))) f.wrote;
   }
 
   module _ (read : List ℕ) (consumed : Consumes r1 r2 read) (broken : IsBrokenAt most read r2) (w2 : Option (List ℕ)) where
     is-broken : IsEnding (phase_after p f.turns) (records_to_come f.turns) read r2 broken_line No
     is-broken = inr (inl (record {
-      broken = subst (λ k. IsBrokenAt k read r2) (still f.turns most n all f.count) broken;
+      broken = subst (λ k. IsBrokenAt k read r2) (still f.turns most f.count) broken;
       text_is = refl;
       verdict_is = refl;
     }))

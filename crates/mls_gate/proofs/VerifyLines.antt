@@ -10,8 +10,8 @@ use Rattle.mls_report.specs.SignaturesReport.{signature_line}
 use Rattle.mls_report.specs.SignaturesSteps.{LinesWithoutMemory, StopsInLines}
 use Rattle.mls_report.proofs.Replaying.{Appends-nil}
 use Rattle.mls_report.proofs.StartLines.{prefix-more, prefix-behind, wrote-both, stops-before, stops-behind}
-use Rattle.mls_show.specs.declared.verdict.RunFault.{RunFault}
-use Rattle.mls_show.specs.declared.verdict.RunFault.TheVariants.{Read, Write, Memory}
+use Rattle.mls_wire.specs.declared.fault.RunFault.{RunFault}
+use Rattle.mls_wire.specs.declared.fault.RunFault.TheVariants.{Read, Write, Memory}
 use Rattle.mls_gate.specs.Answers.{is_known, verify_line, verify_lines, query_count_line, query_text, unknown_count}
 use Rattle.mls_gate.specs.GateSteps.{StopsInQueryText}
 

@@ -15,8 +15,8 @@ use Rattle.mls_start.specs.StartSignatures.{StartsWith}
 use Rattle.mls_start.specs.declared.finding.Finding.{Finding}
 use Rattle.mls_report.specs.Finding.{finding_line}
 use Rattle.mls_report.specs.Replay.{AreRecords, IsLeftOver, ReportsNothing}
-use Rattle.mls_show.specs.declared.verdict.RunFault.{RunFault}
-use Rattle.mls_show.specs.declared.verdict.RunFault.TheVariants.{Read, Write, Memory}
+use Rattle.mls_wire.specs.declared.fault.RunFault.{RunFault}
+use Rattle.mls_wire.specs.declared.fault.RunFault.TheVariants.{Read, Write, Memory}
 use Rattle.mls_show.specs.declared.verdict.Verdict.{Verdict}
 use Rattle.mls_show.specs.declared.verdict.Verdict.TheVariants.{No}
 use Rattle.mls_gate.specs.Answers.{Answers, Goes, Ends, verify_lines, query_text, broken_line}

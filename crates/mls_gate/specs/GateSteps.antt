@@ -12,8 +12,8 @@ use Rattle.mls_start.specs.Inputs.{inputs_of}
 use Rattle.mls_start.specs.StartFindings.{IsFirstState}
 use Rattle.mls_report.specs.SignaturesReport.{HasSignatures}
 use Rattle.mls_report.specs.SignaturesSteps.{LinesWithoutMemory}
-use Rattle.mls_show.specs.declared.verdict.RunFault.{RunFault}
-use Rattle.mls_show.specs.declared.verdict.RunFault.TheVariants.{Read, Write, Memory}
+use Rattle.mls_wire.specs.declared.fault.RunFault.{RunFault}
+use Rattle.mls_wire.specs.declared.fault.RunFault.TheVariants.{Read, Write, Memory}
 use Rattle.mls_show.specs.declared.verdict.Verdict.{Verdict}
 use Rattle.mls_show.specs.declared.verdict.Verdict.TheVariants.{No}
 use Rattle.mls_gate.specs.Answers.{Outcome, Goes, Ends, Responds, verify_lines, query_text, message_query, broken_line}

@@ -1,6 +1,7 @@
 //! What the gate is at between two records, and how it answers one.
 
-ghost use Rattle.std.specs.Prelude.{◌≡◌, ◌↔◌, ℕ, List, Some, false, true, Err, IfOk, IfErr};
+ghost use Rattle.std.specs.Prelude.{◌≡◌, ℕ, List, Some, IfOk, IfErr};
+ghost use Rattle.mls_wire.specs.Devices.{IsWorking, WriteFails};
 ghost use Rattle.mls_follow.specs.FollowerModel.{checker_of, state_of};
 ghost use Rattle.mls_gate.specs.GateSteps.{phase_of, text_of, is_last, verdict_at, Gives, GivesBehind, IsQueried, IsReady, RespondsIn, AnswersIn, StopsAnswering};
 
@@ -11,10 +12,10 @@ use mls_apply::Refusal;
 use mls_check::{LearningCheck, OutOfMemory, SignatureCheck};
 use mls_follow::{Follower, SignatureListFault};
 use mls_report::finding_line;
-use mls_show::{RunFault, Verdict};
+use mls_show::Verdict;
 use mls_signatures::SignatureList;
 use mls_start::{SignaturesLeft, StartBytes, StartFailure, learn_in_follower, learn_receipts};
-use mls_wire::{CodecFault, Sink};
+use mls_wire::{CodecFault, RunFault, Sink};
 use std::alloc::Global;
 use std::mem;
 
@@ -133,14 +134,14 @@ impl<C: LearningCheck> GatePhase<C> {
         message: &[u8],
         out: &mut K,
     ) -> Result<Answer, RunFault>
-        requires { K.is_failed out.old ≡ false }
+        requires { IsWorking (K.device out.old) }
         ensures answered { IfOk result (GivesBehind
             (RespondsIn (phase_of C.meaning self.old) (Some Request.Query) message.now)
-            (phase_of C.meaning self.new) (K.written out.old) (K.written out.new)) }
+            (phase_of C.meaning self.new) (K.device out.old).bytes (K.device out.new).bytes) }
         ensures effect_on_error { IfErr result (StopsAnswering
             (RespondsIn (phase_of C.meaning self.old) (Some Request.Query) message.now)
-            (phase_of C.meaning self.new) (K.written out.old) (K.written out.new)) }
-        ensures write { (result ≡ Err RunFault.Write) ↔ (K.is_failed out.new ≡ true) }
+            (phase_of C.meaning self.new) (K.device out.old).bytes (K.device out.new).bytes) }
+        ensures write { WriteFails result (K.device out.new) }
     {
         let GatePhase::Following(follower) = self else {
             return Ok(Answer::Broken);
@@ -197,12 +198,12 @@ impl<C: LearningCheck> GatePhase<C> {
         out: &mut K,
     ) -> Result<Answer, RunFault>
         requires ready { IsReady (phase_of C.meaning self.old) }
-        requires out { K.is_failed out.old ≡ false }
+        requires out { IsWorking (K.device out.old) }
         ensures answered { IfOk result (GivesBehind (AnswersIn (phase_of C.meaning self.old) body.now)
-            (phase_of C.meaning self.new) (K.written out.old) (K.written out.new)) }
+            (phase_of C.meaning self.new) (K.device out.old).bytes (K.device out.new).bytes) }
         ensures effect_on_error { IfErr result (StopsAnswering (AnswersIn (phase_of C.meaning self.old) body.now)
-            (phase_of C.meaning self.new) (K.written out.old) (K.written out.new)) }
-        ensures write { (result ≡ Err RunFault.Write) ↔ (K.is_failed out.new ≡ true) }
+            (phase_of C.meaning self.new) (K.device out.old).bytes (K.device out.new).bytes) }
+        ensures write { WriteFails result (K.device out.new) }
     {
         match request_of(body) {
             Some(Request::Learn) => self.learn(&body[1..]),

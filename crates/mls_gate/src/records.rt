@@ -1,6 +1,7 @@
 //! The report of the gate.
 
-ghost use Rattle.std.specs.Prelude.{◌≡◌, ◌↔◌, Err, false, true, IfOk, IfErr};
+ghost use Rattle.std.specs.Prelude.{IfOk, IfErr};
+ghost use Rattle.mls_wire.specs.Devices.{IsWorking, ReadFails, WriteFails};
 ghost use Rattle.mls_follow.specs.CoveredLogs.{all_good};
 ghost use Rattle.mls_follow.specs.State.{State};
 ghost use Rattle.mls_start.specs.Inputs.{inputs_of};
@@ -12,10 +13,10 @@ ghost use Rattle.mls_gate.specs.Phases.{Opening};
 use crate::phase::{BROKEN, GatePhase};
 use crate::signature_lines::write_query;
 use mls_check::LearningCheck;
-use mls_report::{next_record, report_finding};
-use mls_show::{RunFault, Verdict, write_text};
+use mls_report::{RecordStep, next_record, report_finding};
+use mls_show::{Verdict, write_text};
 use mls_start::{StartBytes, StartFailure, TrustingStart};
-use mls_wire::{LogStep, Records, Sink, Source};
+use mls_wire::{Records, RunFault, Sink, Source};
 use std::alloc::Global;
 
 /// Answers a record, and writes its lines. Returns whether they end the gate.
@@ -26,12 +27,12 @@ fn answer_record<C: LearningCheck, K: Sink>(
     out: &mut K,
 ) -> Result<bool, RunFault>
     requires ready { IsReady (phase_of C.meaning phase.old) }
-    requires out { K.is_failed out.old ≡ false }
+    requires out { IsWorking (K.device out.old) }
     ensures printed { IfOk result (Answered (AnswersIn (phase_of C.meaning phase.old) body.now)
-        (phase_of C.meaning phase.new) (K.written out.old) (K.written out.new)) }
+        (phase_of C.meaning phase.new) (K.device out.old).bytes (K.device out.new).bytes) }
     ensures effect_on_error { IfErr result (StopsAnswering (AnswersIn (phase_of C.meaning phase.old) body.now)
-        (phase_of C.meaning phase.new) (K.written out.old) (K.written out.new)) }
-    ensures write { (result ≡ Err RunFault.Write) ↔ (K.is_failed out.new ≡ true) }
+        (phase_of C.meaning phase.new) (K.device out.old).bytes (K.device out.new).bytes) }
+    ensures write { WriteFails result (K.device out.new) }
 {
     let answer = phase.answer(alloc, body, out)?;
     write_text(out, answer.text())?;
@@ -47,33 +48,31 @@ fn serve<R: Source, C: LearningCheck, K: Sink>(
     out: &mut K,
 ) -> Result<Verdict, RunFault>
     requires ready { (s : State) × IsFirstState all_good (inputs_of start) s }
-    requires records { R.is_failed records.old ≡ false }
-    requires out { K.is_failed out.old ≡ false }
+    requires records { IsWorking (R.device records.old) }
+    requires out { IsWorking (K.device out.old) }
     ensures printed { IfOk result (ReportsRecords (Opening (inputs_of start) (C.meaning checker))
-        (R.left records.old) (R.left records.new) (K.written out.old) (K.written out.new)) }
+        (R.device records.old).bytes (R.device records.new).bytes (K.device out.old).bytes (K.device out.new).bytes) }
     ensures effect_on_error { IfErr result (RecordsPart (Opening (inputs_of start) (C.meaning checker))
-        (R.left records.old) (R.left records.new) (K.written out.old) (K.written out.new)) }
-    ensures read { (result ≡ Err RunFault.Read) ↔ (R.is_failed records.new ≡ true) }
-    ensures write { (result ≡ Err RunFault.Write) ↔ (K.is_failed out.new ≡ true) }
+        (R.device records.old).bytes (R.device records.new).bytes (K.device out.old).bytes (K.device out.new).bytes) }
+    ensures read { ReadFails result (R.device records.new) }
+    ensures write { WriteFails result (K.device out.new) }
 {
     let mut phase = GatePhase::Opening { start, checker };
     let mut reader = Records::new(alloc, u32::MAX);
-    'records: for n in 0..u32::MAX as u64 + 2 {
+    'records: loop {
         match next_record(&mut reader, records)? {
-            LogStep::Record => {
+            RecordStep::Record => {
                 if answer_record(alloc, &mut phase, reader.body(), out)? {
                     return Ok(Verdict::No);
                 }
             }
-            LogStep::End => return Ok(phase.end_verdict()),
-            LogStep::Broken => {
+            RecordStep::End { is_broken: false } => return Ok(phase.end_verdict()),
+            RecordStep::End { is_broken: true } => {
                 write_text(out, BROKEN)?;
                 return Ok(Verdict::No);
             }
-            LogStep::Over => unreachable!(),
         }
     }
-    unreachable!()
 }
 
 /// Follows one group over records. If no follower starts or resumes from `start` though each signature is good, it writes
@@ -114,14 +113,14 @@ pub fn gate<R: Source, C: LearningCheck, K: Sink>(
     checker: C,
     out: &mut K,
 ) -> Result<Verdict, RunFault>
-    requires records { R.is_failed records.old ≡ false }
-    requires out { K.is_failed out.old ≡ false }
+    requires records { IsWorking (R.device records.old) }
+    requires out { IsWorking (K.device out.old) }
     ensures printed { IfOk result (Gates (C.meaning checker) (inputs_of start)
-        (R.left records.old) (R.left records.new) (K.written out.old) (K.written out.new)) }
+        (R.device records.old).bytes (R.device records.new).bytes (K.device out.old).bytes (K.device out.new).bytes) }
     ensures effect_on_error { IfErr result (GatesPart (C.meaning checker) (inputs_of start)
-        (R.left records.old) (R.left records.new) (K.written out.old) (K.written out.new)) }
-    ensures read { (result ≡ Err RunFault.Read) ↔ (R.is_failed records.new ≡ true) }
-    ensures write { (result ≡ Err RunFault.Write) ↔ (K.is_failed out.new ≡ true) }
+        (R.device records.old).bytes (R.device records.new).bytes (K.device out.old).bytes (K.device out.new).bytes) }
+    ensures read { ReadFails result (R.device records.new) }
+    ensures write { WriteFails result (K.device out.new) }
 {
     match start.try_clone(alloc)?.trusting(alloc) {
         Ok(

@@ -11,10 +11,10 @@ use mls_follow::Follower;
 use mls_gate::gate;
 use mls_msgs::Profile;
 use mls_report::{Replayed, replay, signatures, validate, validate_tree};
-use mls_show::{RunFault, Verdict};
+use mls_show::Verdict;
 use mls_start::StartBytes;
 use mls_vectors::{CheckKind, run_check};
-use mls_wire::{CodecFault, MemorySink, MemorySource};
+use mls_wire::{CodecFault, MemorySink, MemorySource, RunFault};
 use std::alloc::Global;
 
 /// A report.

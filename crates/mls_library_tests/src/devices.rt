@@ -2,8 +2,8 @@
 //! for good, even if the reader or writer would go on.
 
 use crate::support::{GROUP_INFO, bytes, expect_text, have, sink};
-use mls_show::{RunFault, ShowKind, Verdict, run_show};
-use mls_wire::{DeviceFault, MemorySource, Sink, Source, StdSink, StdSource};
+use mls_show::{ShowKind, Verdict, run_show};
+use mls_wire::{DeviceFault, MemorySource, RunFault, Sink, Source, StdSink, StdSource};
 use std::alloc::Global;
 use std::io::{self, ErrorKind, Read, Write};
 use std::process::Abort;

@@ -1,7 +1,8 @@
 //! Runs of reports over a device that fails at one of its calls, and how they have to end. What was written then is the
 //! part of the report that is decided by what was read, or the front of the report that the output took.
 
-use mls_show::{RunFault, Verdict};
+use mls_show::Verdict;
+use mls_wire::RunFault;
 use std::process::Abort;
 
 /// A device of a run: the records or the log, the output, and a writer of std below the output.

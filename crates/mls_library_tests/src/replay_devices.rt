@@ -1,13 +1,13 @@
 //! A replay whose devices fail: each pull of its log and each push of its output in turn.
 
-ghost use Rattle.std.specs.Prelude.{◌≡◌, false};
+ghost use Rattle.mls_wire.specs.Devices.{IsWorking};
 
 use crate::failing_runs::{Device, Ended, Failing, Report, fault_of};
 use crate::support::{GROUP_INFO, LOG, bytes, have, sink, source, start};
 use mls_check::Trusting;
 use mls_report::replay;
-use mls_show::{RunFault, Verdict};
-use mls_wire::{Sink, StdSink};
+use mls_show::Verdict;
+use mls_wire::{RunFault, Sink, StdSink};
 use std::alloc::Global;
 use std::io::{self, ErrorKind, Write};
 use std::process::Abort;
@@ -64,7 +64,7 @@ pub(crate) fn replay_into<K: Sink>(
     reading: LogReading,
     out: &mut K,
 ) -> (Result<Verdict, RunFault>, usize)
-    requires { K.is_failed out.old ≡ false }
+    requires { IsWorking (K.device out.old) }
 {
     let start = start(rt, alloc, GROUP_INFO);
     let log = bytes(rt, alloc, LOG);

@@ -9,9 +9,9 @@ use mls_check::{Receipts, ReceiptsFault, Trusting};
 use mls_cli::run_program;
 use mls_program::{Files, run_show_program};
 use mls_report::{report_unreadable_receipts, signatures, validate_tree};
-use mls_show::{RunFault, ShowKind, Verdict, read_all, run_show, status_of};
+use mls_show::{ShowKind, Verdict, read_all, run_show, status_of};
 use mls_vectors::{CheckKind, run_check};
-use mls_wire::{LogStep, MemorySink, MemorySource, Records, Source};
+use mls_wire::{LogStep, MemorySink, MemorySource, Records, RunFault, Source};
 use std::alloc::Global;
 use std::process::Abort;
 
@@ -207,7 +207,7 @@ struct OneFile<'a> {
 impl<'a> Files for OneFile<'a> {
     type File = MemorySource<'a>;
 
-    ghost opener = { λ _. unknown ⟦<MemorySource<'a> as Source>⟧.left ⟦<MemorySource<'a> as Source>⟧.is_failed };
+    ghost opener = { λ _. unknown ⟦<MemorySource<'a> as Source>⟧.device };
 
     fn open(&self, name: &str) -> Option<MemorySource<'a>> {
         if name == self.name {
@@ -221,9 +221,7 @@ impl<'a> Files for OneFile<'a> {
         false
     }
 
-    ghost left_is = { λ _. refl };
-
-    ghost is_failed_is = { λ _. refl };
+    ghost device_is = { λ _. refl };
 }
 
 /// The words of a line, after the program's name.

@@ -1,34 +1,33 @@
 -- Files that are opened by name and read, or stored. Used by contracts.
-use Rattle.std.specs.Prelude.{ℕ, List, [], Bool, true, false, Option, Some, None, Err, ◌≡◌, ◌≢◌, ◌↔◌, ◌⊎◌}
+use Rattle.std.specs.Prelude.{ℕ, List, [], Option, Some, None, Err, ◌≡◌, ◌≢◌, ◌↔◌, ◌⊎◌}
 use Rattle.std.specs.Io.KnownBytes.{Appends}
 use Rattle.mls_program.specs.ReportResult.{ReportResult}
 use Rattle.mls_show.specs.ReadAll.{ReadsAll, ReadsSome}
-use Rattle.mls_show.specs.declared.verdict.RunFault.{RunFault}
-use Rattle.mls_show.specs.declared.verdict.RunFault.TheVariants.{Read, Write}
+use Rattle.mls_wire.specs.Devices.{Device, HasFailed, IsWorking}
+use Rattle.mls_wire.specs.declared.fault.RunFault.{RunFault}
+use Rattle.mls_wire.specs.declared.fault.RunFault.TheVariants.{Read, Write}
 
 -- `Opener`: what contracts know of an opener of files. `gives name file`: the file with this name may be opened as
 -- `file`. `lacks name`: opening it may fail. `stores name bytes`: the file with this name may be one that was stored with
--- exactly these bytes. `refuses name bytes`: storing them may fail. `left file` is the bytes left in a file, and
--- `is_failed file` is whether it has failed.
+-- exactly these bytes. `refuses name bytes`: storing them may fail. `device file` is the bytes left in a file, and
+-- whether it has failed.
 pub record Opener (File : Type 0) : Type 1 where
   pub gives : List ℕ → File → Type 0
   pub lacks : List ℕ → Type 0
   pub stores : List ℕ → List ℕ → Type 0
   pub refuses : List ℕ → List ℕ → Type 0
-  pub left : File → Option (List ℕ)
-  pub is_failed : File → Bool
+  pub device : File → Device
 
--- `unknown left is_failed` is an opener of which nothing is known, except what is left in an open file and whether it has
+-- `unknown device` is an opener of which nothing is known, except what is left in an open file and whether it has
 -- failed.
-abbrev pub unknown : {File : Type 0} → (File → Option (List ℕ)) → (File → Bool) → Opener File
-unknown left is_failed =
+abbrev pub unknown : {File : Type 0} → (File → Device) → Opener File
+unknown device =
     record {
       gives = λ name file. Unit {0};
       lacks = λ name. Unit {0};
       stores = λ name bytes. Unit {0};
       refuses = λ name bytes. Unit {0};
-      left = left;
-      is_failed = is_failed;
+      device = device;
     }
 
 -- `EndsUnread Lost written0 written1 outcome`: a file cannot be read, which is a fault of which `Lost` holds. Nothing is
@@ -73,8 +72,8 @@ module _ {File : Type 0} (F : Opener File) where
     pub opened : File
     pub ended : File
     pub given : F.gives name opened
-    pub read : ReadsAll (F.left opened) (F.left ended) bytes
-    pub not_failed : F.is_failed ended ≡ false
+    pub read : ReadsAll (F.device opened).bytes (F.device ended).bytes bytes
+    pub not_failed : IsWorking (F.device ended)
 
   -- `FailsFile name fault`: a file with this name was opened, and could not be read to its end. It failed, or memory
   -- ran out.
@@ -82,8 +81,8 @@ module _ {File : Type 0} (F : Opener File) where
     pub opened : File
     pub ended : File
     pub given : F.gives name opened
-    pub read : ReadsSome (F.left opened) (F.left ended)
-    pub failed : (fault ≡ Read) ↔ (F.is_failed ended ≡ true)
+    pub read : ReadsSome (F.device opened).bytes (F.device ended).bytes
+    pub failed : (fault ≡ Read) ↔ HasFailed (F.device ended)
     pub not_write_fault : fault ≢ Write
 
   -- `CannotReadFile name fault`: a file with this name cannot be opened, or cannot be read to its end.

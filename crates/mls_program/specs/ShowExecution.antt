@@ -1,13 +1,14 @@
 -- How the command `show` is executed: which file is read, and what is reported. F is what opens files. That no other file
 -- is opened is no clause. Used by contracts.
-use Rattle.std.specs.Prelude.{ℕ, List, [], true, Option, Err, IfOk, OnErr, ◌≡◌, ◌↔◌, ◌⊎◌}
+use Rattle.std.specs.Prelude.{ℕ, List, [], Option, Err, IfOk, OnErr, ◌≡◌, ◌⊎◌}
 use Rattle.std.specs.Io.KnownBytes.{Appends}
 use Rattle.mls_msgs.specs.declared.profile.Profile.{Profile}
 use Rattle.mls_program.specs.Files.{Opener, CannotOpen}
 use Rattle.mls_program.specs.ReportResult.{ReportResult}
 use Rattle.mls_show.specs.Show.{Shows, ShowsPart}
 use Rattle.mls_show.specs.declared.show.ShowKind.{ShowKind}
-use Rattle.mls_show.specs.declared.verdict.RunFault.TheVariants.{Read, Memory}
+use Rattle.mls_wire.specs.Devices.{ReadFails}
+use Rattle.mls_wire.specs.declared.fault.RunFault.TheVariants.{Memory}
 
 module _ {File : Type 0} (F : Opener File) where
   -- `RunsShow profile k name written0 written1 outcome`: the report `show` of a file of this name.
@@ -16,10 +17,10 @@ module _ {File : Type 0} (F : Opener File) where
     pub opened : File
     pub ended : File
     pub given : F.gives name opened
-    pub shown : IfOk outcome (Shows profile k (F.left opened) (F.left ended) written0 written1)
-    pub part : OnErr outcome (ShowsPart profile k (F.left opened) (F.left ended) written0 written1)
+    pub shown : IfOk outcome (Shows profile k (F.device opened).bytes (F.device ended).bytes written0 written1)
+    pub part : OnErr outcome (ShowsPart profile k (F.device opened).bytes (F.device ended).bytes written0 written1)
     pub memory : outcome ≡ Err Memory → Appends written0 written1 []
-    pub failed : (outcome ≡ Err Read) ↔ (F.is_failed ended ≡ true)
+    pub failed : ReadFails outcome (F.device ended)
 
   -- `ExecutesShow profile k name written0 written1 outcome`: the command `show` was executed, or the file cannot be opened.
   abbrev pub ExecutesShow : Profile → ShowKind → List ℕ → Option (List ℕ) → Option (List ℕ) → ReportResult → Type 0

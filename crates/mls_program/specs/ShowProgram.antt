@@ -1,7 +1,7 @@
 -- What the program that has the command `show` alone does with its command line: it shows a file, or says what is wrong,
--- and returns the exit status. `written0` and `written1` are what its output holds before and after, `noted0` and `noted1`
--- what standard error holds. Used by contracts.
-use Rattle.std.specs.Prelude.{ℕ, List, [], codes, Bool, true, Option, Err, ◌≡◌, ◌↔◌, ◌⊎◌}
+-- and returns the exit status. `out0` and `out1` are its output before and after, `notes0` and `notes1` standard error.
+-- Used by contracts.
+use Rattle.std.specs.Prelude.{ℕ, List, [], codes, ◌≡◌, ◌⊎◌}
 use Rattle.std.specs.Io.KnownBytes.{Appends}
 use Rattle.clap.specs.Words.{Text}
 use Rattle.mls_commands.specs.Orders.{IsOrderOf}
@@ -13,28 +13,26 @@ use Rattle.mls_program.specs.Files.{Opener}
 use Rattle.mls_program.specs.ReportResult.{ReportResult}
 use Rattle.mls_program.specs.ShowExecution.{ExecutesShow}
 use Rattle.mls_show.specs.declared.show.ShowKind.{ShowKind}
-use Rattle.mls_show.specs.declared.verdict.RunFault.TheVariants.{Write}
+use Rattle.mls_wire.specs.Devices.{Device, WriteFails}
 
 -- `other_command` is what is noted of a command that the program does not have.
 abbrev pub other_command : List ℕ
 other_command = codes "usage: this program has the command show alone\n"
 
 -- How the program ends that opens files.
-module _ {File : Type 0} (F : Opener File) (written0 written1 : Option (List ℕ)) (is_failed : Bool)
-    (noted0 noted1 : Option (List ℕ)) (has_failed_notes : Bool) (exit : ℕ) where
+module _ {File : Type 0} (F : Opener File) (out0 out1 notes0 notes1 : Device) (exit : ℕ) where
   -- `EndsShow profile k name`: a file of this name is shown. The outcome is a fault of writing if and only if the output
   -- has failed.
   pub record EndsShow (profile : Profile) (k : ShowKind) (name : List ℕ) : Type 0 where
     pub outcome : ReportResult
-    pub executed : ExecutesShow F profile k name written0 written1 outcome
-    pub write : (outcome ≡ Err Write) ↔ (is_failed ≡ true)
-    pub ends : Ends noted0 noted1 has_failed_notes exit outcome
+    pub executed : ExecutesShow F profile k name out0.bytes out1.bytes outcome
+    pub write : WriteFails outcome out1
+    pub ends : Ends notes0 notes1 exit outcome
 
   -- `EndsOtherOrder` is how the program ends with a command that it does not have: nothing is written, `other_command` is
   -- noted, and the exit status is that of a usage fault.
   abbrev pub EndsOtherOrder : Type 0
-  EndsOtherOrder =
-      Appends written0 written1 [] × WritesOrFails noted0 noted1 has_failed_notes other_command × (exit ≡ 2)
+  EndsOtherOrder = Appends out0.bytes out1.bytes [] × WritesOrFails notes0 notes1 other_command × (exit ≡ 2)
 
   -- `EndsShowOrder o`: the command `show` is executed, or another one is refused.
   abbrev pub EndsShowOrder : Order → Type 0
@@ -50,6 +48,4 @@ module _ {File : Type 0} (F : Opener File) (written0 written1 : Option (List ℕ
 
   -- `RunsShowProgram words`: the program is run with these arguments, of which the first is its name.
   abbrev pub RunsShowProgram : List Text → Type 0
-  RunsShowProgram words =
-      RunsShowOrder words
-      ⊎ RunsFault written0 written1 is_failed noted0 noted1 has_failed_notes exit words
+  RunsShowProgram words = RunsShowOrder words ⊎ RunsFault out0 out1 notes0 notes1 exit words

@@ -1,6 +1,7 @@
 //! Files that are opened and stored by name.
 
 ghost use Rattle.std.specs.Prelude.{◌≡◌, false, true, None, IfSome};
+ghost use Rattle.mls_wire.specs.Devices.{IsWorking};
 ghost use Rattle.mls_program.specs.Files.{Opener};
 
 use mls_wire::Source;
@@ -17,7 +18,7 @@ pub trait Files {
     /// Opens the file with this name, for reading from its front; `None` if it cannot be opened.
     fn open(&self, name: &str) -> Option<Self::File>
         ensures given { IfSome result (λ file. (opener self.now).gives name.now file) }
-        ensures fresh { IfSome result (λ file. Self.File.is_failed file ≡ false) }
+        ensures fresh { IfSome result (λ file. IsWorking (Self.File.device file)) }
         ensures none { result ≡ None → (opener self.now).lacks name.now };
 
     /// Stores a file with this name and exactly these bytes, in place of one that has the name. Returns whether it is
@@ -27,7 +28,5 @@ pub trait Files {
         ensures refused { result ≡ false → (opener self.now).refuses name.now bytes.now };
 
     /// What contracts know of an open file is what it says itself of its bytes, and of whether it has failed.
-    ghost left_is: { (files : Self) → (opener files).left ≡ Self.File.left };
-
-    ghost is_failed_is: { (files : Self) → (opener files).is_failed ≡ Self.File.is_failed };
+    ghost device_is: { (files : Self) → (opener files).device ≡ Self.File.device };
 }

@@ -1,13 +1,13 @@
 //! Executing the command `show`: the file that it names is opened, and its report is made of it.
 
-ghost use Rattle.std.specs.Prelude.{◌≡◌, ◌↔◌, false, true, Err};
+ghost use Rattle.mls_wire.specs.Devices.{IsWorking, WriteFails};
 ghost use Rattle.mls_program.specs.ShowExecution.{ExecutesShow};
 
 use crate::files::Files;
 use mls_commands::FileName;
 use mls_msgs::Profile;
-use mls_show::{RunFault, ShowKind, Verdict, run_show_in};
-use mls_wire::Sink;
+use mls_show::{ShowKind, Verdict, run_show_in};
+use mls_wire::{RunFault, Sink};
 use std::alloc::Global;
 
 /// Shows a file. A message is decoded in `profile`.
@@ -24,10 +24,10 @@ pub fn execute_show<F: Files, K: Sink>(
     files: &F,
     out: &mut K,
 ) -> Result<Verdict, RunFault>
-    requires { K.is_failed out.old ≡ false }
+    requires { IsWorking (K.device out.old) }
     ensures executed { ExecutesShow (F.opener files.now)
-        profile kind file.now (K.written out.old) (K.written out.new) result }
-    ensures write { (result ≡ Err RunFault.Write) ↔ (K.is_failed out.new ≡ true) }
+        profile kind file.now (K.device out.old).bytes (K.device out.new).bytes result }
+    ensures write { WriteFails result (K.device out.new) }
 {
     let Some(mut input) = files.open(file.as_str()) else {
         return Err(RunFault::Read);

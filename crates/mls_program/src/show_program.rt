@@ -1,6 +1,7 @@
 //! The program that has the command `show` alone, except what opens real files and ends the process.
 
-ghost use Rattle.std.specs.Prelude.{◌≡◌, false, map, string_bytes};
+ghost use Rattle.std.specs.Prelude.{map, string_bytes};
+ghost use Rattle.mls_wire.specs.Devices.{IsWorking};
 ghost use Rattle.mls_program.specs.ShowProgram.{EndsShowOrder, RunsShowProgram};
 
 use crate::endings::{end, note, run_fault};
@@ -21,11 +22,10 @@ fn run_show_order<F: Files, K: Sink, N: Sink>(
     out: &mut K,
     notes: &mut N,
 ) -> u8
-    requires out { K.is_failed out.old ≡ false }
-    requires notes { N.is_failed notes.old ≡ false }
-    ensures { EndsShowOrder (F.opener files.now)
-        (K.written out.old) (K.written out.new) (K.is_failed out.new)
-        (N.written notes.old) (N.written notes.new) (N.is_failed notes.new) result order.now }
+    requires out { IsWorking (K.device out.old) }
+    requires notes { IsWorking (N.device notes.old) }
+    ensures { EndsShowOrder (F.opener files.now) (K.device out.old) (K.device out.new)
+        (N.device notes.old) (N.device notes.new) result order.now }
 {
     match order {
         Order::Show {
@@ -57,12 +57,10 @@ pub fn run_show_program<F: Files, K: Sink, N: Sink>(
     out: &mut K,
     notes: &mut N,
 ) -> u8
-    requires out { K.is_failed out.old ≡ false }
-    requires notes { N.is_failed notes.old ≡ false }
-    ensures { RunsShowProgram (F.opener files.now)
-        (K.written out.old) (K.written out.new) (K.is_failed out.new)
-        (N.written notes.old) (N.written notes.new) (N.is_failed notes.new) result
-        (map string_bytes words.now) }
+    requires out { IsWorking (K.device out.old) }
+    requires notes { IsWorking (N.device notes.old) }
+    ensures { RunsShowProgram (F.opener files.now) (K.device out.old) (K.device out.new)
+        (N.device notes.old) (N.device notes.new) result (map string_bytes words.now) }
 {
     match order_of(alloc, words) {
         Ok(order) => {

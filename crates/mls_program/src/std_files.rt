@@ -199,8 +199,7 @@ impl<'a, R: fs::Files> StdFiles<'a, R> {
 impl<'a, R: fs::Files> Files for StdFiles<'a, R> {
     type File = StdSource<BufReader<Input<'a, R::File>>>;
 
-    ghost opener = { λ _. unknown ⟦<StdSource<BufReader<Input<'a, R::File>>> as Source>⟧.left
-        ⟦<StdSource<BufReader<Input<'a, R::File>>> as Source>⟧.is_failed };
+    ghost opener = { λ _. unknown ⟦<StdSource<BufReader<Input<'a, R::File>>> as Source>⟧.device };
 
     /// Opens a file. It is read through a buffer, which takes what the device has: so a log of small messages takes few
     /// reads, and no read waits while the buffer has a byte. Without memory for a buffer, it is read without one.
@@ -231,7 +230,5 @@ impl<'a, R: fs::Files> Files for StdFiles<'a, R> {
         }
     }
 
-    ghost left_is = { λ _. refl };
-
-    ghost is_failed_is = { λ _. refl };
+    ghost device_is = { λ _. refl };
 }

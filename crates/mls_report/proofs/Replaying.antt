@@ -1,22 +1,22 @@
 -- A replay, message by message.
-use Rattle.std.proofs.Common.{◌≡◌, ◌≢◌, ℕ, ◌+◌, ◌<◌, List, [], ◌∷◌, ◌++◌, length, map, Ok, Err, Result, Bool, true, refl, sym, ap, ◌∙◌, subst, append_assoc, append-nil, length-append, arith, inl, inr, is_ok}
+use Rattle.std.proofs.Common.{◌≡◌, ◌≢◌, ℕ, ◌+◌, ◌<◌, List, [], ◌∷◌, ◌++◌, length, map, Ok, Err, Result, Bool, refl, sym, ap, ◌∙◌, subst, append_assoc, append-nil, length-append, arith, inl, inr, is_ok}
 use Rattle.std.specs.Prelude.{Option, Some, None, IfErr, OnErr, if◌then◌else◌}
 use Rattle.std.specs.Io.KnownBytes.{Appends, Consumes}
 use Rattle.mls_wire.specs.Devices.{AppendsPrefix}
 use Rattle.mls_wire.proofs.KnownBytes.{Appends-trans, Consumes-trans}
-use Rattle.mls_wire.specs.Logs.{IsRecord, IsBrokenAt, IsIncomplete}
+use Rattle.mls_wire.specs.Logs.{IsRecord}
 use Rattle.mls_check.specs.Signatures.{VerifyFn}
 use Rattle.mls_follow.specs.Runs.{IsAnswer}
 use Rattle.mls_follow.specs.State.{State}
-use Rattle.mls_show.specs.declared.verdict.RunFault.{RunFault}
-use Rattle.mls_show.specs.declared.verdict.RunFault.TheVariants.{Read, Write, Memory}
+use Rattle.mls_wire.specs.declared.fault.RunFault.{RunFault}
+use Rattle.mls_wire.specs.declared.fault.RunFault.TheVariants.{Read, Write, Memory}
 use Rattle.mls_show.specs.declared.verdict.Verdict.{Verdict}
 use Rattle.mls_show.specs.declared.verdict.Verdict.TheVariants.{Yes, No}
 use Rattle.mls_start.specs.Inputs.{Inputs}
 use Rattle.mls_start.specs.StartFindings.{IsFirstState, Declines}
 use Rattle.mls_start.specs.declared.finding.Finding.{Finding}
-use Rattle.mls_report.specs.Replay.{ProcessedMessage, AreProcessed, state_after, processed_line, processed_lines, one_if, accepted_count, refused_count, message_limit, messages_to_come, AreRecords, Follows, ReportsPart, IsVerdict, last_lines, ending, ReportsDecline, ReportsReplay, StopsInDecline}
-use Rattle.mls_report.specs.ReplaySteps.{ReadsUndecided, ReportsMessage, StopsAtMessage, FollowsLog, ReplaysLog}
+use Rattle.mls_report.specs.Replay.{ProcessedMessage, AreProcessed, state_after, processed_line, processed_lines, one_if, accepted_count, refused_count, message_limit, messages_to_come, AreRecords, IsLogEnd, Follows, ReportsPart, IsVerdict, last_lines, ending, ReportsDecline, ReportsReplay, StopsInDecline}
+use Rattle.mls_report.specs.ReplaySteps.{ReportsMessage, StopsAtMessage, FollowsLog, ReplaysLog}
 use Rattle.mls_report.specs.Finding.{finding_line, finding_verdict}
 
 -- ---- one turn more
@@ -113,24 +113,6 @@ accepted-more ts t old new b p q e = e ∙ ap (λ k. k + one_if b) p ∙ ap (λ 
 pub still : (ts : List ProcessedMessage) (most : ℕ) → most + length ts ≡ message_limit → most ≡ messages_to_come ts
 still ts most e = omega arith
 
-pub part-read : (G : VerifyFn) (s : State) (l0 l1 l2 w0 w1 : Option (List ℕ)) (ts : List ProcessedMessage) (now : State) (most : ℕ) (e : RunFault)
-    → SoFar G s l0 l1 w0 w1 ts now → most + length ts ≡ message_limit → ReadsUndecided l1 l2 most → e ≢ Write → ReportsPart G s l0 l2 w0 w1 e
-part-read G s l0 l1 l2 w0 w1 ts now most Read f count u other = record {
-  turns = ts;
-  rest = u.rest;
-  follows = follows-read G s l0 l1 l2 ts u.rest f.follows u.read;
-  undecided = subst (λ k. IsIncomplete k u.rest) (still ts most count) u.undecided;
-  wrote = f.wrote;
-}
-part-read G s l0 l1 l2 w0 w1 ts now most Write f count u other = absurd (other refl)
-part-read G s l0 l1 l2 w0 w1 ts now most Memory f count u other = record {
-  turns = ts;
-  rest = u.rest;
-  follows = follows-read G s l0 l1 l2 ts u.rest f.follows u.read;
-  left_over = inl (subst (λ k. IsIncomplete k u.rest) (still ts most count) u.undecided);
-  wrote = f.wrote;
-}
-
 pub part-turn : (G : VerifyFn) (s : State) (l0 l1 l2 w0 w1 w2 : Option (List ℕ)) (ts : List ProcessedMessage) (now : State) (n : ℕ) (body read : List ℕ) (e : RunFault)
     → SoFar G s l0 l1 w0 w1 ts now → n ≡ 1 + length ts → length ts < message_limit → IsRecord read body → Consumes l1 l2 read
     → StopsAtMessage G now n body w1 w2 e → ReportsPart G s l0 l2 w0 w2 e
@@ -155,14 +137,14 @@ part-turn G s l0 l1 l2 w0 w1 w2 ts now n body read Memory f count below r taken 
   wrote = subst (Appends w0 w2) (append-nil (processed_lines 1 ts)) (Appends-trans w0 w1 w2 _ _ f.wrote stops);
 }
 
-pub followed-broken : (G : VerifyFn) (s : State) (l0 l1 l2 w0 w1 : Option (List ℕ)) (ts : List ProcessedMessage) (now : State) (a r most : ℕ) (read : List ℕ)
+pub followed : (G : VerifyFn) (s : State) (l0 l1 l2 w0 w1 : Option (List ℕ)) (ts : List ProcessedMessage) (now : State) (a r most : ℕ) (read : List ℕ) (broken : Bool)
     → SoFar G s l0 l1 w0 w1 ts now → a ≡ accepted_count ts → a + r ≡ length ts → most + length ts ≡ message_limit → Consumes l1 l2 read
-    → IsBrokenAt most read l2 → FollowsLog G s l0 l2 w0 w1 now a r true
-followed-broken G s l0 l1 l2 w0 w1 ts now a r most read f taken counted count consumed broken = record {
+    → IsLogEnd most read l2 broken → FollowsLog G s l0 l2 w0 w1 now a r broken
+followed G s l0 l1 l2 w0 w1 ts now a r most read broken f taken counted count consumed end = record {
   turns = ts;
   rest = read;
   follows = follows-read G s l0 l1 l2 ts read f.follows consumed;
-  log_end = subst (λ k. IsBrokenAt k read l2) (still ts most count) broken;
+  log_end = subst (λ k. IsLogEnd k read l2 broken) (still ts most count) end;
   wrote = f.wrote;
   state = f.state;
   taken = taken;

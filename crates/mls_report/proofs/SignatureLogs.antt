@@ -1,10 +1,10 @@
 -- What the messages of a log want, message by message.
 use Rattle.std.proofs.Common.{◌≡◌, ◌≢◌, ◌∙◌, ℕ, ◌+◌, ◌<◌, List, [], ◌∷◌, ◌++◌, length, Bool, true, false, Option, Some, None, Result, Ok, Err, refl, sym, ap, subst, append_assoc, append-nil, arith, inl, inr}
 use Rattle.std.specs.Prelude.{◌&&◌, codes, is_some, IfErr, OnErr}
-use Rattle.std.specs.Io.KnownBytes.{Appends, Consumes, IsAtEnd}
+use Rattle.std.specs.Io.KnownBytes.{Appends, Consumes}
 use Rattle.mls_wire.specs.Devices.{AppendsPrefix}
 use Rattle.mls_wire.proofs.KnownBytes.{Appends-trans}
-use Rattle.mls_wire.specs.Logs.{IsRecord, IsBrokenAt, IsIncomplete}
+use Rattle.mls_wire.specs.Logs.{IsRecord, IsBrokenAt}
 use Rattle.std.specs.Fmt.{decimal}
 use Rattle.mls_check.specs.Signatures.{VerifyFn}
 use Rattle.mls_follow.specs.Runs.{IsAnswer}
@@ -13,12 +13,11 @@ use Rattle.mls_apply.specs.declared.refusal.Refusal.{Refusal}
 use Rattle.mls_follow.specs.declared.taken.Taken.{Taken}
 use Rattle.mls_signatures.specs.declared.signature_to_verify.SignatureToVerify.{SignatureToVerify}
 use Rattle.mls_report.specs.Replay.{ProcessedMessage, Follows, IsLogEnd, message_limit, state_after, messages_to_come}
-use Rattle.mls_report.specs.ReplaySteps.{ReadsUndecided}
 use Rattle.mls_follow.specs.CoveredLogs.{all_good}
-use Rattle.mls_report.specs.SignaturesReport.{HasSignatures, LoggedMessage, turns_of, HaveSignatures, signature_lines, needed_lines, log_lines, all_read, break_line, log_verdict, ProcessesLog, ReportsSignatureLog, SignatureLogPart}
+use Rattle.mls_report.specs.SignaturesReport.{HasSignatures, LoggedMessage, turns_of, HaveSignatures, signature_lines, needed_lines, log_lines, all_read, break_line, ProcessesLog, ReportsSignatureLog, SignatureLogPart}
 use Rattle.mls_report.specs.SignaturesSteps.{WritesSignatures, StopsInLines, StopsInMessage, StopsInMessageLines}
-use Rattle.mls_show.specs.declared.verdict.RunFault.{RunFault}
-use Rattle.mls_show.specs.declared.verdict.RunFault.TheVariants.{Read, Write, Memory}
+use Rattle.mls_wire.specs.declared.fault.RunFault.{RunFault}
+use Rattle.mls_wire.specs.declared.fault.RunFault.TheVariants.{Read, Write, Memory}
 use Rattle.mls_show.specs.declared.verdict.Verdict.{Verdict}
 use Rattle.mls_show.specs.declared.verdict.Verdict.TheVariants.{No}
 use Rattle.mls_report.proofs.Replaying.{state_after-snoc, follows-read, follows-snoc, Consumes-nil, Appends-nil}
@@ -170,73 +169,45 @@ line-of-message (Err Memory) R n a b part memory own = memory refl
 still : (ms : List LoggedMessage) (most : ℕ) → most + length ms ≡ message_limit → most ≡ messages_to_come (turns_of ms)
 still ms most e = omega (arith, turns-length ms)
 
-module _ (R : VerifyFn) (s : State) (l0 l1 l2 w0 w1 : Option (List ℕ)) (ms : List LoggedMessage) (now : State) (f : SignatureLogSoFar R s l0 l1 w0 w1 ms now) where
-  pub part-read : (most : ℕ) (e : RunFault) → most + length ms ≡ message_limit → ReadsUndecided l1 l2 most → e ≢ Write → SignatureLogPart R s l0 l2 w0 w1 e
-  part-read most Read count u other = record {
+module _ (R : VerifyFn) (s : State) (l0 l1 l2 w0 w1 : Option (List ℕ)) (ms : List LoggedMessage) (now : State) (f : SignatureLogSoFar R s l0 l1 w0 w1 ms now)
+    (most n : ℕ) (read : List ℕ) (count : most + length ms ≡ message_limit) (number : n ≡ 1 + length ms) (consumed : Consumes l1 l2 read)
+    (broken : IsBrokenAt most read l2) (w2 : Option (List ℕ)) where
+  line-is : decimal n ++ codes " broken\n" ≡ break_line true (length ms)
+  line-is =
+      let same : n ≡ length ms + 1 = omega arith in
+      ap (λ k. decimal k ++ codes " broken\n") same
+
+  log_end-is : IsLogEnd (messages_to_come (turns_of ms)) read l2 true
+  log_end-is = subst (λ k. IsBrokenAt k read l2) (still ms most count) broken
+
+  pub printed-break : (verdict : Verdict) → verdict ≡ No → Appends w1 w2 (decimal n ++ codes " broken\n") → ReportsSignatureLog R s l0 l2 w0 w2 verdict
+  printed-break verdict is wrote = record {
     logged = ms;
-    rest = u.rest;
-    processes = processes-read s l0 l1 l2 ms u.rest f.processes u.read;
-    undecided = subst (λ k. IsIncomplete k u.rest) (still ms most count) u.undecided;
-    wrote = f.wrote;
+    rest = read;
+    broken = true;
+    processes = processes-read s l0 l1 l2 ms read f.processes consumed;
+    log_end = log_end-is;
+    wrote = Appends-trans w0 w1 w2 _ _ f.wrote (subst (Appends w1 w2) line-is wrote);
+    verdict_is = is;
   }
-  part-read most Write count u other = absurd (other refl)
-  part-read most Memory count u other = inl (record {
+
+  pub in-break : AppendsPrefix w1 w2 (decimal n ++ codes " broken\n") → SignatureLogPart R s l0 l2 w0 w2 Write
+  in-break p = inr (record {
     logged = ms;
-    rest = u.rest;
-    processes = processes-read s l0 l1 l2 ms u.rest f.processes u.read;
-    left_over = inl (subst (λ k. IsIncomplete k u.rest) (still ms most count) u.undecided);
-    wrote = f.wrote;
+    rest = read;
+    processes = processes-read s l0 l1 l2 ms read f.processes consumed;
+    log_end = log_end-is;
+    part = p.0;
+    more = p.1;
+    line_is = sym line-is ∙ p.2;
+    wrote = Appends-trans w0 w1 w2 _ _ f.wrote p.3;
   })
 
-  pub printed-end : (b : Bool) (verdict : Verdict) → b ≡ all_read ms → Consumes l1 l2 [] → IsAtEnd l2 → verdict ≡ log_verdict false b → ReportsSignatureLog R s l0 l2 w0 w1 verdict
-  printed-end b verdict e read end v = record {
+  pub before-break : Appends w1 w2 [] → SignatureLogPart R s l0 l2 w0 w2 Memory
+  before-break none = inl (record {
     logged = ms;
-    rest = [];
-    broken = false;
-    processes = processes-read s l0 l1 l2 ms [] f.processes read;
-    log_end = (refl, end);
-    wrote = subst (Appends w0 w1) (sym (append-nil (log_lines R 1 ms))) f.wrote;
-    verdict_is = v ∙ ap (log_verdict false) e;
-  }
-
-  module _ (most n : ℕ) (read : List ℕ) (count : most + length ms ≡ message_limit) (number : n ≡ 1 + length ms) (consumed : Consumes l1 l2 read)
-      (broken : IsBrokenAt most read l2) (w2 : Option (List ℕ)) where
-    line-is : decimal n ++ codes " broken\n" ≡ break_line true (length ms)
-    line-is =
-        let same : n ≡ length ms + 1 = omega arith in
-        ap (λ k. decimal k ++ codes " broken\n") same
-
-    log_end-is : IsLogEnd (messages_to_come (turns_of ms)) read l2 true
-    log_end-is = subst (λ k. IsBrokenAt k read l2) (still ms most count) broken
-
-    pub printed-break : (verdict : Verdict) → verdict ≡ No → Appends w1 w2 (decimal n ++ codes " broken\n") → ReportsSignatureLog R s l0 l2 w0 w2 verdict
-    printed-break verdict is wrote = record {
-      logged = ms;
-      rest = read;
-      broken = true;
-      processes = processes-read s l0 l1 l2 ms read f.processes consumed;
-      log_end = log_end-is;
-      wrote = Appends-trans w0 w1 w2 _ _ f.wrote (subst (Appends w1 w2) line-is wrote);
-      verdict_is = is;
-    }
-
-    pub in-break : AppendsPrefix w1 w2 (decimal n ++ codes " broken\n") → SignatureLogPart R s l0 l2 w0 w2 Write
-    in-break p = inr (record {
-      logged = ms;
-      rest = read;
-      processes = processes-read s l0 l1 l2 ms read f.processes consumed;
-      log_end = log_end-is;
-      part = p.0;
-      more = p.1;
-      line_is = sym line-is ∙ p.2;
-      wrote = Appends-trans w0 w1 w2 _ _ f.wrote p.3;
-    })
-
-    pub before-break : Appends w1 w2 [] → SignatureLogPart R s l0 l2 w0 w2 Memory
-    before-break none = inl (record {
-      logged = ms;
-      rest = read;
-      processes = processes-read s l0 l1 l2 ms read f.processes consumed;
-      left_over = inr (inr (true, log_end-is));
-      wrote = subst (Appends w0 w2) (append-nil (log_lines R 1 ms)) (Appends-trans w0 w1 w2 _ _ f.wrote none);
-    })
+    rest = read;
+    processes = processes-read s l0 l1 l2 ms read f.processes consumed;
+    left_over = inr (inr (true, log_end-is));
+    wrote = subst (Appends w0 w2) (append-nil (log_lines R 1 ms)) (Appends-trans w0 w1 w2 _ _ f.wrote none);
+  })

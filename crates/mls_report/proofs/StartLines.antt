@@ -8,8 +8,8 @@ use Rattle.mls_check.specs.Signatures.{VerifyFn}
 use Rattle.mls_signatures.specs.declared.signature_to_verify.SignatureToVerify.{SignatureToVerify}
 use Rattle.mls_report.specs.SignaturesReport.{line_unless, needed_lines}
 use Rattle.mls_report.specs.SignaturesSteps.{StopsInLines}
-use Rattle.mls_show.specs.declared.verdict.RunFault.{RunFault}
-use Rattle.mls_show.specs.declared.verdict.RunFault.TheVariants.{Read, Write, Memory}
+use Rattle.mls_wire.specs.declared.fault.RunFault.{RunFault}
+use Rattle.mls_wire.specs.declared.fault.RunFault.TheVariants.{Read, Write, Memory}
 
 -- ---- a prefix of what is written
 

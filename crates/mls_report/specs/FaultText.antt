@@ -32,15 +32,6 @@ member_fault_text (members.SignatureKeyRepeated leaf) =
 member_fault_text (members.LeafSignature leaf) = codes "5 LeafSignature " ++ decimal leaf
 member_fault_text members.OutOfMemory = codes "OutOfMemory"
 
--- `member_number f` is the number of a fault of a leaf node; 0 for OutOfMemory.
-abbrev pub member_number : MemberFault → ℕ
-member_number (members.ExtensionUnlisted leaf) = 1
-member_number (members.RequirementUnmet leaf) = 2
-member_number (members.CredentialUnsupported leaf) = 3
-member_number (members.SignatureKeyRepeated leaf) = 4
-member_number (members.LeafSignature leaf) = 5
-member_number members.OutOfMemory = 0
-
 -- `start_fault_text f` is why no follower starts, by number and name, with the fault of the tree or of a leaf node
 -- (RFC 9420, 12.4.3.1).
 abbrev pub start_fault_text : StartFault → List ℕ

@@ -6,6 +6,7 @@ use Rattle.std.specs.Fmt.{decimal}
 use Rattle.std.specs.Io.KnownBytes.{Appends, Consumes, IsAtEnd}
 use Rattle.mls_wire.specs.Devices.{AppendsPrefix}
 use Rattle.mls_wire.specs.Logs.{IsRecord, IsBrokenAt, IsIncomplete}
+use Rattle.mls_check.specs.LeafValidation.{member_number}
 use Rattle.mls_check.specs.Signatures.{VerifyFn}
 use Rattle.mls_apply.specs.Refusals.{number_of}
 use Rattle.mls_follow.specs.Runs.{IsAnswer}
@@ -17,11 +18,10 @@ use Rattle.mls_follow.specs.declared.taken.Taken.TheVariants.{Proposal, Commit}
 use Rattle.mls_start.specs.Inputs.{Inputs}
 use Rattle.mls_start.specs.StartFindings.{IsFirstState, Declines}
 use Rattle.mls_start.specs.declared.finding.Finding.{Finding}
-use Rattle.mls_report.specs.FaultText.{member_number}
 use Rattle.mls_report.specs.Finding.{finding_line}
 use Rattle.mls_show.specs.ValueTexts.{hex_text}
-use Rattle.mls_show.specs.declared.verdict.RunFault.{RunFault}
-use Rattle.mls_show.specs.declared.verdict.RunFault.TheVariants.{Read, Write, Memory}
+use Rattle.mls_wire.specs.declared.fault.RunFault.{RunFault}
+use Rattle.mls_wire.specs.declared.fault.RunFault.TheVariants.{Read, Write, Memory}
 use Rattle.mls_show.specs.declared.verdict.Verdict.{Verdict}
 use Rattle.mls_show.specs.declared.verdict.Verdict.TheVariants.{Yes, No}
 

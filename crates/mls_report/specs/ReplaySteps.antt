@@ -1,18 +1,29 @@
 -- The contracts of the steps of `replay`, and of reading a record. Used by contracts.
-use Rattle.std.specs.Prelude.{List, [], ℕ, ◌+◌, ◌++◌, codes, length, Bool, Option, Result, is_ok, ◌≡◌}
+use Rattle.std.specs.Prelude.{List, [], ℕ, ◌+◌, ◌++◌, codes, length, Bool, false, Option, Result, is_ok, ◌≡◌}
 use Rattle.std.specs.Fmt.{decimal}
 use Rattle.std.specs.Io.KnownBytes.{Appends, Consumes}
 use Rattle.mls_wire.specs.Devices.{AppendsPrefix}
-use Rattle.mls_wire.specs.Logs.{IsIncomplete}
+use Rattle.mls_wire.specs.Logs.{IsRecord, IsIncomplete, LogState, ended}
 use Rattle.mls_check.specs.Signatures.{VerifyFn}
 use Rattle.mls_follow.specs.Runs.{IsAnswer}
 use Rattle.mls_follow.specs.State.{State}
 use Rattle.mls_apply.specs.declared.refusal.Refusal.{Refusal}
 use Rattle.mls_follow.specs.declared.taken.Taken.{Taken}
+use Rattle.mls_report.specs.declared.log_records.RecordStep.{RecordStep}
+use Rattle.mls_report.specs.declared.log_records.RecordStep.TheVariants as steps
 use Rattle.mls_report.specs.Replay.{ProcessedMessage, Follows, IsLogEnd, ReportsLog, accepted_count, answer_text, state_after, messages_to_come, processed_lines}
-use Rattle.mls_show.specs.declared.verdict.RunFault.{RunFault}
-use Rattle.mls_show.specs.declared.verdict.RunFault.TheVariants.{Read, Write, Memory}
+use Rattle.mls_wire.specs.declared.fault.RunFault.{RunFault}
+use Rattle.mls_wire.specs.declared.fault.RunFault.TheVariants.{Read, Write, Memory}
 use Rattle.mls_show.specs.declared.verdict.Verdict.{Verdict}
+
+-- `ReadsStep log0 log1 old new step`: a reader, `old` before and `new` after, has read a record of a log, after which one
+-- fewer may come, or what shows that the log has ended or is broken.
+abbrev pub ReadsStep : Option (List ℕ) → Option (List ℕ) → LogState → LogState → RecordStep → Type 0
+ReadsStep log0 log1 old new steps.Record =
+    (old.most ≡ new.most + 1) × (new.is_over ≡ false)
+    × (read : List ℕ) × Consumes log0 log1 read × IsRecord read new.body
+ReadsStep log0 log1 old new (steps.End broken) =
+    (new ≡ ended old) × (read : List ℕ) × Consumes log0 log1 read × IsLogEnd old.most read log1 broken
 
 -- `ReadsUndecided log0 log1 most`: the bytes read of a log, of which `most` messages may still come, don't decide yet what
 -- comes next.

@@ -5,7 +5,7 @@ use Rattle.std.specs.Prelude.{List, [], ◌∷◌, ℕ, ◌+◌, ◌++◌, ◌&&
 use Rattle.std.specs.Fmt.{decimal}
 use Rattle.std.specs.Io.KnownBytes.{Appends}
 use Rattle.sha2.specs.Sha256.{sha256}
-use Rattle.mls_wire.specs.Devices.{AppendsPrefix}
+use Rattle.mls_wire.specs.Devices.{Device, AppendsPrefix}
 use Rattle.mls_wire.specs.Logs.{IsIncomplete}
 use Rattle.mls_check.specs.Receipts.{receipt_input}
 use Rattle.mls_check.specs.Signatures.{VerifyFn}
@@ -18,8 +18,8 @@ use Rattle.mls_start.specs.Inputs.{Inputs}
 use Rattle.mls_start.specs.StartSignatures.{StartsWith}
 use Rattle.mls_report.specs.Replay.{ProcessedMessage, Follows, IsLogEnd, IsLeftOver, messages_to_come, ReportsDecline, ReportsNothing, StopsInDecline}
 use Rattle.mls_show.specs.ValueTexts.{hex_text}
-use Rattle.mls_show.specs.declared.verdict.RunFault.{RunFault}
-use Rattle.mls_show.specs.declared.verdict.RunFault.TheVariants.{Read, Write, Memory}
+use Rattle.mls_wire.specs.declared.fault.RunFault.{RunFault}
+use Rattle.mls_wire.specs.declared.fault.RunFault.TheVariants.{Read, Write, Memory}
 use Rattle.mls_show.specs.declared.verdict.Verdict.{Verdict}
 use Rattle.mls_show.specs.declared.verdict.Verdict.TheVariants.{Yes, No}
 
@@ -186,6 +186,10 @@ SignatureLogPart R s log0 log1 written0 written1 Write =
 SignatureLogPart R s log0 log1 written0 written1 Memory =
     SignatureLogWithoutMemory R s log0 log1 written0 written1
     ⊎ SignatureLogInSignatures R s log0 log1 written0 written1
+
+-- `device_bytes device log` is the bytes that a log that is passed has left, `device` being the device of a log.
+abbrev pub device_bytes : {L : Type 0} → (L → Device) → Option L → Option (Option (List ℕ))
+device_bytes device log = option_map (λ l. (device l).bytes) log
 
 -- `has_failed failed`: a log that is passed has failed.
 abbrev pub has_failed : Option Bool → Bool

@@ -48,20 +48,6 @@ pub fn member_fault_text(alloc: Global, fault: MemberFault) -> Result<String, Al
     }
 }
 
-/// Returns the number of a fault of the members, from 1 to 5; 0 for `OutOfMemory`.
-pub fn member_number(fault: MemberFault) -> u8
-    ensures { result ≡ texts.member_number fault }
-{
-    match fault {
-        MemberFault::ExtensionUnlisted(_) => 1,
-        MemberFault::RequirementUnmet(_) => 2,
-        MemberFault::CredentialUnsupported(_) => 3,
-        MemberFault::SignatureKeyRepeated(_) => 4,
-        MemberFault::LeafSignature(_) => 5,
-        MemberFault::OutOfMemory => 0,
-    }
-}
-
 /// Returns why no follower can start, if the tree is the cause.
 fn start_tree_text(alloc: Global, fault: TreeFault) -> Result<String, AllocError>
     ensures { IfOk result

@@ -1,14 +1,14 @@
 //! The line and the verdict of what is found of a group's inputs.
 
-ghost use Rattle.std.specs.Prelude.{◌≡◌, ◌≢◌, ◌↔◌, ◌++◌, [], codes, false, true, Err, IfOk, IfErr, OnErr, string_bytes};
+ghost use Rattle.std.specs.Prelude.{◌≡◌, ◌≢◌, ◌++◌, [], codes, Err, IfOk, IfErr, OnErr, string_bytes};
 ghost use Rattle.std.specs.Io.KnownBytes.{Appends};
-ghost use Rattle.mls_wire.specs.Devices.{AppendsPrefix};
+ghost use Rattle.mls_wire.specs.Devices.{AppendsPrefix, IsWorking, WriteFails};
 ghost use Rattle.mls_report.specs.Finding as findings;
 
 use crate::fault_text::{member_fault_text, resume_fault_text, start_fault_text, tree_fault_text};
-use mls_show::{RunFault, Verdict, hex_of, node_fault_text, wire_fault_text, write_text};
+use mls_show::{Verdict, hex_of, node_fault_text, wire_fault_text, write_text};
 use mls_start::{Finding, Started};
-use mls_wire::Sink;
+use mls_wire::{RunFault, Sink};
 use std::alloc::{AllocError, Global};
 
 /// Returns the words of a finding with its detail.
@@ -98,16 +98,16 @@ pub fn report_finding<K: Sink>(
     finding: &Finding,
     out: &mut K,
 ) -> Result<Verdict, RunFault>
-    requires { K.is_failed out.old ≡ false }
+    requires { IsWorking (K.device out.old) }
     ensures printed { IfOk result
-        (λ verdict. Appends (K.written out.old) (K.written out.new)
+        (λ verdict. Appends (K.device out.old).bytes (K.device out.new).bytes
         (findings.finding_line finding.now) × (verdict ≡ findings.finding_verdict finding.now)) }
     ensures effect_on_error { OnErr result
-        (AppendsPrefix (K.written out.old) (K.written out.new)
+        (AppendsPrefix (K.device out.old).bytes (K.device out.new).bytes
         (findings.finding_line finding.now)) }
     ensures memory { result ≡ Err RunFault.Memory
-        → Appends (K.written out.old) (K.written out.new) [] }
-    ensures write { (result ≡ Err RunFault.Write) ↔ (K.is_failed out.new ≡ true) }
+        → Appends (K.device out.old).bytes (K.device out.new).bytes [] }
+    ensures write { WriteFails result (K.device out.new) }
     ensures fault { IfErr result (λ e. e ≢ RunFault.Read) }
 {
     let line = finding_line(alloc, finding)?;

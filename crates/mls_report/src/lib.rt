@@ -21,7 +21,7 @@ mod start_report;
 mod tree_report;
 
 pub use finding::{finding_line, finding_text, finding_verdict, report_finding};
-pub use log_records::next_record;
+pub use log_records::{RecordStep, next_record};
 pub use receipts_report::report_unreadable_receipts;
 pub use replay_report::{Replayed, replay};
 pub use signatures_report::signatures;

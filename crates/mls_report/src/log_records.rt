@@ -1,11 +1,19 @@
 //! The records of a log, or of the input of the gate.
 
-ghost use Rattle.std.specs.Prelude.{◌≡◌, ◌≢◌, ◌↔◌, false, true, Ok, Err, IfOk, IfErr, OnErr};
-ghost use Rattle.mls_wire.specs.Logs.{ReadsRecord, ReaderAfter};
-ghost use Rattle.mls_report.specs.ReplaySteps.{ReadsUndecided};
+ghost use Rattle.std.specs.Prelude.{◌≡◌, ◌≢◌, false, IfOk, IfErr, OnErr};
+ghost use Rattle.mls_wire.specs.Devices.{IsWorking, ReadFails};
+ghost use Rattle.mls_report.specs.ReplaySteps.{ReadsStep, ReadsUndecided};
 
-use mls_show::RunFault;
-use mls_wire::{LogStep, RecordFault, Records, Source};
+use mls_wire::{LogStep, Records, RunFault, Source};
+
+/// What [`next_record`] has read.
+#[derive(Clone, Copy)]
+pub enum RecordStep {
+    /// A record. The reader holds its body.
+    Record,
+    /// No record: the log has ended or is broken.
+    End { is_broken: bool },
+}
 
 /// Reads the next record of a log, or of the input of the gate.
 ///
@@ -13,20 +21,21 @@ use mls_wire::{LogStep, RecordFault, Records, Source};
 ///
 /// - `Read` if the source fails.
 /// - `Memory`.
-pub fn next_record<L: Source>(reader: &mut Records, log: &mut L) -> Result<LogStep, RunFault>
+pub fn next_record<L: Source>(reader: &mut Records, log: &mut L) -> Result<RecordStep, RunFault>
     requires going { reader.old.is_over ≡ false }
-    requires log { L.is_failed log.old ≡ false }
-    ensures record_read { IfOk result (λ step.
-        ReadsRecord (L.left log.old) (L.left log.new) reader.old.most reader.new.body (Ok step)) }
-    ensures goes_on { IfOk result (λ step. ReaderAfter reader.old reader.new (Ok step)) }
+    requires log { IsWorking (L.device log.old) }
+    ensures step { IfOk result
+        (ReadsStep (L.device log.old).bytes (L.device log.new).bytes reader.old reader.new) }
     ensures undecided { OnErr result
-        (ReadsUndecided (L.left log.old) (L.left log.new) reader.old.most) }
+        (ReadsUndecided (L.device log.old).bytes (L.device log.new).bytes reader.old.most) }
     ensures fault { IfErr result (λ e. e ≢ RunFault.Write) }
-    ensures read { (result ≡ Err RunFault.Read) ↔ (L.is_failed log.new ≡ true) }
+    ensures read { ReadFails result (L.device log.new) }
 {
     match reader.next(log) {
-        Ok(step) => Ok(step),
-        Err(RecordFault::Read) => Err(RunFault::Read),
-        Err(RecordFault::OutOfMemory) => Err(RunFault::Memory),
+        Ok(LogStep::Record) => Ok(RecordStep::Record),
+        Ok(LogStep::End | LogStep::Over) => Ok(RecordStep::End { is_broken: false }),
+        Ok(LogStep::Broken) => Ok(RecordStep::End { is_broken: true }),
+        Err(RunFault::Read) => Err(RunFault::Read),
+        Err(_) => Err(RunFault::Memory),
     }
 }

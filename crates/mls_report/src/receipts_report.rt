@@ -1,14 +1,14 @@
 //! The report of a file of receipts that is not readable.
 
-ghost use Rattle.std.specs.Prelude.{◌≡◌, ◌≢◌, ◌↔◌, false, true, [], Err, IfOk, OnErr, IfErr, string_bytes};
+ghost use Rattle.std.specs.Prelude.{◌≡◌, ◌≢◌, [], Err, IfOk, OnErr, IfErr, string_bytes};
 ghost use Rattle.std.specs.Io.KnownBytes.{Appends};
-ghost use Rattle.mls_wire.specs.Devices.{AppendsPrefix};
+ghost use Rattle.mls_wire.specs.Devices.{AppendsPrefix, IsWorking, WriteFails};
 ghost use Rattle.mls_report.specs.UnreadableReceipts as reports;
 ghost use Rattle.mls_report.specs.UnreadableReceipts.{ReportsReceipts};
 
 use mls_check::ReceiptsFault;
-use mls_show::{RunFault, Verdict, write_text};
-use mls_wire::Sink;
+use mls_show::{Verdict, write_text};
+use mls_wire::{RunFault, Sink};
 use std::alloc::Global;
 
 /// Returns the line of a file of receipts that is not readable.
@@ -37,13 +37,13 @@ pub fn report_unreadable_receipts<K: Sink>(
     fault: ReceiptsFault,
     out: &mut K,
 ) -> Result<Verdict, RunFault>
-    requires { K.is_failed out.old ≡ false }
-    ensures printed { IfOk result (ReportsReceipts fault (K.written out.old) (K.written out.new)) }
+    requires { IsWorking (K.device out.old) }
+    ensures printed { IfOk result (ReportsReceipts fault (K.device out.old).bytes (K.device out.new).bytes) }
     ensures effect_on_error { OnErr result
-        (AppendsPrefix (K.written out.old) (K.written out.new) (reports.receipts_line fault)) }
+        (AppendsPrefix (K.device out.old).bytes (K.device out.new).bytes (reports.receipts_line fault)) }
     ensures memory { result ≡ Err RunFault.Memory
-        → Appends (K.written out.old) (K.written out.new) [] }
-    ensures write { (result ≡ Err RunFault.Write) ↔ (K.is_failed out.new ≡ true) }
+        → Appends (K.device out.old).bytes (K.device out.new).bytes [] }
+    ensures write { WriteFails result (K.device out.new) }
     ensures fault { IfErr result (λ e. e ≢ RunFault.Read) }
 {
     let line = receipts_line(alloc, fault)?;

@@ -1,19 +1,20 @@
 //! The report `replay`: what a follower answers to each message of a log.
 
-ghost use Rattle.std.specs.Prelude.{◌≡◌, ◌↔◌, ◌+◌, ◌≤◌, false, true, Err, IfOk, IfErr, IfSome, option_map};
+ghost use Rattle.std.specs.Prelude.{◌≡◌, ◌+◌, ◌≤◌, IfOk, IfErr, IfSome, option_map};
+ghost use Rattle.mls_wire.specs.Devices.{IsWorking, ReadFails, WriteFails};
 ghost use Rattle.mls_follow.specs.FollowerModel.{checker_of, state_of};
 ghost use Rattle.mls_start.specs.Inputs.{inputs_of};
 ghost use Rattle.mls_report.specs.Replay.{message_limit, one_if, IsVerdict, ReportsPart, Replays, ReplaysPart};
 ghost use Rattle.mls_report.specs.ReplaySteps.{ReportsMessage, StopsAtMessage, FollowsLog, ReplaysLog};
 
 use crate::finding::report_finding;
-use crate::log_records::next_record;
+use crate::log_records::{RecordStep, next_record};
 use crate::replay_text::{last_lines, processed_line};
 use mls_check::SignatureCheck;
 use mls_follow::{Follower, Refusal};
-use mls_show::{RunFault, Verdict, write_text};
+use mls_show::{Verdict, write_text};
 use mls_start::{StartBytes, StartFailure};
-use mls_wire::{LogStep, Records, Sink, Source};
+use mls_wire::{Records, RunFault, Sink, Source};
 use std::alloc::Global;
 
 /// The most messages that a log may have.
@@ -51,14 +52,14 @@ fn write_message_line<K: Sink, C: SignatureCheck>(
     follower: &mut Follower<C>,
     out: &mut K,
 ) -> Result<bool, RunFault>
-    requires { K.is_failed out.old ≡ false }
+    requires { IsWorking (K.device out.old) }
     ensures printed { IfOk result
         (ReportsMessage (C.meaning (checker_of follower.old)) (state_of follower.old) n body.now
-        (state_of follower.new) (K.written out.old) (K.written out.new)) }
+        (state_of follower.new) (K.device out.old).bytes (K.device out.new).bytes) }
     ensures effect_on_error { IfErr result
         (StopsAtMessage (C.meaning (checker_of follower.old)) (state_of follower.old) n body.now
-        (K.written out.old) (K.written out.new)) }
-    ensures write { (result ≡ Err RunFault.Write) ↔ (K.is_failed out.new ≡ true) }
+        (K.device out.old).bytes (K.device out.new).bytes) }
+    ensures write { WriteFails result (K.device out.new) }
     ensures checker { C.meaning (checker_of follower.new)
         ≡ C.meaning (checker_of follower.old) }
 {
@@ -80,34 +81,33 @@ fn follow_log<L: Source, K: Sink, C: SignatureCheck>(
     tally: &mut Tally,
     out: &mut K,
 ) -> Result<bool, RunFault>
-    requires log { L.is_failed log.old ≡ false }
-    requires out { K.is_failed out.old ≡ false }
+    requires log { IsWorking (L.device log.old) }
+    requires out { IsWorking (K.device out.old) }
     requires none { (tally.old.accepted ≡ 0) × (tally.old.refused ≡ 0) }
     ensures followed { IfOk result
         (FollowsLog (C.meaning (checker_of follower.old)) (state_of follower.old)
-        (L.left log.old) (L.left log.new) (K.written out.old) (K.written out.new)
+        (L.device log.old).bytes (L.device log.new).bytes (K.device out.old).bytes (K.device out.new).bytes
         (state_of follower.new) tally.new.accepted tally.new.refused) }
     ensures effect_on_error { IfErr result
         (ReportsPart (C.meaning (checker_of follower.old)) (state_of follower.old)
-        (L.left log.old) (L.left log.new) (K.written out.old) (K.written out.new)) }
+        (L.device log.old).bytes (L.device log.new).bytes (K.device out.old).bytes (K.device out.new).bytes) }
     ensures checker { C.meaning (checker_of follower.new)
         ≡ C.meaning (checker_of follower.old) }
-    ensures read { (result ≡ Err RunFault.Read) ↔ (L.is_failed log.new ≡ true) }
-    ensures write { (result ≡ Err RunFault.Write) ↔ (K.is_failed out.new ≡ true) }
+    ensures read { ReadFails result (L.device log.new) }
+    ensures write { WriteFails result (K.device out.new) }
 {
     let mut reader = Records::new(alloc, MESSAGE_LIMIT);
-    'messages: for n in 1..MESSAGE_LIMIT + 2 {
+    let mut n = 1;
+    'messages: loop {
         match next_record(&mut reader, log)? {
-            LogStep::Record => {
+            RecordStep::Record => {
                 let is_accepted = write_message_line(alloc, n, reader.body(), follower, out)?;
                 tally.count(is_accepted);
+                n += 1;
             }
-            LogStep::End => return Ok(false),
-            LogStep::Broken => return Ok(true),
-            LogStep::Over => unreachable!(),
+            RecordStep::End { is_broken } => return Ok(is_broken),
         }
     }
-    unreachable!()
 }
 
 /// Returns the verdict of a replay.
@@ -131,19 +131,19 @@ fn write_log_report<L: Source, K: Sink, C: SignatureCheck>(
     log: &mut L,
     out: &mut K,
 ) -> Result<Verdict, RunFault>
-    requires log { L.is_failed log.old ≡ false }
-    requires out { K.is_failed out.old ≡ false }
+    requires log { IsWorking (L.device log.old) }
+    requires out { IsWorking (K.device out.old) }
     ensures printed { IfOk result (λ verdict.
         ReplaysLog (C.meaning (checker_of follower.old)) (state_of follower.old)
-        (L.left log.old) (L.left log.new) (K.written out.old) (K.written out.new)
+        (L.device log.old).bytes (L.device log.new).bytes (K.device out.old).bytes (K.device out.new).bytes
         verdict (state_of follower.new)) }
     ensures effect_on_error { IfErr result
         (ReportsPart (C.meaning (checker_of follower.old)) (state_of follower.old)
-        (L.left log.old) (L.left log.new) (K.written out.old) (K.written out.new)) }
+        (L.device log.old).bytes (L.device log.new).bytes (K.device out.old).bytes (K.device out.new).bytes) }
     ensures checker { C.meaning (checker_of follower.new)
         ≡ C.meaning (checker_of follower.old) }
-    ensures read { (result ≡ Err RunFault.Read) ↔ (L.is_failed log.new ≡ true) }
-    ensures write { (result ≡ Err RunFault.Write) ↔ (K.is_failed out.new ≡ true) }
+    ensures read { ReadFails result (L.device log.new) }
+    ensures write { WriteFails result (K.device out.new) }
 {
     let mut tally = Tally {
         accepted: 0,
@@ -193,17 +193,17 @@ pub fn replay<L: Source, C: SignatureCheck, K: Sink>(
     checker: C,
     out: &mut K,
 ) -> Result<Replayed<C>, RunFault>
-    requires log { L.is_failed log.old ≡ false }
-    requires out { K.is_failed out.old ≡ false }
+    requires log { IsWorking (L.device log.old) }
+    requires out { IsWorking (K.device out.old) }
     ensures replayed { IfOk result (λ r. Replays (C.meaning checker) (inputs_of start)
-        (L.left log.old) (L.left log.new) (K.written out.old) (K.written out.new)
+        (L.device log.old).bytes (L.device log.new).bytes (K.device out.old).bytes (K.device out.new).bytes
         r.verdict (option_map (λ f. state_of f) r.follower)) }
     ensures checker { IfOk result (λ r. IfSome r.follower
         (λ f. C.meaning (checker_of f) ≡ C.meaning checker)) }
     ensures effect_on_error { IfErr result (ReplaysPart (C.meaning checker) (inputs_of start)
-        (L.left log.old) (L.left log.new) (K.written out.old) (K.written out.new)) }
-    ensures read { (result ≡ Err RunFault.Read) ↔ (L.is_failed log.new ≡ true) }
-    ensures write { (result ≡ Err RunFault.Write) ↔ (K.is_failed out.new ≡ true) }
+        (L.device log.old).bytes (L.device log.new).bytes (K.device out.old).bytes (K.device out.new).bytes) }
+    ensures read { ReadFails result (L.device log.new) }
+    ensures write { WriteFails result (K.device out.new) }
 {
     match start.follower(alloc, checker) {
         Ok(follower) => {

@@ -6,7 +6,6 @@ ghost use Rattle.mls_follow.specs.FollowerModel.{state_of};
 ghost use Rattle.mls_report.specs.Replay as lines;
 ghost use Rattle.mls_show.specs.ValueTexts.{hex_text};
 
-use crate::fault_text::member_number;
 use mls_check::SignatureCheck;
 use mls_follow::{Follower, Refusal, Taken};
 use mls_nodes::GroupContext;
@@ -20,7 +19,7 @@ fn refusal_text(alloc: Global, refusal: &Refusal) -> Result<String, AllocError>
 {
     match refusal {
         Refusal::Member(fault) => {
-            let number = member_number(*fault);
+            let number = fault.number();
             format!(in alloc; "25 {number}")
         }
         _ => {

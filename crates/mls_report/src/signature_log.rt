@@ -1,23 +1,23 @@
 //! The signatures that the messages of a log need.
 
-ghost use Rattle.std.specs.Prelude.{◌≡◌, ◌≢◌, ◌↔◌, ◌++◌, [], codes, false, true, Err, IfOk, IfErr, OnErr, OnOk};
+ghost use Rattle.std.specs.Prelude.{◌≡◌, ◌≢◌, ◌++◌, [], codes, false, Err, IfOk, IfErr, OnErr, OnOk};
 ghost use Rattle.std.specs.Fmt.{decimal};
 ghost use Rattle.std.specs.Io.KnownBytes.{Appends};
-ghost use Rattle.mls_wire.specs.Devices.{AppendsPrefix};
+ghost use Rattle.mls_wire.specs.Devices.{AppendsPrefix, IsWorking, ReadFails, WriteFails};
 ghost use Rattle.mls_follow.specs.FollowerModel.{state_of};
 ghost use Rattle.mls_report.specs.SignaturesReport.{log_verdict, HasSignatures, ReportsSignatureLog, SignatureLogPart};
 ghost use Rattle.mls_report.specs.SignaturesSteps.{WritesSignatures, StopsInMessage};
 
-use crate::log_records::next_record;
+use crate::log_records::{RecordStep, next_record};
 use crate::replay_report::MESSAGE_LIMIT;
 use crate::replay_text::{broken_line, processed_line};
 use crate::signature_lines::write_signature_lines;
 use mls_check::{SignatureCheck, Trusting};
 use mls_follow::{Follower, Refusal, SignatureListFault};
-use mls_show::{RunFault, Verdict, write_text};
+use mls_show::{Verdict, write_text};
 use mls_signatures::SignatureList;
 use mls_start::SignaturesLeft;
-use mls_wire::{LogStep, Records, Sink, Source};
+use mls_wire::{Records, RunFault, Sink, Source};
 use std::alloc::Global;
 
 /// Returns the signatures of a message, before it is processed. `None` if the bytes are no message.
@@ -43,14 +43,14 @@ fn write_malformed_line<K: Sink>(
     follower: &Follower<Trusting>,
     out: &mut K,
 ) -> Result<(), RunFault>
-    requires { K.is_failed out.old ≡ false }
+    requires { IsWorking (K.device out.old) }
     ensures all { OnOk result
-        (Appends (K.written out.old) (K.written out.new) (decimal n ++ codes " refused 1\n")) }
+        (Appends (K.device out.old).bytes (K.device out.new).bytes (decimal n ++ codes " refused 1\n")) }
     ensures effect_on_error { OnErr result
-        (AppendsPrefix (K.written out.old) (K.written out.new) (decimal n ++ codes " refused 1\n")) }
+        (AppendsPrefix (K.device out.old).bytes (K.device out.new).bytes (decimal n ++ codes " refused 1\n")) }
     ensures memory { result ≡ Err RunFault.Memory
-        → Appends (K.written out.old) (K.written out.new) [] }
-    ensures write { (result ≡ Err RunFault.Write) ↔ (K.is_failed out.new ≡ true) }
+        → Appends (K.device out.old).bytes (K.device out.new).bytes [] }
+    ensures write { WriteFails result (K.device out.new) }
     ensures fault { IfErr result (λ e. e ≢ RunFault.Read) }
 {
     let line = processed_line(alloc, n, &Err(Refusal::Malformed), follower)?;
@@ -67,12 +67,12 @@ fn write_signatures<R: SignatureCheck, K: Sink>(
     receipts: &R,
     out: &mut K,
 ) -> Result<bool, RunFault>
-    requires out { K.is_failed out.old ≡ false }
+    requires out { IsWorking (K.device out.old) }
     ensures printed { IfOk result (WritesSignatures (R.meaning receipts.now) (state_of follower.old) n
-        body.now (state_of follower.new) (K.written out.old) (K.written out.new)) }
+        body.now (state_of follower.new) (K.device out.old).bytes (K.device out.new).bytes) }
     ensures effect_on_error { IfErr result (StopsInMessage (R.meaning receipts.now) (state_of follower.old) n
-        body.now (K.written out.old) (K.written out.new)) }
-    ensures write { (result ≡ Err RunFault.Write) ↔ (K.is_failed out.new ≡ true) }
+        body.now (K.device out.old).bytes (K.device out.new).bytes) }
+    ensures write { WriteFails result (K.device out.new) }
 {
     let needed = message_signatures(follower, body)?;
     let answer = follower.take(body);
@@ -93,14 +93,14 @@ fn write_signatures<R: SignatureCheck, K: Sink>(
 
 /// Writes the line of a broken log. The next message is n.
 fn report_break<K: Sink>(alloc: Global, n: u32, out: &mut K) -> Result<Verdict, RunFault>
-    requires { K.is_failed out.old ≡ false }
+    requires { IsWorking (K.device out.old) }
     ensures printed { IfOk result (λ verdict. (verdict ≡ Verdict.No)
-        × Appends (K.written out.old) (K.written out.new) (decimal n ++ codes " broken\n")) }
+        × Appends (K.device out.old).bytes (K.device out.new).bytes (decimal n ++ codes " broken\n")) }
     ensures effect_on_error { OnErr result
-        (AppendsPrefix (K.written out.old) (K.written out.new) (decimal n ++ codes " broken\n")) }
+        (AppendsPrefix (K.device out.old).bytes (K.device out.new).bytes (decimal n ++ codes " broken\n")) }
     ensures memory { result ≡ Err RunFault.Memory
-        → Appends (K.written out.old) (K.written out.new) [] }
-    ensures write { (result ≡ Err RunFault.Write) ↔ (K.is_failed out.new ≡ true) }
+        → Appends (K.device out.old).bytes (K.device out.new).bytes [] }
+    ensures write { WriteFails result (K.device out.new) }
     ensures fault { IfErr result (λ e. e ≢ RunFault.Read) }
 {
     let line = broken_line(alloc, n)?;
@@ -123,27 +123,27 @@ pub(crate) fn write_signature_log<L: Source, R: SignatureCheck, K: Sink>(
     receipts: &R,
     out: &mut K,
 ) -> Result<Verdict, RunFault>
-    requires log { L.is_failed log.old ≡ false }
-    requires out { K.is_failed out.old ≡ false }
+    requires log { IsWorking (L.device log.old) }
+    requires out { IsWorking (K.device out.old) }
     ensures printed { IfOk result (ReportsSignatureLog (R.meaning receipts.now) (state_of follower.old)
-        (L.left log.old) (L.left log.new) (K.written out.old) (K.written out.new)) }
+        (L.device log.old).bytes (L.device log.new).bytes (K.device out.old).bytes (K.device out.new).bytes) }
     ensures effect_on_error { IfErr result (SignatureLogPart (R.meaning receipts.now) (state_of follower.old)
-        (L.left log.old) (L.left log.new) (K.written out.old) (K.written out.new)) }
-    ensures read { (result ≡ Err RunFault.Read) ↔ (L.is_failed log.new ≡ true) }
-    ensures write { (result ≡ Err RunFault.Write) ↔ (K.is_failed out.new ≡ true) }
+        (L.device log.old).bytes (L.device log.new).bytes (K.device out.old).bytes (K.device out.new).bytes) }
+    ensures read { ReadFails result (L.device log.new) }
+    ensures write { WriteFails result (K.device out.new) }
 {
     let mut reader = Records::new(alloc, MESSAGE_LIMIT);
     let mut is_read = true;
-    'messages: for n in 1..MESSAGE_LIMIT + 2 {
+    let mut n = 1;
+    'messages: loop {
         match next_record(&mut reader, log)? {
-            LogStep::Record => {
+            RecordStep::Record => {
                 let readable = write_signatures(alloc, n, reader.body(), follower, receipts, out)?;
                 is_read &= readable;
+                n += 1;
             }
-            LogStep::End => return Ok(verdict_of(is_read)),
-            LogStep::Broken => return report_break(alloc, n, out),
-            LogStep::Over => unreachable!(),
+            RecordStep::End { is_broken: false } => return Ok(verdict_of(is_read)),
+            RecordStep::End { is_broken: true } => return report_break(alloc, n, out),
         }
     }
-    unreachable!()
 }

@@ -1,20 +1,21 @@
 //! The report `signatures`: the signatures that the rules may check, for whoever verifies them.
 
 ghost use Rattle.std.specs.Prelude.{◌≡◌, ◌↔◌, false, true, Err, IfOk, IfErr, option_map};
+ghost use Rattle.mls_wire.specs.Devices.{IsWorking, WriteFails};
 ghost use Rattle.mls_follow.specs.FollowerModel.{state_of};
 ghost use Rattle.mls_start.specs.Inputs.{Inputs, inputs_of};
 ghost use Rattle.mls_start.specs.StartSignatures.{StartsWith};
 ghost use Rattle.mls_start.specs.SignaturesLeft.{signatures_left};
-ghost use Rattle.mls_report.specs.SignaturesReport.{has_failed, LogPartIf, ReportsLogIf, Signatures, SignaturesPart};
+ghost use Rattle.mls_report.specs.SignaturesReport.{device_bytes, has_failed, LogPartIf, ReportsLogIf, Signatures, SignaturesPart};
 
 use crate::finding::report_finding;
 use crate::signature_lines::write_signature_lines;
 use crate::signature_log::write_signature_log;
 use mls_check::{SignatureCheck, Trusting};
 use mls_follow::Follower;
-use mls_show::{RunFault, Verdict};
+use mls_show::Verdict;
 use mls_start::{StartBytes, StartFailure, TrustingStart};
-use mls_wire::{Sink, Source};
+use mls_wire::{RunFault, Sink, Source};
 use std::alloc::Global;
 
 /// Writes the lines of a log, if there is one.
@@ -25,14 +26,14 @@ fn report_log<L: Source, R: SignatureCheck, K: Sink>(
     receipts: &R,
     out: &mut K,
 ) -> Result<Verdict, RunFault>
-    requires log { has_failed (option_map L.is_failed log.old) ≡ false }
-    requires out { K.is_failed out.old ≡ false }
+    requires log { has_failed (option_map (λ l. (L.device l).has_failed) log.old) ≡ false }
+    requires out { IsWorking (K.device out.old) }
     ensures printed { IfOk result (ReportsLogIf (R.meaning receipts.now) (state_of follower.old)
-        (option_map L.left log.old) (option_map L.left log.new) (K.written out.old) (K.written out.new)) }
+        (device_bytes L.device log.old) (device_bytes L.device log.new) (K.device out.old).bytes (K.device out.new).bytes) }
     ensures effect_on_error { IfErr result (LogPartIf (R.meaning receipts.now) (state_of follower.old)
-        (option_map L.left log.old) (option_map L.left log.new) (K.written out.old) (K.written out.new)) }
-    ensures read { (result ≡ Err RunFault.Read) ↔ (has_failed (option_map L.is_failed log.new) ≡ true) }
-    ensures write { (result ≡ Err RunFault.Write) ↔ (K.is_failed out.new ≡ true) }
+        (device_bytes L.device log.old) (device_bytes L.device log.new) (K.device out.old).bytes (K.device out.new).bytes) }
+    ensures read { (result ≡ Err RunFault.Read) ↔ (has_failed (option_map (λ l. (L.device l).has_failed) log.new) ≡ true) }
+    ensures write { WriteFails result (K.device out.new) }
 {
     match log {
         Some(log) => write_signature_log(alloc, follower, log, receipts, out),
@@ -48,18 +49,18 @@ fn report_started<L: Source, R: SignatureCheck, K: Sink>(
     receipts: &R,
     out: &mut K,
 ) -> Result<Verdict, RunFault>
-    requires log { has_failed (option_map L.is_failed log.old) ≡ false }
-    requires out { K.is_failed out.old ≡ false }
+    requires log { has_failed (option_map (λ l. (L.device l).has_failed) log.old) ≡ false }
+    requires out { IsWorking (K.device out.old) }
     ensures printed { (i : Inputs)
         → StartsWith i (state_of start.follower) (signatures_left (state_of start.follower) start.signatures)
         → IfOk result (Signatures (R.meaning receipts.now) i
-        (option_map L.left log.old) (option_map L.left log.new) (K.written out.old) (K.written out.new)) }
+        (device_bytes L.device log.old) (device_bytes L.device log.new) (K.device out.old).bytes (K.device out.new).bytes) }
     ensures effect_on_error { (i : Inputs)
         → StartsWith i (state_of start.follower) (signatures_left (state_of start.follower) start.signatures)
         → IfErr result (SignaturesPart (R.meaning receipts.now) i
-        (option_map L.left log.old) (option_map L.left log.new) (K.written out.old) (K.written out.new)) }
-    ensures read { (result ≡ Err RunFault.Read) ↔ (has_failed (option_map L.is_failed log.new) ≡ true) }
-    ensures write { (result ≡ Err RunFault.Write) ↔ (K.is_failed out.new ≡ true) }
+        (device_bytes L.device log.old) (device_bytes L.device log.new) (K.device out.old).bytes (K.device out.new).bytes) }
+    ensures read { (result ≡ Err RunFault.Read) ↔ (has_failed (option_map (λ l. (L.device l).has_failed) log.new) ≡ true) }
+    ensures write { WriteFails result (K.device out.new) }
 {
     let mut follower = start.follower;
     let mut left = start.signatures;
@@ -101,14 +102,14 @@ pub fn signatures<L: Source, R: SignatureCheck, K: Sink>(
     receipts: &R,
     out: &mut K,
 ) -> Result<Verdict, RunFault>
-    requires log { has_failed (option_map L.is_failed log.old) ≡ false }
-    requires out { K.is_failed out.old ≡ false }
+    requires log { has_failed (option_map (λ l. (L.device l).has_failed) log.old) ≡ false }
+    requires out { IsWorking (K.device out.old) }
     ensures printed { IfOk result (Signatures (R.meaning receipts.now) (inputs_of start)
-        (option_map L.left log.old) (option_map L.left log.new) (K.written out.old) (K.written out.new)) }
+        (device_bytes L.device log.old) (device_bytes L.device log.new) (K.device out.old).bytes (K.device out.new).bytes) }
     ensures effect_on_error { IfErr result (SignaturesPart (R.meaning receipts.now) (inputs_of start)
-        (option_map L.left log.old) (option_map L.left log.new) (K.written out.old) (K.written out.new)) }
-    ensures read { (result ≡ Err RunFault.Read) ↔ (has_failed (option_map L.is_failed log.new) ≡ true) }
-    ensures write { (result ≡ Err RunFault.Write) ↔ (K.is_failed out.new ≡ true) }
+        (device_bytes L.device log.old) (device_bytes L.device log.new) (K.device out.old).bytes (K.device out.new).bytes) }
+    ensures read { (result ≡ Err RunFault.Read) ↔ (has_failed (option_map (λ l. (L.device l).has_failed) log.new) ≡ true) }
+    ensures write { WriteFails result (K.device out.new) }
 {
     match start.trusting(alloc) {
         Ok(start) => report_started(alloc, start, log, receipts, out),

@@ -1,16 +1,17 @@
 //! The report `validate`: whether a follower starts or resumes, and its state.
 
-ghost use Rattle.std.specs.Prelude.{◌≡◌, ◌≢◌, ◌↔◌, false, true, [], Err, IfOk, OnErr, IfErr};
+ghost use Rattle.std.specs.Prelude.{◌≡◌, ◌≢◌, [], Err, IfOk, OnErr, IfErr};
 ghost use Rattle.std.specs.Io.KnownBytes.{Appends};
+ghost use Rattle.mls_wire.specs.Devices.{IsWorking, WriteFails};
 ghost use Rattle.mls_start.specs.Inputs.{inputs_of};
 ghost use Rattle.mls_start.specs.StartFindings.{IsFindingOf};
 ghost use Rattle.mls_report.specs.Finding.{ReportsFinding, ReportsFindingPart};
 
 use crate::finding::report_finding;
 use mls_check::{OutOfMemory, SignatureCheck};
-use mls_show::{RunFault, Verdict};
+use mls_show::Verdict;
 use mls_start::StartBytes;
-use mls_wire::Sink;
+use mls_wire::{RunFault, Sink};
 use std::alloc::Global;
 
 /// Writes one line. If a follower starts or resumes: the epoch, the number of members and the tree hash, with the verdict
@@ -27,15 +28,15 @@ pub fn validate<C: SignatureCheck, K: Sink>(
     checker: C,
     out: &mut K,
 ) -> Result<Verdict, RunFault>
-    requires { K.is_failed out.old ≡ false }
+    requires { IsWorking (K.device out.old) }
     ensures printed { IfOk result (ReportsFinding (IsFindingOf (C.meaning checker) (inputs_of start))
-        (K.written out.old) (K.written out.new)) }
+        (K.device out.old).bytes (K.device out.new).bytes) }
     ensures effect_on_error { OnErr result
         (ReportsFindingPart (IsFindingOf (C.meaning checker) (inputs_of start))
-        (K.written out.old) (K.written out.new)) }
+        (K.device out.old).bytes (K.device out.new).bytes) }
     ensures memory { result ≡ Err RunFault.Memory
-        → Appends (K.written out.old) (K.written out.new) [] }
-    ensures write { (result ≡ Err RunFault.Write) ↔ (K.is_failed out.new ≡ true) }
+        → Appends (K.device out.old).bytes (K.device out.new).bytes [] }
+    ensures write { WriteFails result (K.device out.new) }
     ensures fault { IfErr result (λ e. e ≢ RunFault.Read) }
 {
     match start.finding(alloc, checker) {

@@ -1,15 +1,16 @@
 //! The report `validate-tree`: whether a ratchet tree belongs to a GroupContext and is valid, and its members are.
 
-ghost use Rattle.std.specs.Prelude.{◌≡◌, ◌≢◌, ◌↔◌, false, true, [], Err, IfOk, OnErr, IfErr};
+ghost use Rattle.std.specs.Prelude.{◌≡◌, ◌≢◌, [], Err, IfOk, OnErr, IfErr};
 ghost use Rattle.std.specs.Io.KnownBytes.{Appends};
+ghost use Rattle.mls_wire.specs.Devices.{IsWorking, WriteFails};
 ghost use Rattle.mls_start.specs.TreeFinding.{IsTreeFinding};
 ghost use Rattle.mls_report.specs.Finding.{ReportsFinding, ReportsFindingPart};
 
 use crate::finding::report_finding;
 use mls_check::{OutOfMemory, SignatureCheck};
-use mls_show::{RunFault, Verdict};
+use mls_show::Verdict;
 use mls_start::tree_finding;
-use mls_wire::Sink;
+use mls_wire::{RunFault, Sink};
 use std::alloc::Global;
 
 /// Writes one line for the bytes of a GroupContext and of a tree, the first that applies:
@@ -31,16 +32,16 @@ pub fn validate_tree<C: SignatureCheck, K: Sink>(
     checker: &C,
     out: &mut K,
 ) -> Result<Verdict, RunFault>
-    requires { K.is_failed out.old ≡ false }
+    requires { IsWorking (K.device out.old) }
     ensures printed { IfOk result
         (ReportsFinding (IsTreeFinding (C.meaning checker.now) context.now tree.items)
-        (K.written out.old) (K.written out.new)) }
+        (K.device out.old).bytes (K.device out.new).bytes) }
     ensures effect_on_error { OnErr result
         (ReportsFindingPart (IsTreeFinding (C.meaning checker.now) context.now tree.items)
-        (K.written out.old) (K.written out.new)) }
+        (K.device out.old).bytes (K.device out.new).bytes) }
     ensures memory { result ≡ Err RunFault.Memory
-        → Appends (K.written out.old) (K.written out.new) [] }
-    ensures write { (result ≡ Err RunFault.Write) ↔ (K.is_failed out.new ≡ true) }
+        → Appends (K.device out.old).bytes (K.device out.new).bytes [] }
+    ensures write { WriteFails result (K.device out.new) }
     ensures fault { IfErr result (λ e. e ≢ RunFault.Read) }
 {
     match tree_finding(alloc, context, tree, checker) {

@@ -42,7 +42,7 @@ fn named_file(alloc: Global, name: &str, bytes: &[u8]) -> Result<NamedFile, Allo
 impl<'a> Files for Shelf<'a> {
     type File = MemorySource<'a>;
 
-    ghost opener = { λ _. unknown ⟦<MemorySource<'a> as Source>⟧.left ⟦<MemorySource<'a> as Source>⟧.is_failed };
+    ghost opener = { λ _. unknown ⟦<MemorySource<'a> as Source>⟧.device };
 
     fn open(&self, name: &str) -> Option<MemorySource<'a>> {
         for file in self.files {
@@ -67,9 +67,7 @@ impl<'a> Files for Shelf<'a> {
         }
     }
 
-    ghost left_is = { λ _. refl };
-
-    ghost is_failed_is = { λ _. refl };
+    ghost device_is = { λ _. refl };
 }
 
 /// Adds a copy of a word.

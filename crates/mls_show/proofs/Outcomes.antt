@@ -1,8 +1,8 @@
 -- Facts that hold however a call ended.
 use Rattle.std.proofs.Common.{◌≡◌, sym, subst}
 use Rattle.std.specs.Prelude.{◌≢◌, ◌↔◌, OnErr, IfOk, IfErr, Result, Ok, Err}
-use Rattle.mls_show.specs.declared.verdict.RunFault.{RunFault}
-use Rattle.mls_show.specs.declared.verdict.RunFault.TheVariants.{Read}
+use Rattle.mls_wire.specs.declared.fault.RunFault.{RunFault}
+use Rattle.mls_wire.specs.declared.fault.RunFault.TheVariants.{Read}
 
 pub OnErr-any : {T E : Type 0} {P : Type 0} (r : Result T E) → P → OnErr r P
 OnErr-any (Ok x) p = tt

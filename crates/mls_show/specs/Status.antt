@@ -2,7 +2,7 @@
 use Rattle.std.specs.Prelude.{ℕ, Result, Ok, Err}
 use Rattle.mls_show.specs.declared.verdict.Verdict.{Verdict}
 use Rattle.mls_show.specs.declared.verdict.Verdict.TheVariants.{Yes, No}
-use Rattle.mls_show.specs.declared.verdict.RunFault.{RunFault}
+use Rattle.mls_wire.specs.declared.fault.RunFault.{RunFault}
 
 -- `status result` is the exit status of a report: 0 for yes, 1 for no, 3 for a fault.
 abbrev pub status : Result Verdict RunFault → ℕ

@@ -21,5 +21,5 @@ pub use read_to_end::read_all;
 pub use report::Report;
 pub use show::{ShowKind, run_show, run_show_in};
 pub use value_text::hex_of;
-pub use verdict::{RunFault, Verdict, status_of};
+pub use verdict::{Verdict, status_of};
 pub use write::{write_bytes, write_text};

@@ -1,11 +1,11 @@
 //! Reading a source to its end.
 
-ghost use Rattle.std.specs.Prelude.{◌≡◌, ◌≢◌, ◌↔◌, ◌<◌, ◌≤◌, false, true, length, take, IfOk, IfErr, OnErr, OnOk};
+ghost use Rattle.std.specs.Prelude.{◌≡◌, ◌≢◌, ◌<◌, ◌≤◌, length, take, IfOk, IfErr, OnErr, OnOk};
 ghost use Rattle.std.specs.Io.KnownBytes.{Consumes, Keeps, IsAtEnd};
+ghost use Rattle.mls_wire.specs.Devices.{HasFailed, IsWorking, ReadFails};
 ghost use Rattle.mls_show.specs.ReadAll.{ReadsAll, ReadsSome};
 
-use crate::verdict::RunFault;
-use mls_wire::{DeviceFault, MAX_INPUT, Source};
+use mls_wire::{DeviceFault, MAX_INPUT, RunFault, Source};
 use std::alloc::Global;
 
 /// The most bytes that one call reads of a source.
@@ -15,12 +15,12 @@ const PIECE: usize = 65536;
 fn pull_piece<S: Source>(source: &mut S, piece: &mut [u8]) -> Result<usize, RunFault>
     ensures bound { IfOk result (λ n. n ≤ length piece.new) }
     ensures bytes { IfOk result
-        (λ n. Consumes (S.left source.old) (S.left source.new) (take n piece.new)) }
-    ensures end { IfOk result (λ n. n ≡ 0 → 0 < length piece.new → IsAtEnd (S.left source.new)) }
-    ensures fault { IfErr result (λ e. (e ≡ RunFault.Read) × (S.is_failed source.new ≡ true)) }
-    ensures unchanged_on_error { OnErr result (Keeps (S.left source.old) (S.left source.new)) }
+        (λ n. Consumes (S.device source.old).bytes (S.device source.new).bytes (take n piece.new)) }
+    ensures end { IfOk result (λ n. n ≡ 0 → 0 < length piece.new → IsAtEnd (S.device source.new).bytes) }
+    ensures fault { IfErr result (λ e. (e ≡ RunFault.Read) × HasFailed (S.device source.new)) }
+    ensures unchanged_on_error { OnErr result (Keeps (S.device source.old).bytes (S.device source.new).bytes) }
     ensures same_length { length piece.new ≡ length piece.old }
-    ensures going { S.is_failed source.old ≡ false → OnOk result (S.is_failed source.new ≡ false) }
+    ensures going { IsWorking (S.device source.old) → OnOk result (IsWorking (S.device source.new)) }
 {
     match source.pull(piece) {
         Ok(n) => Ok(n),
@@ -34,11 +34,11 @@ fn pull_piece<S: Source>(source: &mut S, piece: &mut [u8]) -> Result<usize, RunF
 ///
 /// `Read` if the source fails, `Memory` if the bytes can't be stored. The source is then after the bytes that were read.
 pub fn read_all<S: Source>(alloc: Global, source: &mut S) -> Result<Vec<u8>, RunFault>
-    requires { S.is_failed source.old ≡ false }
+    requires { IsWorking (S.device source.old) }
     ensures all { IfOk result
-        (λ bytes. ReadsAll (S.left source.old) (S.left source.new) bytes.items) }
-    ensures effect_on_error { OnErr result (ReadsSome (S.left source.old) (S.left source.new)) }
-    ensures read { (result ≡ Err RunFault.Read) ↔ (S.is_failed source.new ≡ true) }
+        (λ bytes. ReadsAll (S.device source.old).bytes (S.device source.new).bytes bytes.items) }
+    ensures effect_on_error { OnErr result (ReadsSome (S.device source.old).bytes (S.device source.new).bytes) }
+    ensures read { ReadFails result (S.device source.new) }
     ensures fault { IfErr result (λ e. e ≢ RunFault.Write) }
 {
     let mut bytes = Vec::new(alloc);

@@ -1,7 +1,8 @@
 //! The report `show`: the content of an input as text.
 
-ghost use Rattle.std.specs.Prelude.{◌≡◌, ◌≢◌, ◌↔◌, false, true, [], Err, IfOk, OnErr, IfErr};
+ghost use Rattle.std.specs.Prelude.{◌≡◌, ◌≢◌, [], Err, IfOk, OnErr, IfErr};
 ghost use Rattle.std.specs.Io.KnownBytes.{Appends};
+ghost use Rattle.mls_wire.specs.Devices.{IsWorking, ReadFails, WriteFails};
 ghost use Rattle.mls_msgs.specs.declared.profile.Profile.TheVariants.{Members};
 ghost use Rattle.mls_show.specs.Show.{InfoReport, IsShowReport, IsUnreadableReport, Shows, ShowsPart};
 
@@ -11,11 +12,11 @@ use crate::message_text::message_line;
 use crate::read_to_end::read_all;
 use crate::report::{Report, unreadable_report};
 use crate::tree_text::tree_text;
-use crate::verdict::{RunFault, Verdict};
+use crate::verdict::Verdict;
 use crate::write::write_bytes;
 use mls_msgs::{Message, Profile, decode_message, decode_message_in};
 use mls_nodes::NodeFault;
-use mls_wire::{CodecFault, Sink, Source};
+use mls_wire::{CodecFault, RunFault, Sink, Source};
 use std::alloc::{AllocError, Global};
 
 /// What an input is shown as.
@@ -160,17 +161,18 @@ pub fn run_show_in<S: Source, K: Sink>(
     input: &mut S,
     out: &mut K,
 ) -> Result<Verdict, RunFault>
-    requires input { S.is_failed input.old ≡ false }
-    requires out { K.is_failed out.old ≡ false }
+    requires input { IsWorking (S.device input.old) }
+    requires out { IsWorking (K.device out.old) }
     ensures shown { IfOk result
-        (Shows profile kind (S.left input.old) (S.left input.new) (K.written out.old) (K.written out.new)) }
+        (Shows profile kind (S.device input.old).bytes (S.device input.new).bytes
+        (K.device out.old).bytes (K.device out.new).bytes) }
     ensures effect_on_error { OnErr result
-        (ShowsPart profile kind (S.left input.old) (S.left input.new) (K.written out.old)
-        (K.written out.new)) }
+        (ShowsPart profile kind (S.device input.old).bytes (S.device input.new).bytes
+        (K.device out.old).bytes (K.device out.new).bytes) }
     ensures memory { result ≡ Err RunFault.Memory
-        → Appends (K.written out.old) (K.written out.new) [] }
-    ensures read { (result ≡ Err RunFault.Read) ↔ (S.is_failed input.new ≡ true) }
-    ensures write { (result ≡ Err RunFault.Write) ↔ (K.is_failed out.new ≡ true) }
+        → Appends (K.device out.old).bytes (K.device out.new).bytes [] }
+    ensures read { ReadFails result (S.device input.new) }
+    ensures write { WriteFails result (K.device out.new) }
 {
     let bytes = read_all(alloc, input)?;
     let report = show_report(alloc, profile, kind, bytes)?;
@@ -185,17 +187,18 @@ pub fn run_show<S: Source, K: Sink>(
     input: &mut S,
     out: &mut K,
 ) -> Result<Verdict, RunFault>
-    requires input { S.is_failed input.old ≡ false }
-    requires out { K.is_failed out.old ≡ false }
+    requires input { IsWorking (S.device input.old) }
+    requires out { IsWorking (K.device out.old) }
     ensures shown { IfOk result
-        (Shows Members kind (S.left input.old) (S.left input.new) (K.written out.old) (K.written out.new)) }
+        (Shows Members kind (S.device input.old).bytes (S.device input.new).bytes
+        (K.device out.old).bytes (K.device out.new).bytes) }
     ensures effect_on_error { OnErr result
-        (ShowsPart Members kind (S.left input.old) (S.left input.new) (K.written out.old)
-        (K.written out.new)) }
+        (ShowsPart Members kind (S.device input.old).bytes (S.device input.new).bytes
+        (K.device out.old).bytes (K.device out.new).bytes) }
     ensures memory { result ≡ Err RunFault.Memory
-        → Appends (K.written out.old) (K.written out.new) [] }
-    ensures read { (result ≡ Err RunFault.Read) ↔ (S.is_failed input.new ≡ true) }
-    ensures write { (result ≡ Err RunFault.Write) ↔ (K.is_failed out.new ≡ true) }
+        → Appends (K.device out.old).bytes (K.device out.new).bytes [] }
+    ensures read { ReadFails result (S.device input.new) }
+    ensures write { WriteFails result (K.device out.new) }
 {
     run_show_in(alloc, Profile::Members, kind, input, out)
 }

@@ -3,8 +3,7 @@
 ghost use Rattle.std.specs.Prelude.{◌≡◌};
 ghost use Rattle.mls_show.specs.Status.{status};
 
-use std::alloc::AllocError;
-use thiserror::Error;
+use mls_wire::RunFault;
 
 /// The verdict of a report that is written whole.
 #[derive(Clone, Copy, Debug, PartialEq, Eq)]
@@ -13,30 +12,6 @@ pub enum Verdict {
     Yes,
     /// An input is not readable, or was refused.
     No,
-}
-
-/// Why a report was not written whole.
-#[derive(Clone, Copy, Debug, PartialEq, Eq, Error)]
-pub enum RunFault {
-    /// A source failed, or a file can't be opened.
-    #[error("read")]
-    Read,
-    /// The sink failed.
-    #[error("write")]
-    Write,
-    /// An allocation failed.
-    #[error("memory")]
-    Memory,
-}
-
-impl From<AllocError> for RunFault {
-    ghost use Rattle.mls_show.specs.declared.verdict.RunFault.TheVariants.{Memory};
-
-    ghost from_gives = { λ _ e. e ≡ Memory };
-
-    fn from(_e: AllocError) -> RunFault {
-        RunFault::Memory
-    }
 }
 
 /// Returns the exit status: 0 for `Yes`, 1 for `No`, 3 for a fault.

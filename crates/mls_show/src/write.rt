@@ -1,19 +1,18 @@
 //! Writing to a sink.
 
-ghost use Rattle.std.specs.Prelude.{◌≡◌, ◌↔◌, false, true, IfErr, OnErr, OnOk};
+ghost use Rattle.std.specs.Prelude.{◌≡◌, IfErr, OnErr, OnOk};
 ghost use Rattle.std.specs.Io.KnownBytes.{Appends};
-ghost use Rattle.mls_wire.specs.Devices.{AppendsPrefix};
+ghost use Rattle.mls_wire.specs.Devices.{AppendsPrefix, IsWorking, WriteFails};
 
-use crate::verdict::RunFault;
-use mls_wire::{DeviceFault, Sink, write_all};
+use mls_wire::{DeviceFault, RunFault, Sink, write_all};
 
 /// Writes bytes, in as few pieces as the sink takes. If the sink fails, a prefix may be written.
 pub fn write_bytes<K: Sink>(out: &mut K, bytes: &[u8]) -> Result<(), RunFault>
-    requires { K.is_failed out.old ≡ false }
-    ensures all { OnOk result (Appends (K.written out.old) (K.written out.new) bytes.now) }
-    ensures effect_on_error { OnErr result (AppendsPrefix (K.written out.old) (K.written out.new) bytes.now) }
+    requires { IsWorking (K.device out.old) }
+    ensures all { OnOk result (Appends (K.device out.old).bytes (K.device out.new).bytes bytes.now) }
+    ensures effect_on_error { OnErr result (AppendsPrefix (K.device out.old).bytes (K.device out.new).bytes bytes.now) }
     ensures fault { IfErr result (λ e. e ≡ RunFault.Write) }
-    ensures write { (result ≡ Err RunFault.Write) ↔ (K.is_failed out.new ≡ true) }
+    ensures write { WriteFails result (K.device out.new) }
 {
     match write_all(out, bytes) {
         Ok(()) => Ok(()),
@@ -23,11 +22,11 @@ pub fn write_bytes<K: Sink>(out: &mut K, bytes: &[u8]) -> Result<(), RunFault>
 
 /// Writes a text, as `write_bytes`.
 pub fn write_text<K: Sink>(out: &mut K, text: &str) -> Result<(), RunFault>
-    requires { K.is_failed out.old ≡ false }
-    ensures all { OnOk result (Appends (K.written out.old) (K.written out.new) text.now) }
-    ensures effect_on_error { OnErr result (AppendsPrefix (K.written out.old) (K.written out.new) text.now) }
+    requires { IsWorking (K.device out.old) }
+    ensures all { OnOk result (Appends (K.device out.old).bytes (K.device out.new).bytes text.now) }
+    ensures effect_on_error { OnErr result (AppendsPrefix (K.device out.old).bytes (K.device out.new).bytes text.now) }
     ensures fault { IfErr result (λ e. e ≡ RunFault.Write) }
-    ensures write { (result ≡ Err RunFault.Write) ↔ (K.is_failed out.new ≡ true) }
+    ensures write { WriteFails result (K.device out.new) }
 {
     write_bytes(out, text.as_bytes())
 }

@@ -1,7 +1,8 @@
 //! The report `check`: which vectors of a file agree with this library.
 
-ghost use Rattle.std.specs.Prelude.{◌≡◌, ◌↔◌, false, true, [], Err, map, IfOk, OnErr, IfErr, option_map};
+ghost use Rattle.std.specs.Prelude.{◌≡◌, [], Err, map, IfOk, OnErr, IfErr, option_map};
 ghost use Rattle.std.specs.Io.KnownBytes.{Appends};
+ghost use Rattle.mls_wire.specs.Devices.{IsWorking, ReadFails, WriteFails};
 ghost use Rattle.serde_json.specs.View.{view, items_view};
 ghost use Rattle.mls_vectors.specs.CheckReport.{AreOutcomes, Checks, ChecksPart, IsCheckReport, IsNoVectorsReport, IsOutcomeOf, IsOutcomesReport, IsVectorsReport};
 ghost use Rattle.mls_vectors.specs.CheckModel.{outcome_of, IsValueReport};
@@ -15,8 +16,8 @@ use crate::tree_math::tree_math_outcome;
 use crate::tree_operations::tree_operations_outcome;
 use crate::tree_validation::tree_validation_outcome;
 use crate::vector_result::VectorResult;
-use mls_show::{CheckKind, Report, RunFault, Verdict, read_all, write_bytes};
-use mls_wire::{MAX_INPUT, Sink, Source};
+use mls_show::{CheckKind, Report, Verdict, read_all, write_bytes};
+use mls_wire::{MAX_INPUT, RunFault, Sink, Source};
 use serde_json::Value;
 use std::alloc::{AllocError, Global};
 
@@ -171,17 +172,17 @@ pub fn run_check<S: Source, K: Sink>(
     input: &mut S,
     out: &mut K,
 ) -> Result<Verdict, RunFault>
-    requires input { S.is_failed input.old ≡ false }
-    requires out { K.is_failed out.old ≡ false }
-    ensures checked { IfOk result (Checks kind (S.left input.old) (S.left input.new)
-        (K.written out.old) (K.written out.new)) }
+    requires input { IsWorking (S.device input.old) }
+    requires out { IsWorking (K.device out.old) }
+    ensures checked { IfOk result (Checks kind (S.device input.old).bytes (S.device input.new).bytes
+        (K.device out.old).bytes (K.device out.new).bytes) }
     ensures effect_on_error { OnErr result
-        (ChecksPart kind (S.left input.old) (S.left input.new) (K.written out.old)
-        (K.written out.new)) }
+        (ChecksPart kind (S.device input.old).bytes (S.device input.new).bytes
+        (K.device out.old).bytes (K.device out.new).bytes) }
     ensures memory { result ≡ Err RunFault.Memory
-        → Appends (K.written out.old) (K.written out.new) [] }
-    ensures read { (result ≡ Err RunFault.Read) ↔ (S.is_failed input.new ≡ true) }
-    ensures write { (result ≡ Err RunFault.Write) ↔ (K.is_failed out.new ≡ true) }
+        → Appends (K.device out.old).bytes (K.device out.new).bytes [] }
+    ensures read { ReadFails result (S.device input.new) }
+    ensures write { WriteFails result (K.device out.new) }
 {
     let bytes = read_all(alloc, input)?;
     let report = check_report(alloc, kind, bytes.as_slice())?;

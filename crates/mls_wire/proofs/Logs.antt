@@ -4,7 +4,7 @@ use Rattle.std.specs.Prelude.{MatchOption, OnErr, IsErr, Result, Ok, Err}
 use Rattle.std.specs.Io.KnownBytes.{Consumes}
 use Rattle.mls_wire.specs.declared.log.LogStep.{LogStep}
 use Rattle.mls_wire.specs.declared.log.LogStep.TheVariants as steps
-use Rattle.mls_wire.specs.declared.log.RecordFault.{RecordFault}
+use Rattle.mls_wire.specs.declared.fault.RunFault.{RunFault}
 use Rattle.std.proofs.lemmas.Bool.{lt-ltb, le-ltb}
 use Rattle.std.proofs.lemmas.List.{length-replicate, take_all, take-take, take-append-le}
 use Rattle.mls_wire.specs.Limits.{input_limit}
@@ -155,7 +155,7 @@ OnErr-any (Ok x) p = tt
 OnErr-any (Err e) p = p
 
 -- what a fault meets, whatever it is
-pub meets_fault : (before after : Option (List ℕ)) (most : ℕ) (body read : List ℕ) (r : Result LogStep RecordFault) → IsErr r → Consumes before after read → IsIncomplete most read → ReadsRecord before after most body r
+pub meets_fault : (before after : Option (List ℕ)) (most : ℕ) (body read : List ℕ) (r : Result LogStep RunFault) → IsErr r → Consumes before after read → IsIncomplete most read → ReadsRecord before after most body r
 meets_fault before after most body read (Ok x) err taken cut = absurd cc
 meets_fault before after most body read (Err e) err taken cut = (read, taken, cut)
 
@@ -164,7 +164,7 @@ pub body_bytes : (n first : ℕ) (more body : List ℕ) → length_form n ≡ So
 body_bytes n first more body e le len = record_made (first ∷ more) body (ap length_form len ∙ e) (omega (arith, len))
 
 -- an answer that is no record says nothing of a body
-pub meets_kept : (before after : Option (List ℕ)) (most : ℕ) (old new : List ℕ) (r : Result LogStep RecordFault) → (r ≡ Ok steps.Record → ⊥) → ReadsRecord before after most old r → ReadsRecord before after most new r
+pub meets_kept : (before after : Option (List ℕ)) (most : ℕ) (old new : List ℕ) (r : Result LogStep RunFault) → (r ≡ Ok steps.Record → ⊥) → ReadsRecord before after most old r → ReadsRecord before after most new r
 meets_kept before after most old new (Ok steps.Record) none h = absurd (none refl)
 meets_kept before after most old new (Ok steps.End) none h = h
 meets_kept before after most old new (Ok steps.Broken) none h = h

@@ -1,8 +1,35 @@
--- Devices that give and take bytes: what a failed write may have written, and devices over memory. In contracts the
--- bytes that a source has left, and the bytes that a sink holds, are `Some bytes`, or `None` if they are not known.
--- Used by contracts.
-use Rattle.std.specs.Prelude.{ℕ, ◌+◌, ◌-◌, ◌≡◌, List, ◌++◌, length, min, Bool, false, ◌||◌, ◌&&◌, not, Option, Some, None, nat_eq}
+-- Devices that give and take bytes: what contracts know of one, what a failed write may have written, when a call has a
+-- fault of a device, and devices over memory. Used by contracts.
+use Rattle.std.specs.Prelude.{ℕ, ◌+◌, ◌-◌, ◌≡◌, List, ◌++◌, length, min, Bool, true, false, Result, Err, ◌↔◌, ◌||◌, ◌&&◌, not, Option, Some, None, nat_eq}
 use Rattle.std.specs.Io.KnownBytes.{Appends}
+use Rattle.mls_wire.specs.declared.fault.RunFault.{RunFault}
+use Rattle.mls_wire.specs.declared.fault.RunFault.TheVariants.{Read, Write}
+
+-- A device: the bytes that a source has left, or that a sink holds, `Some bytes`, or `None` if they are not known; and
+-- whether it has failed.
+pub record Device : Type 0 where
+  pub bytes : Option (List ℕ)
+  pub has_failed : Bool
+
+-- `working bytes` is a device with these bytes that has not failed.
+abbrev pub working : Option (List ℕ) → Device
+working bytes = record { bytes = bytes; has_failed = false }
+
+-- `IsWorking d`: the device has not failed.
+abbrev pub IsWorking : Device → Type 0
+IsWorking d = d.has_failed ≡ false
+
+-- `HasFailed d`: the device has failed.
+abbrev pub HasFailed : Device → Type 0
+HasFailed d = d.has_failed ≡ true
+
+-- `ReadFails result d`: the call had a fault of reading if and only if this source has failed.
+abbrev pub ReadFails : {A : Type 0} → Result A RunFault → Device → Type 0
+ReadFails result d = (result ≡ Err Read) ↔ HasFailed d
+
+-- `WriteFails result d`: the call had a fault of writing if and only if this sink has failed.
+abbrev pub WriteFails : {A : Type 0} → Result A RunFault → Device → Type 0
+WriteFails result d = (result ≡ Err Write) ↔ HasFailed d
 
 -- `AppendsPrefix old new text`: a prefix of `text` was written to a sink that held `old` and now holds `new`.
 abbrev pub AppendsPrefix : Option (List ℕ) → Option (List ℕ) → List ℕ → Type 0

@@ -4,8 +4,8 @@ use Rattle.std.specs.Prelude.{◌≡◌, ◌≢◌, ◌<◌, ◌≤◌, ◌+◌,
 use Rattle.std.specs.Io.KnownBytes.{Consumes, IsAtEnd}
 use Rattle.mls_wire.specs.declared.log.LogStep.{LogStep}
 use Rattle.mls_wire.specs.declared.log.LogStep.TheVariants as steps
-use Rattle.mls_wire.specs.declared.log.RecordFault.{RecordFault}
-use Rattle.mls_wire.specs.declared.log.RecordFault.TheVariants as faults
+use Rattle.mls_wire.specs.declared.fault.RunFault.{RunFault}
+use Rattle.mls_wire.specs.declared.fault.RunFault.TheVariants as faults
 use Rattle.mls_wire.specs.Limits.{input_limit}
 use Rattle.mls_wire.specs.Encoding.{vector}
 
@@ -73,7 +73,7 @@ ended old = record { most = old.most; is_over = true; body = [] }
 -- `ReadsRecord before after most body result`: what a call reads from a log that had `before` left and then has
 -- `after`. It is a record with this body, the end, a break, or a fault before it is known what comes next. The call
 -- reads these bytes and no others.
-abbrev pub ReadsRecord : Option (List ℕ) → Option (List ℕ) → ℕ → List ℕ → Result LogStep RecordFault → Type 0
+abbrev pub ReadsRecord : Option (List ℕ) → Option (List ℕ) → ℕ → List ℕ → Result LogStep RunFault → Type 0
 ReadsRecord before after most body (Ok steps.Record) =
     (0 < most) × (read : List ℕ) × Consumes before after read × IsRecord read body
 ReadsRecord before after most body (Ok steps.End) = Consumes before after [] × IsAtEnd after
@@ -82,7 +82,7 @@ ReadsRecord before after most body (Ok steps.Over) = ⊥
 ReadsRecord before after most body (Err fault) = (read : List ℕ) × Consumes before after read × IsIncomplete most read
 
 -- `ReaderAfter old new result`: after a record one fewer may come. After every other result the log is over.
-abbrev pub ReaderAfter : LogState → LogState → Result LogStep RecordFault → Type 0
+abbrev pub ReaderAfter : LogState → LogState → Result LogStep RunFault → Type 0
 ReaderAfter old new (Ok steps.Record) = (old.most ≡ new.most + 1) × (new.is_over ≡ false)
 ReaderAfter old new (Ok steps.End) = new ≡ ended old
 ReaderAfter old new (Ok steps.Broken) = new ≡ ended old
@@ -90,10 +90,11 @@ ReaderAfter old new (Ok steps.Over) = new ≡ ended old
 ReaderAfter old new (Err fault) = new ≡ ended old
 
 -- `is_read_fault result`: the result is that the source failed.
-abbrev pub is_read_fault : {A : Type 0} → Result A RecordFault → Bool
+abbrev pub is_read_fault : {A : Type 0} → Result A RunFault → Bool
 is_read_fault (Ok x) = false
 is_read_fault (Err faults.Read) = true
-is_read_fault (Err faults.OutOfMemory) = false
+is_read_fault (Err faults.Write) = false
+is_read_fault (Err faults.Memory) = false
 
 -- `NextRecordIsDeterministic`: known bytes determine what comes next, where it ends, and the body of a record.
 abbrev pub NextRecordIsDeterministic : Type 0

@@ -1,4 +1,5 @@
-//! Why bytes cannot be read or a value cannot be written, and the failure of a device.
+//! Why bytes cannot be read or a value cannot be written, the failure of a device, and why a call on devices did not
+//! complete.
 
 ghost use Rattle.std.specs.Prelude.{◌≡◌};
 ghost use Rattle.mls_wire.specs.declared.fault.CodecFault.TheVariants.{OutOfMemory, Wire};
@@ -65,6 +66,30 @@ pub enum CodecFault {
 #[derive(Clone, Copy, Debug, PartialEq, Eq, Error)]
 #[error("the device failed")]
 pub struct DeviceFault;
+
+/// Why a call that reads from sources and writes to sinks did not do all of it.
+#[derive(Clone, Copy, Debug, PartialEq, Eq, Error)]
+pub enum RunFault {
+    /// A source failed, or a file can't be opened.
+    #[error("read")]
+    Read,
+    /// A sink failed.
+    #[error("write")]
+    Write,
+    /// An allocation failed.
+    #[error("memory")]
+    Memory,
+}
+
+impl From<AllocError> for RunFault {
+    ghost use Rattle.mls_wire.specs.declared.fault.RunFault.TheVariants.{Memory};
+
+    ghost from_gives = { λ _ e. e ≡ Memory };
+
+    fn from(_e: AllocError) -> RunFault {
+        RunFault::Memory
+    }
+}
 
 impl From<WireFault> for CodecFault {
     ghost from_gives = { λ f e. e ≡ Wire f };

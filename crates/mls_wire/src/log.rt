@@ -1,18 +1,18 @@
 //! Logs: records one after the other, each a vector whose body is one message (RFC 9420, 2.1.2).
 
-ghost use Rattle.std.specs.Prelude.{◌≡◌, ◌+◌, ◌<◌, ◌≤◌, ◌||◌, ◌⊎◌, ◌++◌, ◌∷◌, ℕ, List, [], true, false, Ok, Err, Some, IfOk, IfNone, OnErr, IsErr, MatchOption, is_err, length, option_to_list};
+ghost use Rattle.std.specs.Prelude.{◌≡◌, ◌+◌, ◌<◌, ◌≤◌, ◌||◌, ◌⊎◌, ◌++◌, ◌∷◌, ℕ, List, [], true, false, Ok, Err, Some, IfOk, IfNone, OnErr, MatchOption, length, option_to_list};
 ghost use Rattle.std.specs.Io.KnownBytes.{Consumes, IsAtEnd};
 ghost use Rattle.mls_wire.specs.Limits.{input_limit};
+ghost use Rattle.mls_wire.specs.Devices.{HasFailed};
 ghost use Rattle.mls_wire.specs.Encoding.{length_form};
 ghost use Rattle.mls_wire.specs.Logs.{length_size, IsBadLength, IsTruncatedRecord, unread_log, ended, ReadsRecord, ReaderAfter, is_read_fault};
 
 use crate::decode::MAX_INPUT;
-use crate::fault::DeviceFault;
+use crate::fault::RunFault;
 use crate::reader::Reader;
 use crate::source::{Source, fill};
-use std::alloc::{AllocError, Global};
+use std::alloc::Global;
 use std::marker::Model;
-use thiserror::Error;
 
 /// The most bytes by which the buffer of a body grows at once.
 const PIECE: usize = 65536;
@@ -29,37 +29,6 @@ pub enum LogStep {
     Broken,
     /// Nothing: the reader had read the end or a break, or had returned an error.
     Over,
-}
-
-/// Why a record could not be read.
-#[derive(Clone, Copy, Debug, PartialEq, Eq, Error)]
-pub enum RecordFault {
-    /// The source failed.
-    #[error("the device failed")]
-    Read,
-    /// An allocation for the body failed.
-    #[error("out of memory")]
-    OutOfMemory,
-}
-
-impl From<DeviceFault> for RecordFault {
-    ghost use Rattle.mls_wire.specs.declared.log.RecordFault.TheVariants.{Read};
-
-    ghost from_gives = { λ _ e. e ≡ Read };
-
-    fn from(_e: DeviceFault) -> RecordFault {
-        RecordFault::Read
-    }
-}
-
-impl From<AllocError> for RecordFault {
-    ghost use Rattle.mls_wire.specs.declared.log.RecordFault.TheVariants.{OutOfMemory};
-
-    ghost from_gives = { λ _ e. e ≡ OutOfMemory };
-
-    fn from(_e: AllocError) -> RecordFault {
-        RecordFault::OutOfMemory
-    }
 }
 
 /// A reader of the records of a log, with a limit on their number. Each call takes the source.
@@ -116,13 +85,13 @@ fn size_of_body(bytes: &[u8]) -> Option<usize>
 }
 
 /// Returns the next byte, if there is one.
-fn next_byte<R: Source>(source: &mut R) -> Result<Option<u8>, DeviceFault>
+fn next_byte<R: Source>(source: &mut R) -> Result<Option<u8>, RunFault>
     ensures byte { IfOk result
-        (λ o. Consumes (R.left source.old) (R.left source.new) (option_to_list o)) }
-    ensures end { IfOk result (λ o. IfNone o (IsAtEnd (R.left source.new))) }
-    ensures effect_on_error { OnErr result (Consumes (R.left source.old) (R.left source.new) []) }
-    ensures failed { R.is_failed source.new ≡ (R.is_failed source.old || is_err result) }
-    ensures remains_failed { R.is_failed source.old ≡ true → IsErr result }
+        (λ o. Consumes (R.device source.old).bytes (R.device source.new).bytes (option_to_list o)) }
+    ensures end { IfOk result (λ o. IfNone o (IsAtEnd (R.device source.new).bytes)) }
+    ensures effect_on_error { OnErr result (Consumes (R.device source.old).bytes (R.device source.new).bytes []) }
+    ensures failed { (R.device source.new).has_failed ≡ ((R.device source.old).has_failed || is_read_fault result) }
+    ensures remains_failed { HasFailed (R.device source.old) → result ≡ Err RunFault.Read }
 {
     let mut byte = [0u8; 1];
     if fill(source, &mut byte)? == 0 {
@@ -133,16 +102,16 @@ fn next_byte<R: Source>(source: &mut R) -> Result<Option<u8>, DeviceFault>
 }
 
 /// Returns the length of the body of a record with this first byte; `None` if the log is broken within the length.
-fn next_size<R: Source>(source: &mut R, first: u8) -> Result<Option<usize>, DeviceFault>
+fn next_size<R: Source>(source: &mut R, first: u8) -> Result<Option<usize>, RunFault>
     ensures size { IfOk result (λ o. (more : List ℕ)
-        × Consumes (R.left source.old) (R.left source.new) more
+        × Consumes (R.device source.old).bytes (R.device source.new).bytes more
         × MatchOption o
-        (IsBadLength (first ∷ more) ⊎ (IsTruncatedRecord (first ∷ more) × IsAtEnd (R.left source.new)))
+        (IsBadLength (first ∷ more) ⊎ (IsTruncatedRecord (first ∷ more) × IsAtEnd (R.device source.new).bytes))
         (λ n. (n ≤ input_limit) × (length_form n ≡ Some (first ∷ more)))) }
     ensures effect_on_error { OnErr result ((more : List ℕ)
-        × Consumes (R.left source.old) (R.left source.new) more
+        × Consumes (R.device source.old).bytes (R.device source.new).bytes more
         × IsTruncatedRecord (first ∷ more)) }
-    ensures failed { R.is_failed source.new ≡ (R.is_failed source.old || is_err result) }
+    ensures failed { (R.device source.new).has_failed ≡ ((R.device source.old).has_failed || is_read_fault result) }
 {
     let size = size_of_length(first);
     let mut bytes = [first, 0, 0, 0];
@@ -154,22 +123,18 @@ fn next_size<R: Source>(source: &mut R, first: u8) -> Result<Option<usize>, Devi
 }
 
 /// Adds `count` bytes to a body, and returns whether there were as many.
-fn read_piece<R: Source>(
-    source: &mut R,
-    body: &mut Vec<u8>,
-    count: usize,
-) -> Result<bool, RecordFault>
+fn read_piece<R: Source>(source: &mut R, body: &mut Vec<u8>, count: usize) -> Result<bool, RunFault>
     requires { length body.old.items + count ≤ input_limit }
     ensures bytes { IfOk result (λ is_whole. (more : List ℕ)
         × (body.new.items ≡ body.old.items ++ more)
-        × Consumes (R.left source.old) (R.left source.new) more
+        × Consumes (R.device source.old).bytes (R.device source.new).bytes more
         × (length more ≤ count)
         × (is_whole ≡ true → length more ≡ count)
-        × (is_whole ≡ false → (length more < count) × IsAtEnd (R.left source.new))) }
+        × (is_whole ≡ false → (length more < count) × IsAtEnd (R.device source.new).bytes)) }
     ensures effect_on_error { OnErr result ((more : List ℕ)
         × (length more < count)
-        × Consumes (R.left source.old) (R.left source.new) more) }
-    ensures failed { R.is_failed source.new ≡ (R.is_failed source.old || is_read_fault result) }
+        × Consumes (R.device source.old).bytes (R.device source.new).bytes more) }
+    ensures failed { (R.device source.new).has_failed ≡ ((R.device source.old).has_failed || is_read_fault result) }
 {
     let at = body.len();
     body.resize(at + count, 0)?;
@@ -179,18 +144,18 @@ fn read_piece<R: Source>(
 }
 
 /// Reads a body of `size` bytes, or what there is of it.
-fn read_body<R: Source>(source: &mut R, body: &mut Vec<u8>, size: usize) -> Result<(), RecordFault>
+fn read_body<R: Source>(source: &mut R, body: &mut Vec<u8>, size: usize) -> Result<(), RunFault>
     requires empty { body.old.items ≡ [] }
     requires bounded { size ≤ input_limit }
     ensures bytes { IfOk result
-        (λ _. Consumes (R.left source.old) (R.left source.new) body.new.items) }
+        (λ _. Consumes (R.device source.old).bytes (R.device source.new).bytes body.new.items) }
     ensures bound { IfOk result (λ _. length body.new.items ≤ size) }
     ensures end { IfOk result
-        (λ _. length body.new.items < size → IsAtEnd (R.left source.new)) }
+        (λ _. length body.new.items < size → IsAtEnd (R.device source.new).bytes) }
     ensures effect_on_error { OnErr result ((more : List ℕ)
         × (length more < size)
-        × Consumes (R.left source.old) (R.left source.new) more) }
-    ensures failed { R.is_failed source.new ≡ (R.is_failed source.old || is_read_fault result) }
+        × Consumes (R.device source.old).bytes (R.device source.new).bytes more) }
+    ensures failed { (R.device source.new).has_failed ≡ ((R.device source.old).has_failed || is_read_fault result) }
 {
     'pieces: while body.len() < size {
         let count = (size - body.len()).min(PIECE);
@@ -202,14 +167,10 @@ fn read_body<R: Source>(source: &mut R, body: &mut Vec<u8>, size: usize) -> Resu
 }
 
 /// Reads what comes next in a log of which `most` records may still come.
-fn next_step<R: Source>(
-    source: &mut R,
-    most: u32,
-    body: &mut Vec<u8>,
-) -> Result<LogStep, RecordFault>
-    ensures record_read { ReadsRecord (R.left source.old) (R.left source.new) most body.new.items result }
-    ensures failed { R.is_failed source.new ≡ (R.is_failed source.old || is_read_fault result) }
-    ensures remains_failed { R.is_failed source.old ≡ true → result ≡ Err RecordFault.Read }
+fn next_step<R: Source>(source: &mut R, most: u32, body: &mut Vec<u8>) -> Result<LogStep, RunFault>
+    ensures record_read { ReadsRecord (R.device source.old).bytes (R.device source.new).bytes most body.new.items result }
+    ensures failed { (R.device source.new).has_failed ≡ ((R.device source.old).has_failed || is_read_fault result) }
+    ensures remains_failed { HasFailed (R.device source.old) → result ≡ Err RunFault.Read }
 {
     let Some(first) = next_byte(source)? else {
         return Ok(LogStep::End);
@@ -251,18 +212,18 @@ impl Records {
     ///
     /// # Errors
     ///
-    /// [`RecordFault::Read`] if the source fails, and [`RecordFault::OutOfMemory`] if an allocation fails. What was
+    /// [`RunFault::Read`] if the source fails, and [`RunFault::Memory`] if an allocation fails. What was
     /// read until then is lost.
-    pub fn next<R: Source>(&mut self, source: &mut R) -> Result<LogStep, RecordFault>
+    pub fn next<R: Source>(&mut self, source: &mut R) -> Result<LogStep, RunFault>
         ensures over { self.old.is_over ≡ true
             → (result ≡ Ok LogStep.Over) × (self.new ≡ ended self.old) × (source.new ≡ source.old) }
         ensures record_read { self.old.is_over ≡ false
-            → ReadsRecord (R.left source.old) (R.left source.new) self.old.most self.new.body result }
+            → ReadsRecord (R.device source.old).bytes (R.device source.new).bytes self.old.most self.new.body result }
         ensures goes_on { self.old.is_over ≡ false → ReaderAfter self.old self.new result }
-        ensures failed { R.is_failed source.new
-            ≡ (R.is_failed source.old || is_read_fault result) }
-        ensures remains_failed { self.old.is_over ≡ false → R.is_failed source.old ≡ true
-            → result ≡ Err RecordFault.Read }
+        ensures failed { (R.device source.new).has_failed
+            ≡ ((R.device source.old).has_failed || is_read_fault result) }
+        ensures remains_failed { self.old.is_over ≡ false → HasFailed (R.device source.old)
+            → result ≡ Err RunFault.Read }
     {
         if self.is_over {
             return Ok(LogStep::Over);

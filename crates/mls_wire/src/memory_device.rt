@@ -78,9 +78,7 @@ impl<'a> MemorySource<'a> {
 }
 
 impl<'a> Source for MemorySource<'a> {
-    ghost left = { λ s. Some s.left };
-
-    ghost is_failed = { λ s. s.is_failed };
+    ghost device = { λ s. record { bytes = Some s.left; has_failed = s.is_failed } };
 
     fn pull(&mut self, into: &mut [u8]) -> Result<usize, DeviceFault>
         ensures bound { ReadsAtMost result into.new }
@@ -183,9 +181,7 @@ impl MemorySink {
 }
 
 impl Sink for MemorySink {
-    ghost written = { λ s. Some s.held };
-
-    ghost is_failed = { λ s. s.is_failed };
+    ghost device = { λ s. record { bytes = Some s.held; has_failed = s.is_failed } };
 
     fn push(&mut self, bytes: &[u8]) -> Result<usize, DeviceFault>
         ensures bound { WritesAtMost result bytes.now }

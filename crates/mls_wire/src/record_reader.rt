@@ -1,9 +1,11 @@
 //! A reader of a log that holds its source.
 
 ghost use Rattle.std.specs.Prelude.{◌≡◌, ◌||◌, true, false, Ok, Err};
+ghost use Rattle.mls_wire.specs.Devices.{HasFailed};
 ghost use Rattle.mls_wire.specs.Logs.{unread_log, ended, ReadsRecord, ReaderAfter, is_read_fault};
 
-use crate::log::{LogStep, RecordFault, Records};
+use crate::fault::RunFault;
+use crate::log::{LogStep, Records};
 use crate::source::Source;
 use std::alloc::Global;
 use std::marker::Model;
@@ -40,18 +42,18 @@ impl<'a, R: Source> RecordReader<'a, R> {
     }
 
     /// Reads the next record, and no byte after it, as [`Records::next`] does.
-    pub fn next(&mut self) -> Result<LogStep, RecordFault>
+    pub fn next(&mut self) -> Result<LogStep, RunFault>
         ensures over { self.old.log.is_over ≡ true → (result ≡ Ok LogStep.Over)
             × (self.new.log ≡ ended self.old.log)
             × (self.new.source ≡ self.old.source) }
         ensures record_read { self.old.log.is_over ≡ false → ReadsRecord
-            (R.left self.old.source) (R.left self.new.source)
+            (R.device self.old.source).bytes (R.device self.new.source).bytes
             self.old.log.most self.new.log.body result }
         ensures goes_on { self.old.log.is_over ≡ false → ReaderAfter self.old.log self.new.log result }
-        ensures failed { R.is_failed self.new.source
-            ≡ (R.is_failed self.old.source || is_read_fault result) }
-        ensures remains_failed { self.old.log.is_over ≡ false → R.is_failed self.old.source ≡ true
-            → result ≡ Err RecordFault.Read }
+        ensures failed { (R.device self.new.source).has_failed
+            ≡ ((R.device self.old.source).has_failed || is_read_fault result) }
+        ensures remains_failed { self.old.log.is_over ≡ false → HasFailed (R.device self.old.source)
+            → result ≡ Err RunFault.Read }
     {
         self.records.next(self.source)
     }

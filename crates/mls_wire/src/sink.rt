@@ -1,33 +1,30 @@
 //! Devices that take bytes, in pieces of any size.
 
-ghost use Rattle.std.specs.Prelude.{◌≡◌, ◌<◌, ◌||◌, ℕ, List, Bool, true, false, Option, IfOk, OnOk, OnErr, IsErr, is_err, length};
+ghost use Rattle.std.specs.Prelude.{◌≡◌, ◌<◌, ◌||◌, IfOk, OnOk, OnErr, IsErr, is_err, length};
 ghost use Rattle.std.specs.Io.{WritesAtMost};
 ghost use Rattle.std.specs.Io.KnownBytes.{Appends, WriteAppends};
-ghost use Rattle.mls_wire.specs.Devices.{AppendsPrefix};
+ghost use Rattle.mls_wire.specs.Devices.{AppendsPrefix, Device, working, HasFailed};
 
 use crate::fault::DeviceFault;
 use std::io::Write;
 
 /// A device that takes bytes.
 pub trait Sink: Drop {
-    /// The bytes that it holds, if they are known.
-    ghost written: { Self → Option (List ℕ) };
-
-    /// Whether it has failed.
-    ghost is_failed: { Self → Bool };
+    /// The bytes that it holds, if they are known, and whether it has failed.
+    ghost device: { Self → Device };
 
     /// Takes bytes from the front of `bytes`, and returns how many: 0 only if `bytes` is empty. A device that has
     /// failed returns [`DeviceFault`].
     fn push(&mut self, bytes: &[u8]) -> Result<usize, DeviceFault>
         ensures bound { WritesAtMost result bytes.now }
-        ensures bytes { WriteAppends (written self.old) (written self.new) result bytes.now }
+        ensures bytes { WriteAppends (device self.old).bytes (device self.new).bytes result bytes.now }
         ensures takes { IfOk result (λ n. 0 < length bytes.now → 0 < n) }
-        ensures failed { is_failed self.new ≡ (is_failed self.old || is_err result) }
-        ensures remains_failed { is_failed self.old ≡ true → IsErr result };
+        ensures failed { (device self.new).has_failed ≡ ((device self.old).has_failed || is_err result) }
+        ensures remains_failed { HasFailed (device self.old) → IsErr result };
 
     /// Returns whether a call has returned [`DeviceFault`].
     fn failed(&self) -> bool
-        ensures { result ≡ is_failed self.now };
+        ensures { result ≡ (device self.now).has_failed };
 }
 
 /// A sink over a writer of std. Any error of the writer is a failure of the sink. So is a write that takes nothing
@@ -41,8 +38,7 @@ pub struct StdSink<W: Write + Drop> {
 impl<W: Write + Drop> StdSink<W> {
     /// Returns a sink over the writer, which has not failed.
     pub fn new(writer: W) -> StdSink<W>
-        ensures written { ⟦<StdSink<W> as Sink>⟧.written result ≡ W.contents writer }
-        ensures fresh { ⟦<StdSink<W> as Sink>⟧.is_failed result ≡ false }
+        ensures { ⟦<StdSink<W> as Sink>⟧.device result ≡ working (W.contents writer) }
     {
         StdSink {
             writer,
@@ -52,9 +48,7 @@ impl<W: Write + Drop> StdSink<W> {
 }
 
 impl<W: Write + Drop> Sink for StdSink<W> {
-    ghost written = { λ s. W.contents s.writer };
-
-    ghost is_failed = { λ s. s.has_failed };
+    ghost device = { λ s. record { bytes = W.contents s.writer; has_failed = s.has_failed } };
 
     fn push(&mut self, bytes: &[u8]) -> Result<usize, DeviceFault> {
         if self.has_failed {
@@ -76,10 +70,10 @@ impl<W: Write + Drop> Sink for StdSink<W> {
 
 /// Pushes all the bytes, in as few pieces as the sink takes. On error a prefix of them was taken.
 pub fn write_all<K: Sink>(sink: &mut K, bytes: &[u8]) -> Result<(), DeviceFault>
-    ensures all { OnOk result (Appends (K.written sink.old) (K.written sink.new) bytes.now) }
+    ensures all { OnOk result (Appends (K.device sink.old).bytes (K.device sink.new).bytes bytes.now) }
     ensures effect_on_error { OnErr result
-        (AppendsPrefix (K.written sink.old) (K.written sink.new) bytes.now) }
-    ensures failed { K.is_failed sink.new ≡ (K.is_failed sink.old || is_err result) }
+        (AppendsPrefix (K.device sink.old).bytes (K.device sink.new).bytes bytes.now) }
+    ensures failed { (K.device sink.new).has_failed ≡ ((K.device sink.old).has_failed || is_err result) }
 {
     let mut rest = bytes;
     while !rest.is_empty() {

@@ -2,7 +2,7 @@
 //! ends with the exit status that this returns: 0 for yes and for help, 1 for no, 2 for a usage error, 3 for a fault.
 #![tactic(auto)]
 
-ghost use Rattle.std.specs.Prelude.{◌≡◌, false};
+ghost use Rattle.mls_wire.specs.Devices.{IsWorking};
 
 use mls_cli::{Progress, run_program};
 use mls_program::{LastFailure, Output, StdFiles, note_causes, read_words, run_fault};
@@ -29,7 +29,7 @@ type ReportSink<'a> = Progress<StdSink<Output<'a, Stdout>>, StdSink<Stderr>>;
 /// Returns the sink of the report, on standard output. If `is_noted`, its progress is shown on standard error. `last` is told
 /// why it fails.
 fn report_sink<'a>(rt: &HostRuntime, last: &'a LastFailure, is_noted: bool) -> ReportSink<'a>
-    ensures { ⟦<Progress<StdSink<Output<'a, Stdout>>, StdSink<Stderr>> as Sink>⟧.is_failed result ≡ false }
+    ensures { IsWorking (⟦<Progress<StdSink<Output<'a, Stdout>>, StdSink<Stderr>> as Sink>⟧.device result) }
 {
     let notes = if is_noted {
         Some(StdSink::new(rt.stderr()))

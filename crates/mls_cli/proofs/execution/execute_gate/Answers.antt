@@ -4,8 +4,7 @@ use Rattle.mls_cli.proofs.execution.execute_gate.Goals as goal
 
 pub returns-clause-executed : goal.returns-clause-executed
 returns-clause-executed g c =
-    let left = g.met.F.Files.left_is c.args.files.now in
-    let failed = g.met.F.Files.is_failed_is c.args.files.now in
+    let device = g.met.F.Files.device_is c.args.files.now in
     inr (record {
       inputs = inputs_of c.in_ok-start.start;
       is_read = c.in_ok-start.ensures.read;
@@ -13,9 +12,9 @@ returns-clause-executed g c =
         opened = c.in-Some.records;
         ended = c.gate.new.records;
         given = search rules;
-        printed = rw left c.gate.ensures.printed;
-        part = rw left c.gate.ensures.effect_on_error;
-        failed = rw failed c.gate.ensures.read;
+        printed = rw device c.gate.ensures.printed;
+        part = rw device c.gate.ensures.effect_on_error;
+        failed = rw device c.gate.ensures.read;
       });
     })
 

@@ -3,13 +3,12 @@ use Rattle.std.specs.Prelude.{option_map}
 use Rattle.mls_follow.specs.FollowerModel.{state_of}
 use Rattle.mls_start.specs.Inputs.{inputs_of}
 use Rattle.mls_cli.proofs.Saving.{going, fault_means, outcome_means, unfailed, saved-read, saved-write, means-write}
-use Rattle.mls_show.specs.declared.verdict.RunFault.TheVariants.{Read, Write}
+use Rattle.mls_wire.specs.declared.fault.RunFault.TheVariants.{Read, Write}
 use Rattle.mls_cli.proofs.execution.execute_replay.Goals as goal
 
 pub returns-in-Ok-clause-executed : goal.returns-in-Ok-clause-executed
 returns-in-Ok-clause-executed g c =
-    let left = g.met.F.Files.left_is c.args.files.now in
-    let failed = g.met.F.Files.is_failed_is c.args.files.now in
+    let device = g.met.F.Files.device_is c.args.files.now in
     inr (record {
       inputs = inputs_of c.in_ok-start.start;
       is_read = c.in_ok-start.ensures.read;
@@ -20,11 +19,11 @@ returns-in-Ok-clause-executed g c =
         replayed = inl (record {
           verdict = c.in-Ok.replayed.verdict;
           last = option_map (λ f. state_of f) c.in-Ok.replayed.follower;
-          whole = rw left c.in-Ok.ensures.replayed;
+          whole = rw device c.in-Ok.ensures.replayed;
           saved = c.store_after-stored.ensures.saved;
           going = going c.replay.result c.in-Ok.replayed _ c.in-Ok.is c.replay.ensures.write;
         });
-        failed = rw failed (saved-read {P = g.F.File.Source.is_failed c.replay.new.log ≡ true} c.store_after-stored.result c.store_after-stored.ensures.fault
+        failed = rw device (saved-read {P = (g.F.File.Source.device c.replay.new.log).has_failed ≡ true} c.store_after-stored.result c.store_after-stored.ensures.fault
             (unfailed c.replay.result c.in-Ok.replayed c.in-Ok.is c.replay.ensures.read));
       });
     })
@@ -36,8 +35,7 @@ returns-in-Ok-clause-write g c =
 
 pub returns-clause-executed : goal.returns-clause-executed
 returns-clause-executed g c =
-    let left = g.met.F.Files.left_is c.args.files.now in
-    let failed = g.met.F.Files.is_failed_is c.args.files.now in
+    let device = g.met.F.Files.device_is c.args.files.now in
     inr (record {
       inputs = inputs_of c.in_ok-start.start;
       is_read = c.in_ok-start.ensures.read;
@@ -48,10 +46,10 @@ returns-clause-executed g c =
         replayed = inr (record {
           fault = c.in-Err.fault;
           outcome_is = refl;
-          part = rw left c.in-Err.ensures.effect_on_error;
+          part = rw device c.in-Err.ensures.effect_on_error;
           write = fault_means c.replay.result c.in-Err.fault _ c.in-Err.is c.replay.ensures.write;
         });
-        failed = rw failed (outcome_means c.replay.result c.in-Err.fault Read c.in-Err.is c.replay.ensures.read);
+        failed = rw device (outcome_means c.replay.result c.in-Err.fault Read c.in-Err.is c.replay.ensures.read);
       });
     })
 

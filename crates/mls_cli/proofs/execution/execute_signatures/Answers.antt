@@ -4,8 +4,7 @@ use Rattle.mls_cli.proofs.execution.execute_signatures.Goals as goal
 
 pub returns-clause-executed : goal.returns-clause-executed
 returns-clause-executed g c =
-    let left = g.met.F.Files.left_is c.args.files.now in
-    let failed = g.met.F.Files.is_failed_is c.args.files.now in
+    let device = g.met.F.Files.device_is c.args.files.now in
     inr (record {
       inputs = inputs_of c.in_ok-start.start;
       is_read = c.in_ok-start.ensures.read;
@@ -13,9 +12,9 @@ returns-clause-executed g c =
         opened = c.in-Some.log;
         ended = c.signatures.new.log;
         given = c.in-Some.ensures.given;
-        printed = rw left c.signatures.ensures.printed;
-        part = rw left c.signatures.ensures.effect_on_error;
-        failed = rw failed c.signatures.ensures.read;
+        printed = rw device c.signatures.ensures.printed;
+        part = rw device c.signatures.ensures.effect_on_error;
+        failed = rw device c.signatures.ensures.read;
       });
     })
 

@@ -1,7 +1,7 @@
 use Rattle.std.proofs.Common.{rules, subst}
 use Rattle.std.specs.Io.KnownBytes.{Appends}
 use Rattle.mls_wire.specs.Devices.{AppendsPrefix}
-use Rattle.mls_show.specs.declared.verdict.RunFault.TheVariants.{Write}
+use Rattle.mls_wire.specs.declared.fault.RunFault.TheVariants.{Write}
 use Rattle.mls_show.proofs.Outcomes.{IfErr-is}
 use Rattle.mls_gate.proofs.Replying.{answered-behind, stopped-behind}
 use Rattle.mls_gate.proofs.records.answer_record.Goals as goal

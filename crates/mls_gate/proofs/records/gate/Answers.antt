@@ -2,7 +2,7 @@ use Rattle.std.proofs.Common.{rules}
 use Rattle.std.proofs.lemmas.Result.{IfOk-weaker, IfErr-weaker}
 use Rattle.mls_start.proofs.FirstStates.{starts_first}
 use Rattle.mls_report.proofs.Replaying.{Appends-nil, line-part}
-use Rattle.mls_show.specs.declared.verdict.RunFault.TheVariants.{Memory}
+use Rattle.mls_wire.specs.declared.fault.RunFault.TheVariants.{Memory}
 use Rattle.mls_show.proofs.Outcomes.{IfErr-is}
 use Rattle.mls_gate.proofs.Openings.{before-opening, reports-decline, in-decline, in-opening, reports-after, part-after}
 use Rattle.mls_gate.proofs.records.gate.Goals as goal

@@ -1,6 +1,6 @@
-use Rattle.std.proofs.Common.{◌≡◌, ◌+◌, false}
+use Rattle.std.proofs.Common.{◌≡◌, false}
+use Rattle.mls_wire.specs.Devices.{IsWorking}
 use Rattle.mls_start.specs.Inputs.{inputs_of}
-use Rattle.mls_gate.specs.GateReport.{record_limit}
 use Rattle.mls_gate.specs.GateSteps.{phase_of}
 use Rattle.mls_gate.specs.Phases.{Opening}
 use Rattle.mls_gate.proofs.Serving.{SoFar}
@@ -10,7 +10,9 @@ use Rattle.mls_gate.proofs.records.serve.Given as goal
 abbrev pub invariant-records : goal.invariant-records
 invariant-records g l =
     let m = g.C.SignatureCheck.meaning in
-    SoFar (Opening (inputs_of l.fn.start) (m l.fn.checker)) (g.R.Source.left l.fn.records) (g.R.Source.left l.records) (g.K.Sink.written l.fn.out) (g.K.Sink.written l.out)
-    (phase_of m l.phase) l.n
-    × (l.reader.most + l.n ≡ record_limit)
-    × (l.reader.is_over ≡ false) × (g.R.Source.is_failed l.records ≡ false) × (g.K.Sink.is_failed l.out ≡ false)
+    SoFar (Opening (inputs_of l.fn.start) (m l.fn.checker)) (g.R.Source.device l.fn.records).bytes (g.R.Source.device l.records).bytes (g.K.Sink.device l.fn.out).bytes (g.K.Sink.device l.out).bytes
+    (phase_of m l.phase) l.reader.most
+    × (l.reader.is_over ≡ false) × IsWorking (g.R.Source.device l.records) × IsWorking (g.K.Sink.device l.out)
+
+abbrev pub decreases-records : goal.decreases-records
+decreases-records g l = l.reader.most

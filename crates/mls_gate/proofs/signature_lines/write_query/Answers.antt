@@ -3,7 +3,7 @@ use Rattle.std.specs.Io.KnownBytes.{Appends}
 use Rattle.std.proofs.lemmas.Result.{on_ok_weaker}
 use Rattle.mls_wire.proofs.KnownBytes.{Appends-trans}
 use Rattle.mls_wire.specs.Devices.{AppendsPrefix}
-use Rattle.mls_show.specs.declared.verdict.RunFault.TheVariants.{Memory}
+use Rattle.mls_wire.specs.declared.fault.RunFault.TheVariants.{Memory}
 use Rattle.mls_show.proofs.Outcomes.{IfErr-is}
 use Rattle.mls_gate.specs.Answers.{query_count_line}
 use Rattle.mls_gate.proofs.Serving.{write-part}

@@ -1,7 +1,7 @@
 use Rattle.std.proofs.Common.{rules, ◌∙◌, sym, subst}
 use Rattle.std.specs.Io.KnownBytes.{Appends}
 use Rattle.mls_wire.specs.Devices.{AppendsPrefix}
-use Rattle.mls_show.specs.declared.verdict.RunFault.TheVariants.{Write}
+use Rattle.mls_wire.specs.declared.fault.RunFault.TheVariants.{Write}
 use Rattle.mls_show.proofs.Outcomes.{IfErr-is}
 use Rattle.mls_gate.proofs.VerifyLines.{none-made, made-known, made-unknown, lines-write}
 use Rattle.mls_gate.proofs.signature_lines.write_verify_lines.Goals as goal

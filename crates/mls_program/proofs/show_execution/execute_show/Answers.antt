@@ -3,14 +3,13 @@ use Rattle.mls_program.proofs.show_execution.execute_show.Goals as goal
 
 pub returns-clause-executed : goal.returns-clause-executed
 returns-clause-executed g c =
-    let left = g.met.F.Files.left_is c.args.files.now in
-    let failed = g.met.F.Files.is_failed_is c.args.files.now in
+    let device = g.met.F.Files.device_is c.args.files.now in
     inr (record {
       opened = c.in-Some.input;
       ended = c.run_show_in.new.input;
       given = search rules;
-      shown = rw left c.run_show_in.ensures.shown;
-      part = rw left c.run_show_in.ensures.effect_on_error;
+      shown = rw device c.run_show_in.ensures.shown;
+      part = rw device c.run_show_in.ensures.effect_on_error;
       memory = c.run_show_in.ensures.memory;
-      failed = rw failed c.run_show_in.ensures.read;
+      failed = rw device c.run_show_in.ensures.read;
     })

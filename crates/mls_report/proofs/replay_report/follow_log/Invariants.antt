@@ -1,4 +1,5 @@
 use Rattle.std.proofs.Common.{◌≡◌, ◌+◌, List, length, false}
+use Rattle.mls_wire.specs.Devices.{IsWorking}
 use Rattle.mls_follow.specs.FollowerModel.{checker_of, state_of}
 use Rattle.mls_report.specs.Replay.{ProcessedMessage, accepted_count, message_limit}
 use Rattle.mls_report.proofs.Replaying.{SoFar}
@@ -9,7 +10,10 @@ abbrev pub invariant-messages : goal.invariant-messages
 invariant-messages g l =
     let G = g.C.SignatureCheck.meaning (checker_of l.fn.follower) in
     ((ts : List ProcessedMessage)
-    × SoFar G (state_of l.fn.follower) (g.L.Source.left l.fn.log) (g.L.Source.left l.log) (g.K.Sink.written l.fn.out) (g.K.Sink.written l.out) ts (state_of l.follower)
+    × SoFar G (state_of l.fn.follower) (g.L.Source.device l.fn.log).bytes (g.L.Source.device l.log).bytes (g.K.Sink.device l.fn.out).bytes (g.K.Sink.device l.out).bytes ts (state_of l.follower)
     × (l.n ≡ 1 + length ts) × (l.reader.most + length ts ≡ message_limit) × (l.tally.accepted ≡ accepted_count ts) × (l.tally.accepted + l.tally.refused ≡ length ts))
     × (g.C.SignatureCheck.meaning (checker_of l.follower) ≡ G)
-    × (l.reader.is_over ≡ false) × (g.L.Source.is_failed l.log ≡ false) × (g.K.Sink.is_failed l.out ≡ false)
+    × (l.reader.is_over ≡ false) × IsWorking (g.L.Source.device l.log) × IsWorking (g.K.Sink.device l.out)
+
+abbrev pub decreases-messages : goal.decreases-messages
+decreases-messages g l = l.reader.most

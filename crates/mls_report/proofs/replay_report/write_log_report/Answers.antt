@@ -3,7 +3,7 @@ use Rattle.std.specs.Io.KnownBytes.{Appends}
 use Rattle.mls_wire.specs.Devices.{AppendsPrefix}
 use Rattle.mls_nodes.specs.declared.context.GroupContext.{GroupContext}
 use Rattle.mls_report.specs.Replay.{last_lines}
-use Rattle.mls_show.specs.declared.verdict.RunFault.TheVariants.{Write}
+use Rattle.mls_wire.specs.declared.fault.RunFault.TheVariants.{Write}
 use Rattle.mls_show.proofs.Outcomes.{IfErr-is}
 use Rattle.mls_report.proofs.Replaying.{part-ending, printed-log}
 use Rattle.mls_report.proofs.replay_report.write_log_report.Goals as goal

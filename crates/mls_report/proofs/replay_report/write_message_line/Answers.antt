@@ -1,6 +1,6 @@
 use Rattle.std.proofs.Common.{rules, arith}
 use Rattle.mls_follow.specs.FollowerModel.{state_of}
-use Rattle.mls_show.specs.declared.verdict.RunFault.TheVariants.{Write}
+use Rattle.mls_wire.specs.declared.fault.RunFault.TheVariants.{Write}
 use Rattle.mls_report.proofs.Answered.{answered}
 use Rattle.mls_show.proofs.Outcomes.{IfErr-is}
 use Rattle.mls_report.proofs.replay_report.write_message_line.Goals as goal

@@ -16,10 +16,10 @@ malformed-line n s = refl
 
 pub returns-clause-all : goal.returns-clause-all
 returns-clause-all g c =
-    subst (λ (text : List ℕ). OnOk c.write_text.result (Appends (g.K.Sink.written c.args.out.now) (g.K.Sink.written c.write_text.new.out) text))
+    subst (λ (text : List ℕ). OnOk c.write_text.result (Appends (g.K.Sink.device c.args.out.now).bytes (g.K.Sink.device c.write_text.new.out).bytes text))
     (c.as_str.ensures.value ∙ c.in_ok-line.ensures ∙ malformed-line c.args.n (state_of c.args.follower.now)) c.write_text.ensures.all
 
 pub returns-clause-effect_on_error : goal.returns-clause-effect_on_error
 returns-clause-effect_on_error g c =
-    subst (λ (text : List ℕ). OnErr c.write_text.result (AppendsPrefix (g.K.Sink.written c.args.out.now) (g.K.Sink.written c.write_text.new.out) text))
+    subst (λ (text : List ℕ). OnErr c.write_text.result (AppendsPrefix (g.K.Sink.device c.args.out.now).bytes (g.K.Sink.device c.write_text.new.out).bytes text))
     (c.as_str.ensures.value ∙ c.in_ok-line.ensures ∙ malformed-line c.args.n (state_of c.args.follower.now)) c.write_text.ensures.effect_on_error

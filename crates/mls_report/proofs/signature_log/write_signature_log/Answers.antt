@@ -18,46 +18,45 @@ messages-init g c =
 pub returns-in_err-readable-in-Record-clause-effect_on_error : goal.returns-in_err-readable-in-Record-clause-effect_on_error
 returns-in_err-readable-in-Record-clause-effect_on_error g c =
     let so_far = c.messages.invariant.0 in
-    let meets = rw c.in-Record.is at c.in_ok-next_record.ensures.record_read in
-    let below : length so_far.0 < message_limit = omega (arith, so_far.3, meets.0) in
+    let step = rw c.in-Record.is at c.in_ok-next_record.ensures.step in
+    let below : length so_far.0 < message_limit = omega (arith, so_far.3, step.0) in
     let stops = rw c.body.ensures at c.in_err-readable-in-Record.ensures.effect_on_error in
     IfErr-is c.from_residual-in_err-readable-in-Record.result _ c.in_err-readable-in-Record.field-0.0 (search rules)
-    (part-turn _ _ _ _ _ _ _ so_far.0 (state_of c.messages.follower) c.messages.n c.next_record.new.reader.body meets.1 so_far.1 so_far.2 below meets.3 meets.2 _
+    (part-turn _ _ _ _ _ _ _ so_far.0 (state_of c.messages.follower) c.messages.n c.next_record.new.reader.body step.2 so_far.1 so_far.2 below step.4 step.3 _
     c.in_err-readable-in-Record.field-0.0 stops)
 
 pub messages-preserved : goal.messages-preserved
 messages-preserved g c =
     let so_far = c.messages.invariant.0 in
-    let meets = rw c.in-Record.is at c.in_ok-next_record.ensures.record_read in
-    let goes_on = rw c.in-Record.is at c.in_ok-next_record.ensures.goes_on in
-    let below : length so_far.0 < message_limit = omega (arith, so_far.3, meets.0) in
+    let step = rw c.in-Record.is at c.in_ok-next_record.ensures.step in
+    let below : length so_far.0 < message_limit = omega (arith, so_far.3, step.0) in
     let printed = rw c.body.ensures at c.in_ok-readable-in-Record.ensures.printed in
     let a : LoggedMessage = record {
       turn = record { bytes = c.next_record.new.reader.body; answer = printed.answer; state = state_of c.write_signatures.new.follower };
       needed = printed.needed;
     } in
-    let more = so_far-snoc _ _ _ _ _ _ _ so_far.0 (state_of c.messages.follower) c.messages.n c.next_record.new.reader.body meets.1 so_far.1 so_far.2 below meets.3 meets.2 _ (state_of c.write_signatures.new.follower) c.in_ok-readable-in-Record.readable printed in
+    let more = so_far-snoc _ _ _ _ _ _ _ so_far.0 (state_of c.messages.follower) c.messages.n c.next_record.new.reader.body step.2 so_far.1 so_far.2 below step.4 step.3 _ (state_of c.write_signatures.new.follower) c.in_ok-readable-in-Record.readable printed in
     let size : length (so_far.0 ++ a ∷ []) ≡ length so_far.0 + 1 = length-append so_far.0 (a ∷ []) in
     let read = read-more so_far.0 a c.messages.is_read c.in_ok-readable-in-Record.readable so_far.4 printed.read in (
-      (so_far.0 ++ a ∷ [], more, omega (arith, size, so_far.2), omega (arith, size, so_far.3, goes_on.0), read),
-      goes_on.1,
+      (so_far.0 ++ a ∷ [], more, omega (arith, size, so_far.2), omega (arith, size, so_far.3, step.0), read),
+      step.1,
       search rules,
       search rules,
     )
 
-pub returns-in-Broken-clause-printed : goal.returns-in-Broken-clause-printed
-returns-in-Broken-clause-printed g c =
+pub returns-in-End-true-clause-printed : goal.returns-in-End-true-clause-printed
+returns-in-End-true-clause-printed g c =
     let so_far = c.messages.invariant.0 in
-    let meets = rw c.in-Broken.is at c.in_ok-next_record.ensures.record_read in
-    IfOk-weaker c.report_break.result _ _ (λ v printed. printed-break _ _ _ _ _ _ _ so_far.0 (state_of c.messages.follower) so_far.1 c.messages.reader.most c.messages.n meets.0 so_far.3 so_far.2
-    meets.1 meets.2 _ v printed.0 printed.1) c.report_break.ensures.printed
+    let step = rw (c.in-End-true.is, c.in-End-true.is_broken-test) at c.in_ok-next_record.ensures.step in
+    IfOk-weaker c.report_break.result _ _ (λ v printed. printed-break _ _ _ _ _ _ _ so_far.0 (state_of c.messages.follower) so_far.1 c.messages.reader.most c.messages.n step.1 so_far.3 so_far.2
+    step.2 step.3 _ v printed.0 printed.1) c.report_break.ensures.printed
 
-pub returns-in-Broken-clause-effect_on_error : goal.returns-in-Broken-clause-effect_on_error
-returns-in-Broken-clause-effect_on_error g c =
+pub returns-in-End-true-clause-effect_on_error : goal.returns-in-End-true-clause-effect_on_error
+returns-in-End-true-clause-effect_on_error g c =
     let so_far = c.messages.invariant.0 in
-    let meets = rw c.in-Broken.is at c.in_ok-next_record.ensures.record_read in
+    let step = rw (c.in-End-true.is, c.in-End-true.is_broken-test) at c.in_ok-next_record.ensures.step in
     line-part c.report_break.result _ c.report_break.ensures.effect_on_error
-    (λ part. in-break _ _ _ _ _ _ _ so_far.0 (state_of c.messages.follower) so_far.1 c.messages.reader.most c.messages.n meets.0 so_far.3 so_far.2 meets.1 meets.2 _ part)
+    (λ part. in-break _ _ _ _ _ _ _ so_far.0 (state_of c.messages.follower) so_far.1 c.messages.reader.most c.messages.n step.1 so_far.3 so_far.2 step.2 step.3 _ part)
     c.report_break.ensures.memory
-    (λ none. before-break _ _ _ _ _ _ _ so_far.0 (state_of c.messages.follower) so_far.1 c.messages.reader.most c.messages.n meets.0 so_far.3 so_far.2 meets.1 meets.2 _ none)
+    (λ none. before-break _ _ _ _ _ _ _ so_far.0 (state_of c.messages.follower) so_far.1 c.messages.reader.most c.messages.n step.1 so_far.3 so_far.2 step.2 step.3 _ none)
     c.report_break.ensures.fault

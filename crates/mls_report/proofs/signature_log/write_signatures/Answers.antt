@@ -22,7 +22,7 @@ returns-clause-printed g c =
       answer = c.take-answer.result;
       is_answer = subst (λ (s : State). IsAnswer all_good s c.args.body.now c.take-answer.result (state_of c.take-answer.new.self))
           c.in_ok-needed.ensures.state (let t = c.take-answer.ensures in answered _ _ _ c.take-answer.result _ t.accepted t.next t.refused t.unchanged_on_error (first_of (search rules, grind arith)));
-      wrote = subst (λ (ws : List SignatureToVerify). Appends (g.K.Sink.written c.args.out.now) (g.K.Sink.written c.write_signature_lines-written.new.out) (needed_lines R ws)) list c.in_ok-written.ensures.all;
+      wrote = subst (λ (ws : List SignatureToVerify). Appends (g.K.Sink.device c.args.out.now).bytes (g.K.Sink.device c.write_signature_lines-written.new.out).bytes (needed_lines R ws)) list c.in_ok-written.ensures.all;
       read = refl;
     }
 
@@ -39,7 +39,7 @@ returns-in_err-written-clause-effect_on_error g c =
       is_answer = subst (λ (s : State). IsAnswer all_good s c.args.body.now c.take-answer.result (state_of c.take-answer.new.self))
           c.in_ok-needed.ensures.state (let t = c.take-answer.ensures in answered _ _ _ c.take-answer.result _ t.accepted t.next t.refused t.unchanged_on_error (first_of (search rules, grind arith)));
       stops = lines-of-message R c.args.n c.in-Some.list _ _ e
-          (subst (λ (ws : List SignatureToVerify). StopsInLines (needed_lines R) ws (g.K.Sink.written c.args.out.now) (g.K.Sink.written c.write_signature_lines-written.new.out) e) list c.in_err-written.ensures.effect_on_error);
+          (subst (λ (ws : List SignatureToVerify). StopsInLines (needed_lines R) ws (g.K.Sink.device c.args.out.now).bytes (g.K.Sink.device c.write_signature_lines-written.new.out).bytes e) list c.in_err-written.ensures.effect_on_error);
     }))
 
 pub returns-in_err-write_malformed_line-clause-effect_on_error : goal.returns-in_err-write_malformed_line-clause-effect_on_error

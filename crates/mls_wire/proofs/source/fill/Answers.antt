@@ -20,13 +20,16 @@ slice_range-put_mid a k n xs ys within fits =
 pub loop-at-preserved : goal.loop-at-preserved
 loop-at-preserved g c =
     let from = c.loop-at.at in
+    let n = c.in-Ok.n in
+    let bound = rw c.in-Ok.is at c.pull.ensures.bound in
+    let given = rw c.in-Ok.is at c.pull.ensures.bytes in
     let capacity = length c.loop-at.into - from in
     let within = c.loop-at.invariant.1 in
-    let part = slice_range-put_mid from capacity c.in_ok-n.n c.loop-at.into c.pull.new.into within c.in_ok-n.ensures.bound.0 in
-    let joined = take_split from (from + c.in_ok-n.n) c.loop-at.into (put_mid from capacity c.loop-at.into c.pull.new.into) (omega arith) (take-put_mid_below _ _ _ _ _ (le_refl _) within) in (
+    let part = slice_range-put_mid from capacity n c.loop-at.into c.pull.new.into within bound.0 in
+    let joined = take_split from (from + n) c.loop-at.into (put_mid from capacity c.loop-at.into c.pull.new.into) (omega arith) (take-put_mid_below _ _ _ _ _ (le_refl _) within) in (
       search rules,
       search rules,
-      subst (Consumes _ _) (ap (λ l. take from c.loop-at.into ++ l) (sym part) ∙ joined) (Consumes-trans _ _ _ _ _ c.loop-at.invariant.2 c.in_ok-n.ensures.bytes.0),
+      subst (Consumes _ _) (ap (λ l. take from c.loop-at.into ++ l) (sym part) ∙ joined) (Consumes-trans _ _ _ _ _ c.loop-at.invariant.2 given.0),
       search rules,
       search rules,
     )

@@ -10,8 +10,8 @@ use std::alloc::{AllocError, Global};
 use std::collections::BTreeMap;
 use std::marker::Model;
 
-/// The proposals that members sent in the current epoch, in the order in which they were accepted, an index of their
-/// references, and the fingerprints of their PreSharedKeyIDs.
+/// The proposals that were accepted in the current epoch, of members and of senders outside the group (RFC 9420, 12.4 and
+/// 12.1.8), in their order, an index of their references, and the fingerprints of their PreSharedKeyIDs.
 ///
 /// Contracts see the list of the proposals.
 #[derive(Drop)]

@@ -110,6 +110,15 @@ IsMemberFault G suite group_id required t (SignatureKeyRepeated i) = FailsLeafRu
 IsMemberFault G suite group_id required t (LeafSignature i) = FailsLeafRule G suite group_id required t 5 i
 IsMemberFault G suite group_id required t OutOfMemory = Unit {0}
 
+-- `member_number fault` is the number of the rule that fails; 0 for OutOfMemory.
+abbrev pub member_number : MemberFault → ℕ
+member_number (ExtensionUnlisted i) = 1
+member_number (RequirementUnmet i) = 2
+member_number (CredentialUnsupported i) = 3
+member_number (SignatureKeyRepeated i) = 4
+member_number (LeafSignature i) = 5
+member_number OutOfMemory = 0
+
 -- Each leaf node of a tree is valid, or some rule fails first at some leaf.
 abbrev pub MembersOrFault : Type 0
 MembersOrFault = (G : VerifyFn) (suite : ℕ) (group_id : List ℕ) (required : RequiredCapabilities) (t : Tree)

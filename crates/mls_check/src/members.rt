@@ -6,7 +6,7 @@ ghost use Rattle.mls_wire.specs.Limits.{vector_limit};
 ghost use Rattle.mls_nodes.specs.LeafNodeTBS.{leaf_tbs};
 ghost use Rattle.mls_tree.specs.Tree.{leaf_at};
 ghost use Rattle.mls_check.specs.Signatures.{VerifyFn};
-ghost use Rattle.mls_check.specs.LeafValidation.{LeavesAreValid, IsMemberFault, FindsFailing, supports_required, is_leaf_signed};
+ghost use Rattle.mls_check.specs.LeafValidation.{LeavesAreValid, IsMemberFault, FindsFailing, member_number, supports_required, is_leaf_signed};
 
 use crate::capability_support::supports_required;
 use crate::plain_leaves::{are_plain, first_unlisted_extension, first_unsupported};
@@ -43,6 +43,22 @@ pub enum MemberFault {
     /// An allocation failed.
     #[error("out of memory")]
     OutOfMemory,
+}
+
+impl MemberFault {
+    /// Returns the number of the rule that fails, from 1 to 5; 0 for `OutOfMemory`.
+    pub fn number(&self) -> u8
+        ensures { result ≡ member_number self.now }
+    {
+        match self {
+            MemberFault::ExtensionUnlisted(_) => 1,
+            MemberFault::RequirementUnmet(_) => 2,
+            MemberFault::CredentialUnsupported(_) => 3,
+            MemberFault::SignatureKeyRepeated(_) => 4,
+            MemberFault::LeafSignature(_) => 5,
+            MemberFault::OutOfMemory => 0,
+        }
+    }
 }
 
 impl From<OutOfMemory> for MemberFault {

@@ -1,6 +1,6 @@
 //! Sets of receipts that grow, and the checker that such a set makes.
 
-ghost use Rattle.std.specs.Prelude.{◌≡◌, ℕ, List, [], ◌∷◌, IfOk, IfErr, OnOk, OnErr};
+ghost use Rattle.std.specs.Prelude.{◌≡◌, ℕ, List, [], ◌∷◌, IfOk, IfErr, OnOk, OnErr, false};
 ghost use Rattle.mls_check.specs.Receipts.{IsReceipts, IsReceiptsFault};
 ghost use Rattle.mls_check.specs.ReceiptSets.{has_digest, HaveSameDigests, with_receipt};
 
@@ -73,10 +73,11 @@ impl Receipts {
     ///
     /// # Errors
     ///
-    /// [`OutOfMemory`]; the set is unchanged.
+    /// [`OutOfMemory`], only if the set does not have the receipt yet; the set is unchanged.
     pub fn learn(&mut self, digest: [u8; 32]) -> Result<(), OutOfMemory>
         ensures learnt { OnOk result (HaveSameDigests (digest ∷ self.old) self.new) }
         ensures unchanged { OnErr result (self.new ≡ self.old) }
+        ensures added { OnErr result (has_digest self.old digest ≡ false) }
     {
         self.digests.insert(digest)?;
         Ok(())

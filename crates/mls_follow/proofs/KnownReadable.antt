@@ -1,13 +1,12 @@
 -- What the proposals that a follower knows would require can be read, and so what is required after a commit.
-use Rattle.std.proofs.Common.{◌≡◌, ◌∙◌, ℕ, List, [], ◌∷◌, Bool, true, false, Option, Some, None, IsSome, Result, Ok, Err, refl, sym, ap, subst}
-use Rattle.std.specs.Prelude.{if◌then◌else◌, ◌&&◌, option_map, option_and_then}
+use Rattle.std.proofs.Common.{◌≡◌, ℕ, List, [], ◌∷◌, length, map, Bool, true, false, Option, Some, None, IsSome, is_some, refl, sym, ap, subst}
+use Rattle.std.specs.Prelude.{if◌then◌else◌, ◌&&◌, ◌==◌, not, option_map, option_and_then}
 use Rattle.std.specs.Str.{bytes_eq}
 use Rattle.std.proofs.lemmas.Bool.{false≢true}
 use Rattle.std.proofs.lemmas.List.Elements.{All-nil, All-head, All-tail, All-push}
 use Rattle.std.proofs.lemmas.Option.{none-some, same_Some, option_and_then_some}
-use Rattle.mls_nodes.specs.declared.leaf.LeafNode.{LeafNode}
 use Rattle.mls_nodes.specs.declared.required_capabilities.RequiredCapabilities.{RequiredCapabilities}
-use Rattle.mls_tree.specs.Tree.{Tree, leaf_at}
+use Rattle.mls_tree.specs.Tree.{Tree}
 use Rattle.mls_check.specs.Signatures.{VerifyFn}
 use Rattle.mls_msgs.specs.declared.authenticated.AuthenticatedParts.{AuthenticatedParts}
 use Rattle.mls_msgs.specs.declared.commit.Commit.{Commit}
@@ -15,36 +14,31 @@ use Rattle.mls_msgs.specs.declared.framed_content.Content.{Content}
 use Rattle.mls_msgs.specs.declared.framed_content.Content.TheVariants as contents
 use Rattle.mls_msgs.specs.declared.framed_content.Sender.{Sender}
 use Rattle.mls_msgs.specs.declared.framed_content.Sender.TheVariants as senders
-use Rattle.mls_msgs.specs.declared.message.Message.{Message}
 use Rattle.mls_msgs.specs.declared.message.Message.TheVariants as messages
-use Rattle.mls_msgs.specs.declared.profile.Profile.{Profile}
-use Rattle.mls_msgs.specs.declared.profile.Profile.TheVariants.{Members, Full}
 use Rattle.mls_msgs.specs.declared.proposal.Proposal.{Proposal}
-use Rattle.mls_signatures.specs.SigningKeys.{outside_key}
 use Rattle.mls_msgs.specs.declared.proposal.Proposal.TheVariants.{Add, Update, Remove, ContextExtensions, PreSharedKey, ReInit, ExternalInit}
 use Rattle.mls_msgs.specs.declared.proposal.ProposalOrRef.{ProposalOrRef}
 use Rattle.mls_msgs.specs.declared.proposal.ProposalOrRef.TheVariants as entries
 use Rattle.mls_apply.specs.declared.list_item.ListItem.{ListItem}
 use Rattle.mls_apply.specs.declared.list_item.KnownProposal.{KnownProposal}
-use Rattle.mls_apply.specs.declared.refusal.Refusal.{Refusal}
 use Rattle.mls_apply.specs.ContextExtensions.{proposed_extensions, first_some, extensions_of}
 use Rattle.mls_apply.specs.JoinRules.{join_items}
 use Rattle.mls_apply.specs.ResolvedList.{find_known, item_of, entry_item, with_first, resolved}
-use Rattle.mls_apply.specs.ProposalRules.{all_inline, holds_if_by_value, valid_if_extensions, are_valid_extensions}
-use Rattle.mls_apply.specs.RuleLists.{first_failing}
+use Rattle.mls_apply.specs.ProposalRules.{checked_refusal, checked_rules, all_inline, holds_if_by_value, valid_if_extensions, are_valid_extensions}
 use Rattle.mls_apply.proofs.Merging.{came_from}
-use Rattle.mls_apply.proofs.RuleLists.{AreKept, passed, refused}
+use Rattle.mls_apply.proofs.RuleLists.{AreKept, passed}
+use Rattle.mls_nodes.specs.declared.context.GroupContext.{GroupContext}
+use Rattle.mls_hash.specs.SuiteHash.{hash_length, hash_of}
+use Rattle.mls_state.specs.declared.known_entry.KnownEntry.{KnownEntry}
 use Rattle.mls_follow.specs.State.{State}
+use Rattle.mls_follow.specs.StoredState.{stored_entry}
+use Rattle.mls_follow.specs.Resumption.{can_hold, is_receivable, with_pending, CanHoldEntries}
+use Rattle.mls_follow.proofs.Resumable.{followers_resumable}
 use Rattle.mls_follow.specs.ReadableExtensions.{AreReadable, FollowersKnowReadable, CommitsAreReadable}
-use Rattle.mls_follow.specs.MessageRules.{required_after, proposal_message_rules, content_rules, leaf_rules, signed_proposal_rules, outside_content_rules, outside_rules, if_full, sender_rules, frame_rules, message_rules, reference_of}
-use Rattle.mls_follow.specs.NextState.{Transition, after_proposal, committed, after_tree, commit_tree, with_list, after_commit, after_content, after_join, after_outside, after_sender, next}
+use Rattle.mls_follow.specs.MessageRules.{required_after}
+use Rattle.mls_follow.specs.NextState.{Transition, committed, after_tree, commit_tree, with_list, after_commit, after_join}
 use Rattle.mls_apply.specs.Transcript.{confirmed_hash, interim_hash}
 use Rattle.mls_tree.specs.TreeHash.{tree_hash}
-use Rattle.mls_hash.specs.SuiteHash.{hash_of}
-use Rattle.mls_follow.specs.Acceptance.{IsAcceptable, IsNext}
-use Rattle.mls_follow.specs.Runs.{IsTransition, Call, IsRun}
-use Rattle.mls_follow.specs.declared.taken.Taken.{Taken}
-use Rattle.mls_follow.proofs.Answering.{one_message}
 
 -- ---- the list of a commit
 
@@ -133,79 +127,41 @@ join-forgets s a (contents.Commit c) step e = commit-forgets s a senders.NewMemb
 knows_none : (known : List KnownProposal) → known ≡ [] → AreReadable known
 knows_none known none = subst AreReadable (sym none) (All-nil (λ k. valid_if_extensions k.proposal ≡ true))
 
-module _ (G : VerifyFn) (s : State) (all : AreReadable s.known) (required : RequiredCapabilities) where
-  -- a proposal that is known now was judged
-  offer-readable : (a : AuthenticatedParts) (sender : Sender) (p : Proposal) → AreKept (proposal_message_rules G s a sender p) → valid_if_extensions p ≡ true
-  offer-readable a sender p kept =
+-- ---- pending proposals
+
+none-if : {A : Type 0} (o : Option A) → not (is_some o) ≡ true → o ≡ None
+none-if None e = refl
+none-if (Some x) e = absurd (false≢true e)
+
+module _ (G : VerifyFn) where
+  -- a proposal that was judged
+  judged-readable : (context : GroupContext) (t : Tree) (sender : Sender) (p : Proposal) → checked_refusal G context t sender p ≡ None
+      → valid_if_extensions p ≡ true
+  unfolding checked_refusal
+  judged-readable context t sender p none =
+      let kept : AreKept (checked_rules G context t sender p) = record { none = none } in
       let b = passed kept in
       let c = passed b.1 in
       let d = passed c.1 in
       let e = passed d.1 in
       (passed e.1).0
 
-  proposal-readable : (sender : Sender) (p : Proposal) (o : Option (List ℕ)) (step : Transition) → valid_if_extensions p ≡ true → option_map (after_proposal s sender p) o ≡ Some step
-      → AreReadable step.state.known
-  proposal-readable sender p o step h e =
-      let w = came_from (after_proposal s sender p) o step e in
-      subst (λ (u : Transition). AreReadable u.state.known) w.2
-      (All-push (λ k. valid_if_extensions k.proposal ≡ true) s.known (record { reference = w.0; sender = sender; proposal = p }) all h)
+  can-hold-readable : (s : State) (k : KnownProposal) → can_hold G s k ≡ true → valid_if_extensions k.proposal ≡ true
+  unfolding can_hold
+  can-hold-readable s k can =
+      let a = is_receivable s k in
+      let b = length k.reference == hash_length s.context.cipher_suite in
+      let c = not (is_some (find_known s.known k.reference)) in
+      let judged = checked_refusal G s.context s.tree k.sender k.proposal in
+      judged-readable s.context s.tree k.sender k.proposal (none-if judged (both_true (a && b && c) (not (is_some judged)) can).1)
 
-  module _ (a : AuthenticatedParts) (step : Transition) where
-    content-readable : (i : ℕ) (x : LeafNode) (content : Content) → AreKept (content_rules G s required a i x content) → after_content s a i content ≡ Some step
-        → AreReadable step.state.known
-    content-readable i x (contents.Application sent) kept e = absurd (refused kept)
-    content-readable i x (contents.Proposal p) kept e = proposal-readable (senders.Member i) p (reference_of s.context a) step (offer-readable a (senders.Member i) p (passed kept).1) e
-    content-readable i x (contents.Commit c) kept e = knows_none step.state.known
-        (commit-forgets s a (senders.Member i) c (resolved (senders.Member i) s.known c.proposals) step e)
-
-    leaf-readable : (i : ℕ) (o : Option LeafNode) → AreKept (leaf_rules G s required a i o) → after_content s a i a.content.content ≡ Some step → AreReadable step.state.known
-    leaf-readable i None kept e = absurd (refused kept)
-    leaf-readable i (Some x) kept e = content-readable i x a.content.content kept e
-
-    signed-readable : (sender : Sender) (p : Proposal) (o : Option (List ℕ)) → AreKept (signed_proposal_rules G s a sender p o)
-        → option_map (after_proposal s sender p) (reference_of s.context a) ≡ Some step → AreReadable step.state.known
-    signed-readable sender p None kept e = absurd (refused kept)
-    signed-readable sender p (Some key) kept e = proposal-readable sender p (reference_of s.context a) step (offer-readable a sender p (passed kept).1) e
-
-    outside-content-readable : (sender : Sender) (o : Option (List ℕ)) (content : Content) → AreKept (outside_content_rules G s a sender o content)
-        → after_outside s a sender content ≡ Some step → AreReadable step.state.known
-    outside-content-readable sender o (contents.Application sent) kept e = absurd (refused kept)
-    outside-content-readable sender o (contents.Proposal p) kept e = signed-readable sender p o (passed kept).1 e
-    outside-content-readable sender o (contents.Commit c) kept e = absurd (refused kept)
-
-    outside-readable : (profile : Profile) (sender : Sender) → AreKept (if_full profile (outside_rules G s a sender))
-        → after_outside s a sender a.content.content ≡ Some step → AreReadable step.state.known
-    outside-readable Members sender kept e = absurd (refused kept)
-    outside-readable Full sender kept e =
-        outside-content-readable sender (outside_key s.context sender a.content.content) a.content.content (passed kept).1 e
-
-    sender-readable : (sender : Sender) → AreKept (sender_rules G s required a sender) → after_sender s a sender ≡ Some step → AreReadable step.state.known
-    sender-readable (senders.Member i) kept e = leaf-readable i (leaf_at 0 s.tree i) kept e
-    sender-readable (senders.External j) kept e = outside-readable s.profile (senders.External j) kept e
-    sender-readable senders.NewMemberProposal kept e = outside-readable s.profile senders.NewMemberProposal kept e
-    sender-readable senders.NewMemberCommit kept e = knows_none step.state.known (join-forgets s a a.content.content step e)
-
-  step-readable : (m : Message) (step : Transition) → first_failing (message_rules G s required m) ≡ None → next s m ≡ Some step → AreReadable step.state.known
-  step-readable (messages.Public p) step kept e =
-      let frame : AreKept (frame_rules G s required p.auth) = record { none = kept } in
-      sender-readable p.auth step p.auth.content.sender (passed (passed (passed frame).1).1).1 e
-  step-readable (messages.Unread w b) step kept e = absurd (none-some step e)
-  step-readable (messages.GroupInfo g) step kept e = absurd (none-some step e)
-  step-readable (messages.KeyPackage k) step kept e = absurd (none-some step e)
-
-module _ (G : VerifyFn) (s : State) (all : AreReadable s.known) (bytes : List ℕ) where
-  accepted-readable : (step : Transition) → IsAcceptable G s bytes → IsNext s bytes step → AreReadable step.state.known
-  accepted-readable step a n =
-      step-readable G s all a.required a.message step a.rules_hold (ap (next s) (one_message a.message n.message bytes a.encoded n.encoded) ∙ n.after)
-
-  taken-readable : (answer : Result Taken Refusal) (new : State) → IsTransition G s bytes answer new → AreReadable new.known
-  taken-readable (Ok taken) new h = accepted-readable (record { taken = taken; state = new }) h.0 h.1
-  taken-readable (Err e) new h = subst (λ (u : State). AreReadable u.known) (sym h.0) all
-
-run-readable : (G : VerifyFn) (s : State) (calls : List Call) (new : State) → AreReadable s.known → IsRun G s calls new → AreReadable new.known
-run-readable G s [] new all h = subst (λ (u : State). AreReadable u.known) (sym h) all
-run-readable G s (call ∷ calls) new all h = run-readable G h.0 calls new (taken-readable G s all call.bytes call.answer h.0 h.1) h.2
+  held-readable : (s : State) (es : List KnownEntry) (new : State) → AreReadable s.known → CanHoldEntries G s es new → AreReadable new.known
+  held-readable s [] new all h = subst (λ (u : State). AreReadable u.known) (sym h) all
+  held-readable s (e ∷ es) new all h =
+      held-readable (with_pending s h.0) es new
+      (All-push (λ k. valid_if_extensions k.proposal ≡ true) s.known h.0 all (can-hold-readable s h.0 h.2)) h.3
 
 pub followers_readable : FollowersKnowReadable
-followers_readable profile G info supplied first last calls start run =
-    run-readable G first calls last (knows_none first.known (ap (λ (s : State). s.known) start.state)) run
+followers_readable G first last calls initial run =
+    held-readable G (record last { known = [] }) (map stored_entry last.known) last (knows_none [] refl)
+    (followers_resumable G first last calls initial run).held

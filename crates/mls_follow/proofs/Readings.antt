@@ -23,7 +23,6 @@ use Rattle.mls_nodes.specs.declared.node.Node.TheVariants.{Leaf, Parent}
 use Rattle.mls_tree.proofs.Filled.{filled_listing}
 use Rattle.mls_tree.specs.RatchetTree.{RatchetTree}
 use Rattle.mls_tree.specs.TreeDecoding.{IsTreeOf, IsNoTree}
-use Rattle.mls_hash.specs.Suites.{IsSupported}
 
 -- some fault of reading
 pub some_fault : WireFault
@@ -80,14 +79,6 @@ tree_or_not bytes = go (tree_at bytes) refl (fits_or_not bytes)
         inl (listed.0, record { nodes = nodes; is_tree = record { encoded = encoded; bounded = le }; full = listed.1 ∙ entries-of (filled nodes) })
 
 -- ---- numbers
-
-pub supported_or_not : (suite : ℕ) → IsSupported suite ⊎ (¬ IsSupported suite)
-supported_or_not suite = go (nat_le 1 suite) (nat_le suite 7) refl refl
-  where
-    go : (a b : Bool) → nat_le 1 suite ≡ a → nat_le suite 7 ≡ b → IsSupported suite ⊎ (¬ IsSupported suite)
-    go true true p q = inl (grind (arith, nat_tests), grind (arith, nat_tests))
-    go false b p q = inr (λ h. let le = h.0 in let t : nat_le 1 suite ≡ true = grind (arith, nat_tests) in false≢true (sym p ∙ t))
-    go true false p q = inr (λ h. let le = h.1 in let t : nat_le suite 7 ≡ true = grind (arith, nat_tests) in false≢true (sym q ∙ t))
 
 pub le_or_not : (a b : ℕ) → (a ≤ b) ⊎ (a ≤ b → ⊥)
 le_or_not a b = go (nat_le a b) refl

@@ -34,7 +34,8 @@ use Rattle.mls_follow.specs.StoredRuns.{ResumptionOrFault}
 use Rattle.mls_follow.specs.declared.resume_fault.ResumeFault.{ResumeFault}
 use Rattle.mls_follow.specs.declared.resume_fault.ResumeFault.TheVariants.{Unreadable, ChecksumDiffers, UnsupportedVersion, UnsupportedSuite, RequirementsUnreadable, Tree, Member, InterimLength, KnownInvalid, OutOfMemory}
 use Rattle.mls_follow.proofs.Pending.{held_or_not}
-use Rattle.mls_follow.proofs.Readings.{read_or_not, fits_or_not, tree_or_not, same_or_not, supported_or_not}
+use Rattle.mls_hash.proofs.Suites.{supported_or_not}
+use Rattle.mls_follow.proofs.Readings.{read_or_not, fits_or_not, tree_or_not, same_or_not}
 
 -- ---- a content
 

@@ -1,5 +1,5 @@
 -- Two verification functions that agree on the signatures of a state agree on whether a follower resumes in it.
-use Rattle.std.proofs.Common.{◌≡◌, ℕ, ◌++◌, List, [], ◌∷◌, true, Some, is_some, sym, ◌∙◌, subst}
+use Rattle.std.proofs.Common.{◌≡◌, ℕ, ◌++◌, List, [], ◌∷◌, Some, is_some, sym, ◌∙◌, subst}
 use Rattle.std.specs.Prelude.{◌==◌, ◌&&◌, not, length}
 use Rattle.mls_nodes.specs.declared.context.GroupContext.{GroupContext}
 use Rattle.mls_nodes.specs.declared.leaf.LeafNode.{LeafNode}
@@ -7,7 +7,7 @@ use Rattle.mls_nodes.specs.declared.required_capabilities.RequiredCapabilities.{
 use Rattle.mls_tree.specs.Tree.{Tree, leaf_at}
 use Rattle.mls_tree.specs.RatchetTree.{RatchetTree}
 use Rattle.mls_hash.specs.SuiteHash.{hash_length}
-use Rattle.mls_check.specs.GroupTree.{IsSupportedContext, HasMembers}
+use Rattle.mls_check.specs.GroupTree.{HasMembers}
 use Rattle.mls_check.specs.LeafValidation.{is_leaf_signed}
 use Rattle.mls_check.specs.Signatures.{VerifyFn}
 use Rattle.mls_msgs.specs.declared.framed_content.Sender.{Sender}
@@ -21,6 +21,7 @@ use Rattle.mls_apply.specs.declared.refusal.Refusal.TheVariants.{SenderNotMember
 use Rattle.mls_apply.specs.declared.list_item.KnownProposal.{KnownProposal}
 use Rattle.mls_signatures.specs.Agreement.{AgreeOn}
 use Rattle.mls_signatures.specs.SignaturesToVerify.{tree_signatures, proposal_signatures, pending_signatures, is_supported_context, all_resumption_signatures, resumption_signatures}
+use Rattle.mls_signatures.proofs.SupportedContexts.{passes_context}
 use Rattle.mls_signatures.proofs.Agreement.{front, back, from_deduplicated, given}
 use Rattle.mls_follow.specs.State.{State}
 use Rattle.mls_follow.specs.Resumption.{can_hold, is_receivable, with_pending, CanHoldEntries, base_state}
@@ -28,7 +29,6 @@ use Rattle.mls_follow.specs.StoredRuns.{SignaturesDetermineResumption}
 use Rattle.mls_follow.proofs.MessageAgreement.{adds_alike, updates_alike}
 use Rattle.mls_follow.proofs.Pending.{held_entries}
 use Rattle.mls_follow.proofs.SignatureAgreement.{tree_leaf, leaf_alike, members_alike}
-use Rattle.mls_follow.proofs.StartAgreement.{numbers_followed}
 
 module _ (G K : VerifyFn) where
   -- ---- pending proposals
@@ -78,9 +78,6 @@ module _ (G K : VerifyFn) where
 
 -- ---- a state
 
-supported : (context : GroupContext) → IsSupportedContext context → is_supported_context context ≡ true
-supported context h = numbers_followed context.version context.cipher_suite h.version h.suite.0 h.suite.1
-
 pub decide_resumptions : SignaturesDetermineResumption
 decide_resumptions G K bytes s agree h =
     let base = base_state h.content h.tree in
@@ -92,7 +89,7 @@ decide_resumptions G K bytes s agree h =
     let moved : AgreeOn G K (resumption_signatures context h.tree.tree held.0) =
     subst (λ (u : State). AgreeOn G K (resumption_signatures u.context u.tree u.known)) held.2 agree in
     let all : AgreeOn G K (leaves ++ pending) =
-    given G K (is_supported_context context) (leaves ++ pending) (supported context interim.has_members.valid_tree.readable.has_tree.supported)
+    given G K (is_supported_context context) (leaves ++ pending) (passes_context context interim.has_members.valid_tree.readable.has_tree.supported)
     (from_deduplicated G K (all_resumption_signatures context h.tree.tree held.0) moved) in
     record {
       content = h.content;

@@ -1,12 +1,10 @@
 -- Two meanings that answer the wanted signatures of a start alike start a follower alike.
-use Rattle.std.proofs.Common.{◌≡◌, ◌∙◌, ℕ, ◌≤◌, ◌++◌, true, Option, Some, sym, subst, arith}
-use Rattle.std.specs.Prelude.{◌==◌, ◌&&◌, nat_le}
-use Rattle.std.proofs.lemmas.Bool.Decides.{nat_tests}
+use Rattle.std.proofs.Common.{◌≡◌, ◌∙◌, ℕ, ◌++◌, Option, Some, sym, subst}
 use Rattle.mls_nodes.specs.declared.leaf.LeafNode.{LeafNode}
 use Rattle.mls_nodes.specs.declared.required_capabilities.RequiredCapabilities.{RequiredCapabilities}
 use Rattle.mls_tree.specs.Tree.{leaf_at}
 use Rattle.mls_tree.specs.RatchetTree.{RatchetTree}
-use Rattle.mls_check.specs.GroupTree.{IsSupportedContext, HasMembers, HasValidTree}
+use Rattle.mls_check.specs.GroupTree.{HasMembers, HasValidTree}
 use Rattle.mls_check.specs.LeafValidation.{is_leaf_signed}
 use Rattle.mls_check.specs.Signatures.{VerifyFn}
 use Rattle.mls_msgs.specs.declared.group_info.GroupInfo.{GroupInfo}
@@ -14,25 +12,20 @@ use Rattle.mls_msgs.specs.declared.profile.Profile.{Profile}
 use Rattle.mls_follow.specs.State.{State}
 use Rattle.mls_follow.specs.Start.{UsesTree, HasSigner, is_info_signed, IsStart, IsStartFault}
 use Rattle.mls_signatures.specs.Agreement.{AgreeOn}
-use Rattle.mls_signatures.specs.SignaturesToVerify.{is_supported, info_signatures, tree_signatures, all_start_signatures}
+use Rattle.mls_signatures.specs.SignaturesToVerify.{is_supported_info, info_signatures, tree_signatures, all_start_signatures}
 use Rattle.mls_follow.specs.MessageSignatures.{AgreeOnStart, SignaturesDetermineStart, SignaturesDetermineStartFault}
 use Rattle.mls_follow.specs.declared.start_fault.StartFault.{StartFault}
 use Rattle.mls_follow.specs.declared.start_fault.StartFault.TheVariants as starts
+use Rattle.mls_signatures.proofs.SupportedContexts.{passes_context}
 use Rattle.mls_signatures.proofs.Agreement.{front, back, from_deduplicated, given}
 use Rattle.mls_follow.proofs.SignatureAgreement.{tree_leaf, leaf_alike, info_alike, members_alike, faults_alike}
-
-pub numbers_followed : (version suite : ℕ) → version ≡ 1 → 1 ≤ suite → suite ≤ 7 → (version == 1 && nat_le 1 suite && nat_le suite 7) ≡ true
-numbers_followed version suite e low high = grind (arith, nat_tests)
-
-followed : (info : GroupInfo) → IsSupportedContext info.context → is_supported info ≡ true
-followed info h = numbers_followed info.context.version info.context.cipher_suite h.version h.suite.0 h.suite.1
 
 module _ (G K : VerifyFn) (info : GroupInfo) (supplied : Option RatchetTree) (agree : AgreeOnStart G K info supplied) where
   module _ (t : RatchetTree) (required : RequiredCapabilities) (valid : HasValidTree info.context (UsesTree supplied info.extensions) t required) where
     signatures : AgreeOn G K (info_signatures info (leaf_at 0 t.tree info.signer) ++ tree_signatures info.context.cipher_suite info.context.group_id 0 t.tree)
     signatures =
-        given G K (is_supported info) (info_signatures info (leaf_at 0 t.tree info.signer) ++ tree_signatures info.context.cipher_suite info.context.group_id 0 t.tree)
-        (followed info valid.readable.has_tree.supported)
+        given G K (is_supported_info info) (info_signatures info (leaf_at 0 t.tree info.signer) ++ tree_signatures info.context.cipher_suite info.context.group_id 0 t.tree)
+        (passes_context info.context valid.readable.has_tree.supported)
         (from_deduplicated G K (all_start_signatures info t.tree) (agree t valid.readable.has_tree.uses))
 
     leaves_say : (i : ℕ) (x : LeafNode) → leaf_at 0 t.tree i ≡ Some x

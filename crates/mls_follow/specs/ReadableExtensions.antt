@@ -1,11 +1,8 @@
 -- Required capabilities in pending proposals can be read (RFC 9420, 11.1 and 12.1.7). So if a proposal list satisfies
 -- its rules, what is required after it can be read, and no follower refuses a commit for that. Used by contracts.
-use Rattle.std.specs.Prelude.{◌≡◌, List, All, true, Option, Some, IsSome}
+use Rattle.std.specs.Prelude.{◌≡◌, List, All, true, Some, IsSome}
 use Rattle.mls_nodes.specs.declared.required_capabilities.RequiredCapabilities.{RequiredCapabilities}
-use Rattle.mls_tree.specs.RatchetTree.{RatchetTree}
 use Rattle.mls_check.specs.Signatures.{VerifyFn}
-use Rattle.mls_msgs.specs.declared.group_info.GroupInfo.{GroupInfo}
-use Rattle.mls_msgs.specs.declared.profile.Profile.{Profile}
 use Rattle.mls_msgs.specs.declared.framed_content.Sender.{Sender}
 use Rattle.mls_msgs.specs.declared.proposal.ProposalOrRef.{ProposalOrRef}
 use Rattle.mls_apply.specs.declared.list_item.ListItem.{ListItem}
@@ -15,18 +12,17 @@ use Rattle.mls_apply.specs.ResolvedList.{resolved}
 use Rattle.mls_apply.specs.ProposalRules.{all_inline, valid_if_extensions}
 use Rattle.mls_follow.specs.State.{State}
 use Rattle.mls_follow.specs.MessageRules.{required_after}
-use Rattle.mls_follow.specs.Start.{IsStart}
 use Rattle.mls_follow.specs.Runs.{Call, IsRun}
+use Rattle.mls_follow.specs.StoredRuns.{IsInitialState}
 
 -- `AreReadable known`: the required capabilities of each pending GroupContextExtensions can be read.
 abbrev pub AreReadable : List KnownProposal → Type 0
 AreReadable known = All (λ k. valid_if_extensions k.proposal ≡ true) known
 
--- After any run from a start, `AreReadable` holds of the pending proposals.
+-- After any run from a start or a resumption, `AreReadable` holds of the pending proposals.
 abbrev pub FollowersKnowReadable : Type 0
 FollowersKnowReadable =
-    (profile : Profile) (G : VerifyFn) (info : GroupInfo) (supplied : Option RatchetTree) (first last : State)
-    (calls : List Call) → IsStart profile G info supplied first → IsRun G first calls last
+    (G : VerifyFn) (first last : State) (calls : List Call) → IsInitialState G first → IsRun G first calls last
     → AreReadable last.known
 
 -- If `AreReadable` holds, what a proposal list requires can be read, if the proposals by value satisfy their rules.

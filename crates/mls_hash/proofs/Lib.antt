@@ -10,4 +10,5 @@ pub mod MarkedHashes
 pub mod Filling
 pub mod KeptHashing
 pub mod EncodedLeaves
+pub mod Suites
 mod CachedLists

@@ -157,14 +157,23 @@ pub from_list : (es : List (ℕ × ℕ)) (n : BTreeSet (ℕ × ℕ)) → IsFromI
 unfolding has_entry contains_entry
 from_list es n made b p = made.0 (b, p) ∙ any_same (is_at (entry_cmp (b, p))) (is_entry b p) (same_test b p) es
 
+-- the entries of a set are those of its list
+pub of_keys : (s : BTreeSet (ℕ × ℕ)) (b p : ℕ) → has_entry s b p ≡ contains_entry s.keys b p
+unfolding has_entry contains_entry
+of_keys s b p = any_same (is_at (entry_cmp (b, p))) (is_entry b p) (same_test b p) s.keys
+
 -- the first of a list, or one of the others
-pub lists-first : (e : ℕ × ℕ) (es : List (ℕ × ℕ)) (b p : ℕ) → contains_entry (e ∷ es) b p ≡ true → (e.1 ≡ p) ⊎ (contains_entry es b p ≡ true)
+pub lists-head : (e : ℕ × ℕ) (es : List (ℕ × ℕ)) (b p : ℕ) → contains_entry (e ∷ es) b p ≡ true
+    → ((e.0 ≡ b) × (e.1 ≡ p)) ⊎ (contains_entry es b p ≡ true)
 unfolding contains_entry
-lists-first e es b p h =
+lists-head e es b p h =
     elim (or_cases (is_entry b p e) (list_any (is_entry b p) es) h) [
-      | inl at ↦ inl (is_entry-same b p e at).1
+      | inl at ↦ inl (is_entry-same b p e at)
       | inr more ↦ inr more
     ]
+
+pub lists-first : (e : ℕ × ℕ) (es : List (ℕ × ℕ)) (b p : ℕ) → contains_entry (e ∷ es) b p ≡ true → (e.1 ≡ p) ⊎ (contains_entry es b p ≡ true)
+lists-first e es b p h = elim (lists-head e es b p h) [ inl at ↦ inl at.1 | inr more ↦ inr more ]
 
 -- ---- places of a list
 

@@ -13,3 +13,4 @@ pub mod Counting
 pub mod FirstFailing
 pub mod FirstIndexes
 pub mod Repeating
+pub mod Apart

@@ -12,8 +12,8 @@ use Rattle.mls_check.specs.DistinctKeys.{encryption_key}
 use Rattle.mls_check.proofs.Repeats.{no_key_above}
 use Rattle.mls_index.specs.NodeKeys.{node_key, key_at_node, fingerprint_at, is_number_of, is_number_for, AreNumbersOf}
 use Rattle.mls_index.specs.IncrementalCheck.{contains_node_index}
-use Rattle.mls_index.specs.KeyTable.{has_entry, has_number, contains_entry, base_at, HasBaseOf, IsTableOf, IsTableOfTree, TableHasBase, TableContainsKeys}
-use Rattle.mls_index.specs.KeyTableInternal.{HasListed, ListsFirst, ListsAll, listed_at, number_at, IsSettling, HasStaged, HasLeft, ContainsKeysBut}
+use Rattle.mls_index.specs.KeyTable.{has_entry, has_number, contains_entry, base_at, AddsFingerprints, HasBaseOf, IsTableOf, IsTableOfTree, TableHasBase, TableContainsKeys}
+use Rattle.mls_index.specs.KeyTableInternal.{HasListed, ListsFirst, ListsAll, listed_at, number_at, IsSettling, AddsOnly, HasStaged, HasLeft, HaveFingerprints, ContainsKeysBut}
 use Rattle.mls_index.specs.declared.node_key.KeyKind.{KeyKind}
 use Rattle.mls_index.specs.declared.node_key.KeyKind.TheVariants.{Encryption, Signature}
 use Rattle.mls_index.specs.declared.node_key.KeyNumber.{KeyNumber}
@@ -359,6 +359,26 @@ covers-more kind t k n r tail o is w h key p off there = elim (cases_eq p r) [
   | inr other ↦ number-kept k.entries n.entries key p (λ b had. w.remaining b p had) (h key p (listed-other r p tail other ∙ off) there)
 ]
 
+-- ---- numbers of the entries that come
+
+module _ (kind : KeyKind) (t : Tree) where
+  pub adds-nothing : (k n : KeyTable) → n.entries ≡ k.entries → AddsFingerprints kind t k n
+  adds-nothing k n same b p has = inl (ap (λ s. has_entry s b p) (sym same) ∙ has)
+
+  pub adds-since : (k m n : KeyTable) → m.entries ≡ k.entries → AddsFingerprints kind t m n → AddsFingerprints kind t k n
+  adds-since k m n same h b p has = elim (h b p has) [
+    | inl had ↦ inl (ap (λ s. has_entry s b p) (sym same) ∙ had)
+    | inr new ↦ inr new
+  ]
+
+  -- one more, of the number of the key there
+  pub adds-more : (k m n : KeyTable) (p : ℕ) (o : Option ℕ) → o ≡ fingerprint_at kind t p → AddsOnly o p m.entries n.entries
+      → AddsFingerprints kind t k m → AddsFingerprints kind t k n
+  adds-more k m n p o is only h b q has = elim (only b q has) [
+    | inl had ↦ h b q had
+    | inr new ↦ inr (ap (fingerprint_at kind t) (sym new.1) ∙ sym is ∙ new.0)
+  ]
+
 -- the keys at the places that changed were entered
 pub covers-all : (kind : KeyKind) (old t : Tree) (node_indices : List ℕ) (count : ℕ) (k m n : KeyTable) → count + 1 ≡ 2 * leaf_count t
     → m.entries ≡ k.entries → count ≤ length m.numbers → n.numbers ≡ m.numbers
@@ -597,3 +617,15 @@ module _ (kind : KeyKind) (t : Tree) where
     where
       numbered : (key : List ℕ) (p : ℕ) → key_at_node kind t p ≡ Some key → is_number_for (Some key) (base_at k p) ≡ true
       numbered key p there = subst (λ o. is_number_for o (base_at k p) ≡ true) there (h.numbers p)
+
+-- ---- the table of a tree
+
+module _ (kind : KeyKind) (t : Tree) where
+  pub table-chosen : (choice : KeyNumber) (k : KeyTable) → IsTableOf (number_at choice kind t) k → IsTableOfTree kind t k
+  table-chosen choice k h = table-of kind t (number_at choice kind t) k (numbers-chosen choice kind t) h
+
+  pub table-fingerprints : (k : KeyTable) → IsTableOf (number_at Fingerprint kind t) k → HaveFingerprints kind t k.entries
+  table-fingerprints k h b p has = elim (only_cases (number_at Fingerprint kind t) k h.between b p has) [
+    | inl old ↦ old
+    | inr came ↦ absurd (lists-nil k.came.items h.none_came b p came)
+  ]

@@ -1,6 +1,6 @@
 -- Node indices of keys, by number. The number of a key is its prefix or its fingerprint. A function `x` maps a node index
 -- to the number of the key there, if there is one. Used by contracts.
-use Rattle.std.specs.Prelude.{◌≡◌, ◌≢◌, ◌&&◌, ◌||◌, ℕ, ◌==◌, ◌<◌, List, [], Bool, true, false, Option, Some, None, length, slice_get, unwrap_or}
+use Rattle.std.specs.Prelude.{◌≡◌, ◌≢◌, ◌⊎◌, ◌&&◌, ◌||◌, ℕ, ◌==◌, ◌<◌, List, [], Bool, true, false, Option, Some, None, length, slice_get, unwrap_or}
 use Rattle.std.specs.BTreeSet.{BTreeSet, contains}
 use Rattle.std.specs.List.{list_any}
 use Rattle.std.specs.Ordering.{nat_cmp, ordering_then}
@@ -8,7 +8,7 @@ use Rattle.std.specs.declared.cmp.Ordering.{Ordering}
 use Rattle.mls_nodes.specs.Fingerprints.{fingerprint}
 use Rattle.mls_nodes.specs.KeyPrefix.{key_prefix}
 use Rattle.mls_tree.specs.Tree.{Tree}
-use Rattle.mls_index.specs.NodeKeys.{key_at_node, AreNumbersOf}
+use Rattle.mls_index.specs.NodeKeys.{key_at_node, fingerprint_at, AreNumbersOf}
 use Rattle.mls_index.specs.declared.node_key.KeyKind.{KeyKind}
 use Rattle.mls_index.specs.declared.key_table.KeyTable.{KeyTable}
 
@@ -59,3 +59,8 @@ pub record IsTableOfTree (kind : KeyKind) (t : Tree) (k : KeyTable) : Type 0 whe
 pub record TableContainsKeys (kind : KeyKind) (t : Tree) (k : KeyTable) : Type 0 where
   pub entries : (key : List ℕ) (p : ℕ) → key_at_node kind t p ≡ Some key → has_number k.entries key p ≡ true
   pub capacity : (key : List ℕ) (p : ℕ) → key_at_node kind t p ≡ Some key → p < length k.numbers
+
+-- `AddsFingerprints kind t old new`: each entry of `new` is one of `old`, or its number is the fingerprint of the tree's key
+-- at its node index.
+abbrev pub AddsFingerprints : KeyKind → Tree → KeyTable → KeyTable → Type 0
+AddsFingerprints kind t old new = (b p : ℕ) → has_entry new.entries b p ≡ true → (has_entry old.entries b p ≡ true) ⊎ (fingerprint_at kind t p ≡ Some b)

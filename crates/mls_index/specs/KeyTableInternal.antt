@@ -19,6 +19,19 @@ abbrev pub number_at : KeyNumber → KeyKind → Tree → ℕ → Option ℕ
 number_at Prefix kind t p = option_map key_prefix (key_at_node kind t p)
 number_at Fingerprint kind t p = fingerprint_at kind t p
 
+-- `HaveDistinctNumbers s`: no two entries have the same number.
+abbrev pub HaveDistinctNumbers : BTreeSet (ℕ × ℕ) → Type 0
+HaveDistinctNumbers s = (b p q : ℕ) → has_entry s b p ≡ true → has_entry s b q ≡ true → p ≡ q
+
+-- `HaveFingerprints kind t s`: the number of each entry is the fingerprint of the tree's key at its node index.
+abbrev pub HaveFingerprints : KeyKind → Tree → BTreeSet (ℕ × ℕ) → Type 0
+HaveFingerprints kind t s = (b p : ℕ) → has_entry s b p ≡ true → fingerprint_at kind t p ≡ Some b
+
+-- `AreDistinctOrFingerprints kind t s`: no two entries have the same number, or the number of each entry is the fingerprint
+-- of the tree's key at its node index.
+abbrev pub AreDistinctOrFingerprints : KeyKind → Tree → BTreeSet (ℕ × ℕ) → Type 0
+AreDistinctOrFingerprints kind t s = HaveDistinctNumbers s ⊎ HaveFingerprints kind t s
+
 bool_set : (a b : Bool) → IsProp (a ≡ b)
 bool_set a b = Coded-set coded_bool a b
 
@@ -88,6 +101,10 @@ pub record HasStaged (o : Option ℕ) (p : ℕ) (s n : BTreeSet (ℕ × ℕ)) : 
   pub here : (b : ℕ) → o ≡ Some b → has_entry n b p ≡ true
   pub remaining : (b q : ℕ) → has_entry s b q ≡ true → has_entry n b q ≡ true
   pub only : (b q : ℕ) → has_entry n b q ≡ true → (has_entry s b q ≡ true) ⊎ ((o ≡ Some b) × (p ≡ q))
+
+-- `AddsOnly o p s n`: each entry of `n` is one of `s`, or has this number and node index.
+abbrev pub AddsOnly : Option ℕ → ℕ → BTreeSet (ℕ × ℕ) → BTreeSet (ℕ × ℕ) → Type 0
+AddsOnly o p s n = (b q : ℕ) → has_entry n b q ≡ true → (has_entry s b q ≡ true) ⊎ ((o ≡ Some b) × (p ≡ q))
 
 -- `HasLeft left now p s n`: the entries `n` are `s` without the one of the previous number, unless it is the number that
 -- is there now.

@@ -25,6 +25,12 @@ pub record ContainsKeysOf (t : Tree) (i : TreeIndex) : Type 0 where
   pub signature : table.TableContainsKeys Signature t i.signature
   pub credentials : counts.Count t i.credentials
 
+-- `AddsFingerprintsTo t old new`: each entry of a key in `new` is one of `old`, or its number is the fingerprint of the key
+-- of `t` at its node index.
+pub record AddsFingerprintsTo (t : Tree) (old new : TreeIndex) : Type 0 where
+  pub encryption : table.AddsFingerprints Encryption t old.encryption new.encryption
+  pub signature : table.AddsFingerprints Signature t old.signature new.signature
+
 -- The index of a tree has it as its base.
 abbrev pub IndexHasBase : Type 0
 IndexHasBase = (t : Tree) (i : TreeIndex) → IsIndexOf t i → HasBase t i

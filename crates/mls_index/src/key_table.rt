@@ -7,8 +7,8 @@ ghost use Rattle.mls_tree.specs.ChangedNodes.{AgreeExceptAt};
 ghost use Rattle.mls_index.specs.FirstIndex.{FindsFirst};
 ghost use Rattle.mls_index.specs.NodeKeys.{key_at_node, is_number_for, HasKey, IsUniqueKey};
 ghost use Rattle.mls_index.specs.RepeatedKeysInternal.{FindsAmong, FindsOther, HasKeyBut};
-ghost use Rattle.mls_index.specs.KeyTable.{base_at, has_entry, HasBaseOf, IsTableOf, IsTableOfTree, TableHasBase, TableContainsKeys};
-ghost use Rattle.mls_index.specs.KeyTableInternal.{ContainsKeysBut, HasListed, ListsFirst, ListsAll, IsSettling, HasStaged, HasLeft, number_at};
+ghost use Rattle.mls_index.specs.KeyTable.{base_at, has_entry, AddsFingerprints, HasBaseOf, IsTableOf, IsTableOfTree, TableHasBase, TableContainsKeys};
+ghost use Rattle.mls_index.specs.KeyTableInternal.{AddsOnly, AreDistinctOrFingerprints, ContainsKeysBut, HaveDistinctNumbers, HasListed, ListsFirst, ListsAll, IsSettling, HasStaged, HasLeft, number_at};
 ghost use Rattle.mls_index.specs.declared.node_key.KeyKind.{KeyKind};
 
 use crate::changed_leaves::smaller;
@@ -25,8 +25,9 @@ use std::collections::BTreeSet;
 /// An entry for each key of one kind: its number and its node index. A table has a base tree. Then entries may be added
 /// for a changed tree, which are accepted or refused.
 ///
-/// The number of a key is its prefix or its fingerprint. At most one entry has a given prefix as its number, so a look-up
-/// compares few keys, whoever chooses them.
+/// The number of a key is its prefix or its fingerprint. When a table is made, no two entries have the same number, or the
+/// number of each is the fingerprint of its key. The number of each entry that is added later is the fingerprint of its key.
+/// So a look-up compares few keys, whoever chooses them.
 #[derive(Drop)]
 pub(crate) struct KeyTable {
     /// The number of each key, and its node index.
@@ -37,9 +38,10 @@ pub(crate) struct KeyTable {
     came: Vec<(u64, u32)>,
 }
 
-/// Returns whether no two entries have the same number. Nothing is proved of the answer, which decides only the cost of
-/// look-ups.
-fn have_distinct_numbers(entries: &BTreeSet<(u64, u32)>) -> bool {
+/// Returns whether no two entries have the same number. Nothing is proved of `false`, which costs only that keys are hashed.
+fn have_distinct_numbers(entries: &BTreeSet<(u64, u32)>) -> bool
+    ensures { IsTrue result → HaveDistinctNumbers entries.now }
+{
     let mut last = None;
     for entry in entries.iter() {
         if is_number(last, entry.0) {
@@ -152,7 +154,7 @@ impl KeyTable {
         kind: KeyKind,
         choice: KeyNumber,
     ) -> Result<KeyTable, AllocError>
-        ensures { IfOk result (IsTableOfTree kind tree.now.tree) }
+        ensures { IfOk result (IsTableOf (number_at choice kind tree.now.tree)) }
     {
         let KeyList { entries, numbers } = KeyList::of(alloc, tree, kind, choice)?;
         let entries = BTreeSet::from_iter(alloc, entries)?;
@@ -164,13 +166,15 @@ impl KeyTable {
     }
 
     /// Returns the table of a tree's keys. Their numbers are their prefixes if these are all different, else their
-    /// fingerprints. So no key is hashed unless two have the same prefix.
+    /// fingerprints. So no two entries have the same number, or each number is a fingerprint, and no key is hashed unless
+    /// two have the same prefix.
     pub(crate) fn of(
         alloc: Global,
         tree: &PublicTree,
         kind: KeyKind,
     ) -> Result<KeyTable, AllocError>
-        ensures { IfOk result (IsTableOfTree kind tree.now.tree) }
+        ensures index { IfOk result (IsTableOfTree kind tree.now.tree) }
+        ensures numbers { IfOk result (λ k. AreDistinctOrFingerprints kind tree.now.tree k.entries) }
     {
         let table = KeyTable::with(alloc, tree, kind, KeyNumber::Prefix)?;
         if have_distinct_numbers(&table.entries) {
@@ -196,6 +200,7 @@ impl KeyTable {
     /// Adds an entry for a key at a node index, unless there is one.
     fn insert_at(&mut self, number: Option<u64>, node_index: u32) -> Result<(), AllocError>
         ensures index_base { (x : ℕ → Option ℕ) → TableHasBase x self.old → TableHasBase x self.new }
+        ensures adds_only { AddsOnly number node_index self.old.entries self.new.entries }
         ensures staged { OnOk result (HasStaged number node_index self.old.entries self.new.entries) }
         ensures numbers { self.new.numbers ≡ self.old.numbers }
     {
@@ -221,6 +226,7 @@ impl KeyTable {
         ensures index_base { (x : ℕ → Option ℕ) → TableHasBase x self.old → TableHasBase x self.new }
         ensures index_contains_keys { OnOk result (ContainsKeysBut node_indices.now kind tree.now.tree self.old
             → ContainsKeysBut [] kind tree.now.tree self.new) }
+        ensures adds_fingerprints { AddsFingerprints kind tree.now.tree self.old self.new }
         ensures numbers { self.new.numbers ≡ self.old.numbers }
     {
         let mut rest = node_indices;
@@ -231,8 +237,8 @@ impl KeyTable {
         Ok(())
     }
 
-    /// Adds an entry for each key at these node indices of a tree, and reserves memory so that the tree can become the
-    /// base tree.
+    /// Adds an entry for each key at these node indices of a tree, by its fingerprint, and reserves memory so that the tree
+    /// can become the base tree. On error some entries may have been added, each by its fingerprint.
     pub(crate) fn stage(
         &mut self,
         tree: &PublicTree,
@@ -242,6 +248,7 @@ impl KeyTable {
         ensures index_base { (x : ℕ → Option ℕ) → TableHasBase x self.old → TableHasBase x self.new }
         ensures index_contains_keys { OnOk result ((t : Tree) → TableContainsKeys kind t self.old
             → AgreeExceptAt node_indices.now t tree.now.tree → TableContainsKeys kind tree.now.tree self.new) }
+        ensures adds_fingerprints { AddsFingerprints kind tree.now.tree self.old self.new }
     {
         self.make_room(node_index_count(tree))?;
         self.insert_all(tree, kind, node_indices)

@@ -6,7 +6,7 @@ ghost use Rattle.mls_tree.specs.ChangedNodes.{AgreeExceptAt};
 ghost use Rattle.mls_check.specs.LeafValidation.{FindsFailing, supports_used_credentials};
 ghost use Rattle.mls_index.specs.NodeKeys.{HasKey, IsUniqueKey};
 ghost use Rattle.mls_index.specs.RepeatedKeys.{FindsRepeatedAt};
-ghost use Rattle.mls_index.specs.TreeIndex.{HasBase, IsIndexOf, ContainsKeysOf};
+ghost use Rattle.mls_index.specs.TreeIndex.{HasBase, IsIndexOf, ContainsKeysOf, AddsFingerprintsTo};
 ghost use Rattle.mls_index.specs.IncrementalCheck.{AreUniqueKeys, SupportCredentials};
 
 use crate::changed_leaves::smaller;
@@ -26,7 +26,8 @@ use std::alloc::Global;
 /// that was added since, the number is the fingerprint: the first eight bytes of the key's SHA-256.
 ///
 /// A look-up searches the sorted entries for the prefix and for the fingerprint of the key. It compares the key with that
-/// of each entry found. Whoever chooses the keys, these are few: at most one entry has a given prefix as its number, and
+/// of each entry found. Whoever chooses the keys, these are few. When the index is made, no two entries of a kind have the
+/// same number, or each number is a fingerprint. Each entry that is added later has the fingerprint as its number. Different
 /// keys with equal fingerprints are hard to find, by SHA-256.
 ///
 /// # Following a change of the tree
@@ -59,15 +60,17 @@ impl TreeIndex {
 
     /// Adds the keys and the leaves of a tree at these node indices, which must include all at which it differs from
     /// the base tree. A node index may be listed twice. Call it again for more changes, each time with all node indices
-    /// at which the tree then differs from the base tree.
+    /// at which the tree then differs from the base tree. The number of each entry that is added is the fingerprint of its
+    /// key.
     ///
     /// # Errors
     ///
-    /// `OutOfMemory`. Some of the keys may have been added. The base tree is unchanged.
+    /// `OutOfMemory`. Some of the keys may have been added, each by its fingerprint. The base tree is unchanged.
     pub fn stage(&mut self, tree: &PublicTree, node_indices: &[u32]) -> Result<(), OutOfMemory>
         ensures index_base { (t : Tree) → HasBase t self.old → HasBase t self.new }
         ensures index_contains_keys { OnOk result ((t : Tree) → HasBase t self.old
             → AgreeExceptAt node_indices.now t tree.now.tree → ContainsKeysOf tree.now.tree self.new) }
+        ensures numbers { AddsFingerprintsTo tree.now.tree self.old self.new }
     {
         self.encryption
             .stage(tree, KeyKind::Encryption, node_indices)?;

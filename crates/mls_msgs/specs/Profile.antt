@@ -1,5 +1,8 @@
 -- Profiles (own rule), and the values in each profile. Used by contracts.
-use Rattle.std.specs.Prelude.{ℕ, List, [], ◌∷◌, Bool, true, false, ◌&&◌, Option, None, if◌then◌else◌}
+use Rattle.std.specs.Prelude.{ℕ, List, [], ◌∷◌, Bool, true, false, ◌&&◌, Option, None, Result, Ok, Err, if◌then◌else◌}
+use Rattle.mls_wire.specs.declared.fault.WireFault.{WireFault}
+use Rattle.mls_wire.specs.declared.fault.CodecFault.{CodecFault}
+use Rattle.mls_wire.specs.declared.fault.CodecFault.TheVariants.{Wire}
 use Rattle.mls_msgs.specs.Layout.{proposal}
 use Rattle.mls_msgs.specs.Authenticated.{authenticated_content}
 use Rattle.mls_msgs.specs.Message.{message}
@@ -78,3 +81,11 @@ authenticated_in profile a = tested (λ x. is_in profile (is_members_authenticat
 -- `message_in profile m` is the encoding of the message `m`, if it is in `profile`.
 unfoldable pub message_in : Profile → Message → Option (List ℕ)
 message_in profile m = tested (λ x. is_in profile (is_members_message x)) message m
+
+-- `fault_among profile checked otherwise` is the fault of bytes that are refused in `profile`, where `checked` is what a
+-- reader found who looks for a type outside the members' profile: the fault that it found, in the members' profile, else
+-- `otherwise`.
+abbrev pub fault_among : {A : Type 0} → Profile → Result A CodecFault → WireFault → CodecFault
+fault_among Members (Err fault) otherwise = fault
+fault_among Members (Ok _) otherwise = Wire otherwise
+fault_among Full checked otherwise = Wire otherwise

@@ -1,11 +1,11 @@
 //! Profiles: the proposal types that are decoded (own rule).
 
-ghost use Rattle.std.specs.Prelude.{◌≡◌, ◌<◌, length, Some, true, OnOk};
+ghost use Rattle.std.specs.Prelude.{◌≡◌, ◌<◌, length, Some, Err, true, OnOk};
 ghost use Rattle.std.specs.Result.{IsErr};
 ghost use Rattle.mls_wire.specs.Parsing.{items_at};
 ghost use Rattle.mls_msgs.specs.Parsing.{proposal_at, proposal_or_ref_at, commit_at, content_at, framed_content_at};
 ghost use Rattle.mls_msgs.specs.MembersReading.{passes, entries_pass};
-ghost use Rattle.mls_msgs.specs.Profile.{is_members_proposal, is_members_entry, are_members_entries, is_members_content, is_members_authenticated, is_members_message, is_in};
+ghost use Rattle.mls_msgs.specs.Profile.{is_members_proposal, is_members_entry, are_members_entries, is_members_content, is_members_authenticated, is_members_message, is_in, fault_among};
 
 use crate::authenticated::Authenticated;
 use crate::bad_tag::bad_tag;
@@ -126,7 +126,9 @@ impl Profile {
         self,
         checked: Result<(), CodecFault>,
         otherwise: WireFault,
-    ) -> CodecFault {
+    ) -> CodecFault
+        ensures { result ≡ fault_among self checked otherwise }
+    {
         match (self, checked) {
             (Profile::Members, Err(fault)) => fault,
             _ => CodecFault::Wire(otherwise),
@@ -137,6 +139,7 @@ impl Profile {
 /// Returns the fault of a judgement that found one.
 pub(crate) fn fault_found(checked: Result<(), CodecFault>) -> CodecFault
     requires { IsErr checked }
+    ensures { checked ≡ Err result }
 {
     match checked {
         Ok(()) => unreachable!(),

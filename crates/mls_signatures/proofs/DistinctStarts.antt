@@ -21,7 +21,7 @@ use Rattle.mls_msgs.specs.declared.group_info.GroupInfo.{GroupInfo}
 use Rattle.mls_signatures.proofs.Agreement.{same_is}
 use Rattle.mls_signatures.proofs.LeafLists.{of_leaf_in, signatures_below, tree-joined}
 use Rattle.mls_signatures.specs.DistinctStarts.{StartSignaturesAreDistinct}
-use Rattle.mls_signatures.specs.SignaturesToVerify.{sign_content_signatures, labeled_signatures, info_signatures, non_blank_leaf_signatures, tree_signatures, is_same, without_signature, deduplicated, is_supported}
+use Rattle.mls_signatures.specs.SignaturesToVerify.{sign_content_signatures, labeled_signatures, info_signatures, non_blank_leaf_signatures, tree_signatures, is_same, without_signature, deduplicated, is_supported_info}
 use Rattle.mls_signatures.specs.declared.signature_to_verify.SignatureToVerify.{SignatureToVerify}
 
 -- ---- lists without duplicates
@@ -228,4 +228,4 @@ module _ (info : GroupInfo) (t : Tree) (own : all_leaves (has_unique_signature_k
   all_or_none false = refl
 
 pub start_signatures_are_distinct : StartSignaturesAreDistinct
-start_signatures_are_distinct info t own = all_or_none info t own (is_supported info)
+start_signatures_are_distinct info t own = all_or_none info t own (is_supported_info info)

@@ -9,3 +9,4 @@ pub mod KeptInPlace
 pub mod AddedLeaves
 pub mod ExternalKeys
 pub mod DistinctStarts
+pub mod SupportedContexts

@@ -2,13 +2,14 @@
 -- rule), and those of a message of a group (5.1.2, 6.1, 7.2, 10.1, 12.1.8). No checker is an argument, so they depend on no
 -- verification. Some may be listed that no rule checks, as if another rule refuses the message before.
 -- Used by contracts. `suite` and `group_id`: those of the group's context.
-use Rattle.std.specs.Prelude.{ℕ, ◌+◌, ◌==◌, ◌&&◌, not, nat_le, if◌then◌else◌, Bool, List, [], ◌∷◌, ◌++◌, filter, Option, Some, None, codes}
+use Rattle.std.specs.Prelude.{ℕ, ◌+◌, ◌==◌, ◌&&◌, not, if◌then◌else◌, Bool, List, [], ◌∷◌, ◌++◌, filter, Option, Some, None, codes}
 use Rattle.std.specs.Str.{bytes_eq}
 use Rattle.mls_nodes.specs.declared.context.GroupContext.{GroupContext}
 use Rattle.mls_nodes.specs.declared.leaf.LeafNode.{LeafNode}
 use Rattle.mls_nodes.specs.LeafNodeTBS.{leaf_tbs}
 use Rattle.mls_tree.specs.Tree.{Tree, leaf, branch, leaf_count, leaf_at}
 use Rattle.mls_tree.specs.TreeOperations.{added_leaf}
+use Rattle.mls_hash.specs.Suites.{is_supported}
 use Rattle.mls_check.specs.Signatures.{sign_content}
 use Rattle.mls_msgs.specs.Tbs.{content_label, content_tbs, package_label, package_tbs, info_label, info_tbs}
 use Rattle.mls_msgs.specs.declared.authenticated.AuthenticatedParts.{AuthenticatedParts}
@@ -123,17 +124,17 @@ deduplicated (q ∷ qs) = q ∷ without_signature q (deduplicated qs)
 -- `is_supported_context context`: the version and the cipher suite of the context are supported (RFC 9420, 6 and 17.1).
 abbrev pub is_supported_context : GroupContext → Bool
 is_supported_context context =
-    context.version == 1 && nat_le 1 context.cipher_suite && nat_le context.cipher_suite 7
+    context.version == 1 && is_supported context.cipher_suite
 
--- `is_supported info`: the version and the cipher suite of the GroupInfo's context are supported.
-abbrev pub is_supported : GroupInfo → Bool
-is_supported info = is_supported_context info.context
+-- `is_supported_info info`: those of the GroupInfo's context are supported.
+abbrev pub is_supported_info : GroupInfo → Bool
+is_supported_info info = is_supported_context info.context
 
 -- `all_start_signatures info t` is the signature of the GroupInfo, then each leaf's from left to right. Empty if the version or
 -- the cipher suite is not supported.
 abbrev pub all_start_signatures : GroupInfo → Tree → List SignatureToVerify
 all_start_signatures info t =
-    if is_supported info
+    if is_supported_info info
     then info_signatures info (leaf_at 0 t info.signer) ++
     tree_signatures info.context.cipher_suite info.context.group_id 0 t
     else []

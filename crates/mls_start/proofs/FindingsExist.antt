@@ -24,7 +24,8 @@ use Rattle.mls_msgs.specs.declared.message.Message.{Message}
 use Rattle.mls_msgs.specs.declared.message.Message.TheVariants as messages
 use Rattle.mls_follow.specs.Acceptance.{EncodesNoMessage}
 use Rattle.mls_follow.specs.State.{State, EncodesMessage}
-use Rattle.mls_follow.proofs.Readings.{some_fault, read_or_not, fits_or_not, tree_or_not, same_or_not, supported_or_not}
+use Rattle.mls_hash.proofs.Suites.{supported_or_not}
+use Rattle.mls_follow.proofs.Readings.{some_fault, read_or_not, fits_or_not, tree_or_not, same_or_not}
 use Rattle.mls_start.proofs.StartsExist.{interim_of, starts_or_not}
 use Rattle.mls_start.specs.Finding.{is_valid}
 use Rattle.mls_start.specs.FindingLaws.{TreeFindingExists}

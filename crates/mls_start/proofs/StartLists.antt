@@ -1,16 +1,15 @@
 -- The signatures of a start: that of the GroupInfo, and those of the leaves of the state in which it starts.
-use Rattle.std.proofs.Common.{◌≡◌, ◌∙◌, ℕ, ◌≤◌, List, [], ◌++◌, Bool, true, false, Option, Some, None, refl, sym, ap, subst, arith}
-use Rattle.std.specs.Prelude.{◌==◌, ◌&&◌, nat_le, if◌then◌else◌}
-use Rattle.std.proofs.lemmas.Bool.Decides.{nat_tests}
+use Rattle.std.proofs.Common.{◌≡◌, ◌∙◌, ℕ, List, [], ◌++◌, Bool, true, false, Option, Some, None, refl, sym, ap, subst}
+use Rattle.std.specs.Prelude.{if◌then◌else◌}
 use Rattle.mls_tree.specs.RatchetTree.{RatchetTree}
 use Rattle.mls_tree.specs.Tree.{Tree, leaf_at}
-use Rattle.mls_check.specs.GroupTree.{IsSupportedContext}
 use Rattle.mls_check.specs.LeafValidation.{all_leaves, has_unique_signature_key, member_rule, LeavesAreValid}
 use Rattle.mls_check.specs.Signatures.{VerifyFn}
 use Rattle.mls_msgs.specs.declared.group_info.GroupInfo.{GroupInfo}
 use Rattle.mls_nodes.specs.declared.required_capabilities.RequiredCapabilities.{RequiredCapabilities}
 use Rattle.mls_signatures.proofs.DistinctStarts.{start_signatures_are_distinct}
-use Rattle.mls_signatures.specs.SignaturesToVerify.{info_signatures, is_supported, start_signatures}
+use Rattle.mls_signatures.proofs.SupportedContexts.{passes_context}
+use Rattle.mls_signatures.specs.SignaturesToVerify.{info_signatures, is_supported_info, start_signatures}
 use Rattle.mls_signatures.specs.declared.signature_to_verify.SignatureToVerify.{SignatureToVerify}
 use Rattle.mls_msgs.specs.declared.profile.Profile.{Profile}
 use Rattle.mls_follow.specs.CoveredLogs.{all_good}
@@ -36,12 +35,6 @@ info-none info signatures none t uses = absurd (none t uses)
 
 -- ---- all of them
 
-numbers_supported : (version suite : ℕ) → version ≡ 1 → 1 ≤ suite → suite ≤ 7 → (version == 1 && nat_le 1 suite && nat_le suite 7) ≡ true
-numbers_supported version suite e low high = grind (arith, nat_tests)
-
-supported : (info : GroupInfo) → IsSupportedContext info.context → is_supported info ≡ true
-supported info h = numbers_supported info.context.version info.context.cipher_suite h.version h.suite.0 h.suite.1
-
 all_if : (b : Bool) (signatures : List SignatureToVerify) → b ≡ true → (if b then signatures else []) ≡ signatures
 all_if true signatures e = refl
 all_if false signatures e = absurd cc
@@ -59,7 +52,7 @@ start-has profile info supplied s signatures start of_info =
     let first : State = initial_state profile info start.tree start.interim in
     let whole : start_signatures info first.tree ≡ info_signatures info (leaf_at 0 start.tree.tree info.signer) ++ state_signatures first =
     start_signatures_are_distinct info start.tree.tree (own_keys all_good info.context.cipher_suite info.context.group_id start.has_signer.required start.tree.tree members.members)
-    ∙ all_if (is_supported info) (info_signatures info (leaf_at 0 start.tree.tree info.signer) ++ state_signatures first) (supported info members.valid_tree.readable.has_tree.supported) in
+    ∙ all_if (is_supported_info info) (info_signatures info (leaf_at 0 start.tree.tree info.signer) ++ state_signatures first) (passes_context info.context members.valid_tree.readable.has_tree.supported) in
     let here : signatures ++ state_signatures first ≡ start_signatures info first.tree =
     ap (λ (ws : List SignatureToVerify). ws ++ state_signatures first) (of_info start.tree members.valid_tree.readable.has_tree.uses) ∙ sym whole in
     record { start = start; needed_is = subst (λ (z : State). signatures ++ state_signatures z ≡ start_signatures info z.tree) (sym start.state) here }

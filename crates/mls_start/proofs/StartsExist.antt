@@ -30,7 +30,8 @@ use Rattle.mls_follow.specs.State.{State}
 use Rattle.mls_apply.specs.Transcript.{interim_hash}
 use Rattle.mls_follow.specs.declared.start_fault.StartFault.{StartFault}
 use Rattle.mls_follow.specs.declared.start_fault.StartFault.TheVariants.{UnsupportedVersion, UnsupportedSuite, NoTree, SignerNotMember, InfoSignature, OutOfMemory}
-use Rattle.mls_follow.proofs.Readings.{tree_or_not, same_or_not, supported_or_not}
+use Rattle.mls_hash.proofs.Suites.{supported_or_not}
+use Rattle.mls_follow.proofs.Readings.{tree_or_not, same_or_not}
 use Rattle.mls_follow.proofs.Starting.{tree_fails}
 
 -- ---- the interim transcript hash

@@ -4,6 +4,7 @@ use Rattle.sha2.specs.Sha256.{sha256}
 use Rattle.mls_wire.specs.Limits.{input_limit}
 use Rattle.mls_wire.specs.declared.fault.CodecFault.{CodecFault}
 use Rattle.mls_wire.specs.declared.fault.CodecFault.TheVariants as codec
+use Rattle.mls_wire.specs.declared.fault.WireFaultKind.TheVariants as kinds
 use Rattle.mls_state.specs.Layout.{follower_state, state_file}
 use Rattle.mls_state.specs.declared.fault.StateFileFault.{StateFileFault}
 use Rattle.mls_state.specs.declared.fault.StateFileFault.TheVariants.{Unreadable, ChecksumDiffers, OutOfMemory}
@@ -23,11 +24,11 @@ pub record IsFileOf (bytes : List ℕ) (s : FollowerState) : Type 0 where
   pub checked : HasChecksum file
   pub encoded : state_file file ≡ Some bytes
 
--- `MakesStateFile s result`: the result of a call that writes the file of `s`. A fault other than out of memory comes only if
--- no bytes are the file of `s`.
+-- `MakesStateFile s result`: the result of a call that writes the file of `s`. A fault other than out of memory is `TooLong`,
+-- and comes only if no bytes are the file of `s`.
 abbrev pub MakesStateFile : FollowerState → Result (List ℕ) CodecFault → Type 0
 MakesStateFile s (Ok bytes) = IsFileOf bytes s
-MakesStateFile s (Err (codec.Wire f)) = (bytes : List ℕ) → IsFileOf bytes s → ⊥
+MakesStateFile s (Err (codec.Wire f)) = ((bytes : List ℕ) → IsFileOf bytes s → ⊥) × (f.kind ≡ kinds.TooLong)
 MakesStateFile s (Err codec.OutOfMemory) = Unit {0}
 
 -- `DecodesStateFile bytes result`: the result of a call that reads a file. `ChecksumDiffers` comes if and only if the bytes

@@ -3,6 +3,7 @@ use Rattle.std.specs.Prelude.{◌≡◌, ℕ, List, Option, Some, None, IsSome, 
 use Rattle.sha2.specs.Sha256.{sha256}
 use Rattle.mls_wire.specs.declared.fault.CodecFault.{CodecFault}
 use Rattle.mls_wire.specs.declared.fault.CodecFault.TheVariants as codec
+use Rattle.mls_wire.specs.declared.fault.WireFaultKind.TheVariants as kinds
 use Rattle.mls_state.specs.declared.fault.StateFileFault.{StateFileFault}
 use Rattle.mls_state.specs.declared.fault.StateFileFault.TheVariants.{Unreadable, OutOfMemory}
 
@@ -15,5 +16,5 @@ state_file_fault codec.OutOfMemory = OutOfMemory
 abbrev pub MakesChecksum : Option (List ℕ) → Result (List ℕ) CodecFault → Type 0
 MakesChecksum None (Ok digest) = ⊥
 MakesChecksum (Some body) (Ok digest) = digest ≡ sha256 body
-MakesChecksum encoding (Err (codec.Wire f)) = encoding ≡ None
+MakesChecksum encoding (Err (codec.Wire f)) = (encoding ≡ None) × (f.kind ≡ kinds.TooLong)
 MakesChecksum encoding (Err codec.OutOfMemory) = IsSome encoding

@@ -1,5 +1,5 @@
-use Rattle.std.proofs.Common.{◌∙◌, ◌∷◌, ◌++◌, [], sym, ap, refl, subst, true, false}
-use Rattle.mls_index.specs.KeyTableInternal.{HasStaged}
+use Rattle.std.proofs.Common.{◌∙◌, ◌∷◌, ◌++◌, [], inl, sym, ap, refl, subst, true, false}
+use Rattle.mls_index.specs.KeyTableInternal.{AddsOnly, HasStaged}
 use Rattle.mls_index.proofs.Entries.{staged, unchanged, contained}
 use Rattle.mls_index.proofs.Tables.{put-had, put-some, between-same, between-more}
 use Rattle.mls_index.proofs.key_table.KeyTable.insert_at.Goals as goal
@@ -24,6 +24,16 @@ returns-clause-index_base c = λ x h.
     let p = c.args.node_index in
     between-more x c.args.self.now _ b p (contained s b p false (sym c.contains.ensures ∙ c.if-contains.false)) (staged s c.insert.new.self b p c.in_ok-insert.ensures.updates)
     (c.push_reserved.ensures.items ∙ ap (λ es. es ++ (b, p) ∷ []) c.try_reserve.ensures.items) refl h
+
+pub returns-in_err-insert-clause-adds_only : goal.returns-in_err-insert-clause-adds_only
+returns-in_err-insert-clause-adds_only c = λ b q has. inl (sym (unchanged c.args.self.now.entries c.insert.new.self c.in_err-insert.ensures.err b q) ∙ has)
+
+pub returns-clause-adds_only : goal.returns-clause-adds_only
+returns-clause-adds_only c =
+    let s = c.args.self.now.entries in
+    let n = c.insert.new.self in
+    subst (λ o. AddsOnly o c.args.node_index s n) (sym c.in-Some.is)
+    (put-some c.in-Some.number c.args.node_index s n (staged s n c.in-Some.number c.args.node_index c.in_ok-insert.ensures.updates)).only
 
 pub returns-clause-staged : goal.returns-clause-staged
 returns-clause-staged c =

@@ -4,17 +4,14 @@ use Rattle.std.specs.BTreeSet.{IsFromIterResult}
 use Rattle.mls_index.specs.KeyTable.{entry_cmp}
 use Rattle.mls_index.specs.KeyTableInternal.{number_at}
 use Rattle.mls_index.proofs.Entries.{from_list}
-use Rattle.mls_index.proofs.Tables.{numbers-chosen, table-made, table-of}
+use Rattle.mls_index.proofs.Tables.{table-made}
 use Rattle.mls_index.proofs.key_table.KeyTable.with.Goals as goal
 
 pub returns : goal.returns
 returns c =
-    let kind = c.args.kind in
-    let t = c.args.tree.now.tree in
-    let x = number_at c.args.choice kind t in
+    let x = number_at c.args.choice c.args.kind c.args.tree.now.tree in
     let list = c.in_ok-entries.field-0 in
     let h = c.in_ok-entries-2.ensures.ran in
     let entries = c.in_ok-entries-2.entries in
     let made = subst (λ (es : List (ℕ × ℕ)). IsFromIterResult entry_cmp es entries) (All-taken h.0 h.1 ((h.3.2 tt).0, (h.3.0, h.3.1, (h.3.2 tt).1)) ∙ h.2.0) h.4 in
-    table-of kind t x _ (numbers-chosen c.args.choice kind t)
-    (table-made x list _ c.in_ok-entries.ensures refl c.new.ensures.items (from_list list.entries.items entries made))
+    table-made x list _ c.in_ok-entries.ensures refl c.new.ensures.items (from_list list.entries.items entries made)

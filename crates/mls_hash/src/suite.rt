@@ -3,7 +3,7 @@
 ghost use Rattle.std.specs.Prelude.{◌≡◌, ◌≤◌, ℕ, Ok, Err};
 ghost use Rattle.mls_tree.specs.HashCache.{hash_by};
 ghost use Rattle.mls_hash.specs.SuiteHash.{hash_length, hash_of, kind_of};
-ghost use Rattle.mls_hash.specs.Suites.{IsSupported};
+ghost use Rattle.mls_hash.specs.Suites.{IsSupported, hpke_key_length, signature_key_length};
 
 use crate::fault::HashFault;
 use mls_tree::HashKind;
@@ -79,6 +79,34 @@ impl Suite {
             1..=3 => 32,
             4..=6 => 64,
             _ => 48,
+        }
+    }
+
+    /// Returns the length in bytes of a public key of the suite's KEM, which is also that of its `kem_output`: 32 for
+    /// X25519, 56 for X448, 65, 97 or 133 for an uncompressed point of P-256, P-384 or P-521 (RFC 9180, 7.1).
+    pub fn hpke_key_length(self) -> usize
+        ensures { result ≡ hpke_key_length self }
+    {
+        match self.number() {
+            1 | 3 => 32,
+            2 => 65,
+            5 => 133,
+            7 => 97,
+            _ => 56,
+        }
+    }
+
+    /// Returns the length in bytes of a public signature key of the suite: 32 for Ed25519, 57 for Ed448 (RFC 8032, 5.1.5
+    /// and 5.2.5), 65, 97 or 133 for an uncompressed point of P-256, P-384 or P-521 (RFC 9420, 5.1.1).
+    pub fn signature_key_length(self) -> usize
+        ensures { result ≡ signature_key_length self }
+    {
+        match self.number() {
+            1 | 3 => 32,
+            2 => 65,
+            5 => 133,
+            7 => 97,
+            _ => 57,
         }
     }
 

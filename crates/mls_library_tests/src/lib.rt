@@ -26,9 +26,15 @@ mod replay_devices;
 #[cfg(test)]
 mod report_devices;
 #[cfg(test)]
+mod rules;
+#[cfg(test)]
 mod stored_states;
 #[cfg(test)]
 mod stored_values;
+#[cfg(test)]
+mod strict_keys;
+#[cfg(test)]
+mod strict_trees;
 #[cfg(test)]
 mod support;
 #[cfg(test)]

@@ -6,3 +6,4 @@ pub mod MessageLemmas
 pub mod Profiles
 pub mod MembersRead
 pub mod ContentTbs
+pub mod RuleSets

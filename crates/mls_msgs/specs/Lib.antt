@@ -3,6 +3,8 @@ pub mod Authenticated
 pub mod PublicMessage
 pub mod Message
 pub mod Profile
+pub mod Rules
+pub mod StrictRules
 pub mod Tbs
 pub mod ReservedWrite
 pub mod Ciphertext

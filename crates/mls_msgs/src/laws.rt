@@ -1,12 +1,15 @@
-//! Properties of the encodings: they are unambiguous, and the labels are those of the definitions.
+//! Properties of the encodings: they are unambiguous, and the labels are those of the definitions. Properties of the sets
+//! of strict rules.
 
-ghost use Rattle.std.specs.Prelude.{◌≡◌};
+ghost use Rattle.std.specs.Prelude.{◌≡◌, ◌↔◌, ℕ, true, false};
 ghost use Rattle.mls_wire.specs.Encoding.{list, IsInjective, IsUniquelyDecodable};
 ghost use Rattle.mls_msgs.specs.Layout.{key_package, psk_usage, psk_kind, psk_id, reinit, proposal, proposal_or_ref, ciphertext, path_node, update_path, commit, sender, content, framed_content, group_info};
 ghost use Rattle.mls_msgs.specs.Authenticated.{authenticated_content};
 ghost use Rattle.mls_msgs.specs.PublicMessage.{public_message};
 ghost use Rattle.mls_msgs.specs.Message.{message};
 ghost use Rattle.mls_msgs.specs.Tbs.{content_label, package_label, info_label, reference_label};
+ghost use Rattle.mls_msgs.specs.Rules.{is_strict_rule, rule_bits, has_rule, is_plain, plain_rules, strict_rules};
+ghost use Rattle.mls_msgs.specs.declared.rules.Rules.{Rules};
 
 use crate::tbs::{CONTENT_LABEL, GROUP_INFO_LABEL, KEY_PACKAGE_LABEL, PROPOSAL_REFERENCE_LABEL};
 
@@ -42,4 +45,14 @@ pub fn labels()
     ensures key_package { KEY_PACKAGE_LABEL.now ≡ package_label }
     ensures group_info { GROUP_INFO_LABEL.now ≡ info_label }
     ensures proposal_reference { PROPOSAL_REFERENCE_LABEL.now ≡ reference_label }
+{}
+
+/// The rules that a set of strict rules has determine it, and so does the number that encodes it. The empty set is the
+/// only one that is plain and has no rule. The strict set has the rules 40 to 52.
+pub fn rules_are_sets()
+    ensures members { (r s : Rules) → ((n : ℕ) → has_rule r n ≡ has_rule s n) → r ≡ s }
+    ensures bits { (r s : Rules) → rule_bits r ≡ rule_bits s → r ≡ s }
+    ensures plain_has_none { (n : ℕ) → has_rule plain_rules n ≡ false }
+    ensures strict_has_all { (n : ℕ) → has_rule strict_rules n ≡ is_strict_rule n }
+    ensures plain_is_empty { (r : Rules) → (is_plain r ≡ true) ↔ (r ≡ plain_rules) }
 {}

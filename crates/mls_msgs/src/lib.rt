@@ -18,6 +18,8 @@ mod proposal;
 mod public_message;
 mod reinit;
 mod reserved_draft;
+mod rules;
+mod strict_rule;
 mod tbs;
 
 pub use authenticated::{
@@ -36,6 +38,8 @@ pub use profile::Profile;
 pub use proposal::{Proposal, ProposalOrRef, decode_proposal, decode_proposal_in, encode_proposal};
 pub use public_message::{PublicMessage, PublicParts};
 pub use reinit::ReInit;
+pub use rules::Rules;
+pub use strict_rule::StrictRule;
 pub use tbs::{
     CONTENT_LABEL, GROUP_INFO_LABEL, KEY_PACKAGE_LABEL, PROPOSAL_REFERENCE_LABEL, confirmed_input,
     content_tbs, info_tbs, package_tbs,

@@ -1,0 +1,14 @@
+use Rattle.std.proofs.Common.{◌≡◌, length}
+use Rattle.mls_strict.specs.ExtensionLists.{has_each_once}
+use Rattle.mls_strict.proofs.SeenTypes.{has_new_types_once, is_noted}
+use Rattle.mls_strict.proofs.extension_lists.long_list_has_each_once.Given as goal
+
+abbrev pub invariant-loop-extension : goal.invariant-loop-extension
+invariant-loop-extension l =
+    record {
+      sized : length l.is_there ≡ 65536;
+      same : has_new_types_once (is_noted l.is_there) l.left ≡ has_each_once l.extensions;
+    }
+
+abbrev pub decreases-loop-extension : goal.decreases-loop-extension
+decreases-loop-extension l = length l.left

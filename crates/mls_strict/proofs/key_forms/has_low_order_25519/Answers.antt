@@ -1,0 +1,12 @@
+use Rattle.std.proofs.Common.{◌≡◌, ◌∙◌, ◌%◌, get_or, set}
+use Rattle.std.specs.List.{list_any}
+use Rattle.std.specs.Str.{bytes_eq}
+use Rattle.mls_strict.specs.declared.coordinates.TheConstants.{LOW_ORDER_25519}
+use Rattle.mls_strict.proofs.Constants.{low_order_25519-found}
+use Rattle.mls_strict.proofs.key_forms.has_low_order_25519.Goals as goal
+
+pub returns : goal.returns
+returns c =
+    let key = c.args.key.now in
+    let h : c.contains.result ≡ list_any (λ y. bytes_eq y (set c.copy_from_slice.new.self 31 (get_or c.copy_from_slice.new.self 31 0 % 128))) LOW_ORDER_25519 = c.contains.ensures.value in
+    h ∙ rw c.copy_from_slice.ensures.after (low_order_25519-found key c.requires (λ k. (c.type_inv.key k).fits))

@@ -1,0 +1,11 @@
+use Rattle.std.proofs.Common.{◌≡◌, ◌∙◌}
+use Rattle.std.specs.List.{list_any}
+use Rattle.std.specs.Str.{bytes_eq}
+use Rattle.mls_strict.specs.declared.coordinates.TheConstants.{LOW_ORDER_448}
+use Rattle.mls_strict.proofs.Constants.{low_order_448-found}
+use Rattle.mls_strict.proofs.key_forms.has_low_order_448.Goals as goal
+
+pub returns : goal.returns
+returns c =
+    let h : c.contains.result ≡ list_any (λ y. bytes_eq y c.copy_from_slice.new.self) LOW_ORDER_448 = c.contains.ensures.value in
+    h ∙ rw c.copy_from_slice.ensures.after (low_order_448-found c.args.key.now c.requires (λ k. (c.type_inv.key k).fits))

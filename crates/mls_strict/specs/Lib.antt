@@ -1,0 +1,7 @@
+pub mod KeyForms
+pub mod ExtensionLists
+pub mod ExternalSendersInternal
+pub mod LeafForms
+pub mod ContentForms
+pub mod StrictTrees
+pub mod StrictTreesInternal

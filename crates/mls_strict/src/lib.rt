@@ -1,0 +1,26 @@
+//! The strict rules (own rule): forms, lengths and lists that RFC 9420 demands of keys, extensions, leaf nodes, proposals
+//! and commits, and that anyone can see. A follower checks them after the rules of its profile.
+//!
+//! - [`is_hpke_key`] and [`is_signature_key`] validate a key by itself.
+//! - [`content_refusal`] says which strict rule a proposal or a commit breaks.
+//! - [`validate_strict`] says which one a GroupContext and a ratchet tree break, and where.
+//!
+//! Each call names the first rule, by number, of the set that it is given. `specs/KeyForms.antt`,
+//! `specs/ExtensionLists.antt`, `specs/LeafForms.antt`, `specs/ContentForms.antt` and `specs/StrictTrees.antt` define the
+//! rules.
+#![tactic(auto)]
+
+mod content_forms;
+mod coordinates;
+mod extension_lists;
+mod key_forms;
+pub mod laws;
+mod leaf_forms;
+mod strict_fault;
+mod strict_tree;
+
+pub use content_forms::content_refusal;
+pub use extension_lists::{has_each_once, has_readable_senders};
+pub use key_forms::{is_hpke_key, is_signature_key};
+pub use strict_fault::{StrictFault, StrictTreeFault};
+pub use strict_tree::validate_strict;

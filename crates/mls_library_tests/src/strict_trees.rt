@@ -220,7 +220,9 @@ fn context(rt: &impl Abort, alloc: Global, extensions: &str) -> GroupContext {
 fn finding(rt: &impl Abort, alloc: Global, rules: Rules, extensions: &str, tree: &str) -> String {
     let context = context(rt, alloc, extensions);
     let tree = tree_with(rt, alloc, tree);
-    match validate_strict(alloc, rules, suite(rt), &context, &tree) {
+    let suite = suite(rt);
+    assert!(rt; suite.number() == context.cipher_suite);
+    match validate_strict(alloc, rules, suite, &context, &tree) {
         Ok(()) => String::new(alloc),
         Err(StrictTreeFault::Strict(StrictFault { rule, place: None })) => {
             have(rt, format!(in alloc; "{}", rule.number()))

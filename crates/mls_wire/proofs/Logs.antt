@@ -1,10 +1,11 @@
 -- How records and lengths begin.
 use Rattle.std.proofs.Common.{◌≡◌, ◌≢◌, ℕ, ◌+◌, ◌-◌, ◌/◌, ◌%◌, ◌<◌, ◌≤◌, List, [], ◌∷◌, ◌++◌, length, take, drop, replicate, Option, Some, None, refl, sym, ap, subst, ◌∙◌, append_assoc, append-nil, arith, ◌⊎◌, inl, inr, length-append, length-take-le, take-append-drop, take_at}
-use Rattle.std.specs.Prelude.{MatchOption, OnErr, IsErr, Result, Ok, Err}
+use Rattle.std.specs.Prelude.{MatchOption, OnErr, IfErr, IsErr, Result, Ok, Err}
 use Rattle.std.specs.Io.KnownBytes.{Consumes}
 use Rattle.mls_wire.specs.declared.log.LogStep.{LogStep}
 use Rattle.mls_wire.specs.declared.log.LogStep.TheVariants as steps
 use Rattle.mls_wire.specs.declared.fault.RunFault.{RunFault}
+use Rattle.mls_wire.specs.declared.fault.RunFault.TheVariants as faults
 use Rattle.std.proofs.lemmas.Bool.{lt-ltb, le-ltb}
 use Rattle.std.proofs.lemmas.List.{length-replicate, take_all, take-take, take-append-le}
 use Rattle.mls_wire.specs.Limits.{input_limit}
@@ -155,9 +156,9 @@ OnErr-any (Ok x) p = tt
 OnErr-any (Err e) p = p
 
 -- what a fault meets, whatever it is
-pub meets_fault : (before after : Option (List ℕ)) (most : ℕ) (body read : List ℕ) (r : Result LogStep RunFault) → IsErr r → Consumes before after read → IsIncomplete most read → ReadsRecord before after most body r
-meets_fault before after most body read (Ok x) err taken cut = absurd cc
-meets_fault before after most body read (Err e) err taken cut = (read, taken, cut)
+pub meets_fault : (before after : Option (List ℕ)) (most : ℕ) (body read : List ℕ) (r : Result LogStep RunFault) → IsErr r → IfErr r (λ e. e ≢ faults.Write) → Consumes before after read → IsIncomplete most read → ReadsRecord before after most body r
+meets_fault before after most body read (Ok x) err fault taken cut = absurd cc
+meets_fault before after most body read (Err e) err fault taken cut = (fault, read, taken, cut)
 
 -- the bytes of a length, and what is there of the body
 pub body_bytes : (n first : ℕ) (more body : List ℕ) → length_form n ≡ Some (first ∷ more) → n ≤ input_limit → length body ≡ n → IsRecord (first ∷ (more ++ body)) body

@@ -71,15 +71,16 @@ abbrev pub ended : LogState → LogState
 ended old = record { most = old.most; is_over = true; body = [] }
 
 -- `ReadsRecord before after most body result`: what a call reads from a log that had `before` left and then has
--- `after`. It is a record with this body, the end, a break, or a fault before it is known what comes next. The call
--- reads these bytes and no others.
+-- `after`. It is a record with this body, the end, a break, or a fault, which is not of writing, before it is known what
+-- comes next. The call reads these bytes and no others.
 abbrev pub ReadsRecord : Option (List ℕ) → Option (List ℕ) → ℕ → List ℕ → Result LogStep RunFault → Type 0
 ReadsRecord before after most body (Ok steps.Record) =
     (0 < most) × (read : List ℕ) × Consumes before after read × IsRecord read body
 ReadsRecord before after most body (Ok steps.End) = Consumes before after [] × IsAtEnd after
 ReadsRecord before after most body (Ok steps.Broken) = (read : List ℕ) × Consumes before after read × IsBrokenAt most read after
 ReadsRecord before after most body (Ok steps.Over) = ⊥
-ReadsRecord before after most body (Err fault) = (read : List ℕ) × Consumes before after read × IsIncomplete most read
+ReadsRecord before after most body (Err fault) =
+    (fault ≢ faults.Write) × (read : List ℕ) × Consumes before after read × IsIncomplete most read
 
 -- `ReaderAfter old new result`: after a record one fewer may come. After every other result the log is over.
 abbrev pub ReaderAfter : LogState → LogState → Result LogStep RunFault → Type 0

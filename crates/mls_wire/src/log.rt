@@ -1,6 +1,6 @@
 //! Logs: records one after the other, each a vector whose body is one message (RFC 9420, 2.1.2).
 
-ghost use Rattle.std.specs.Prelude.{◌≡◌, ◌+◌, ◌<◌, ◌≤◌, ◌||◌, ◌⊎◌, ◌++◌, ◌∷◌, ℕ, List, [], true, false, Ok, Err, Some, IfOk, IfNone, OnErr, MatchOption, length, option_to_list};
+ghost use Rattle.std.specs.Prelude.{◌≡◌, ◌≢◌, ◌+◌, ◌<◌, ◌≤◌, ◌||◌, ◌⊎◌, ◌++◌, ◌∷◌, ℕ, List, [], true, false, Ok, Err, Some, IfOk, IfErr, IfNone, OnErr, MatchOption, length, option_to_list};
 ghost use Rattle.std.specs.Io.KnownBytes.{Consumes, IsAtEnd};
 ghost use Rattle.mls_wire.specs.Limits.{input_limit};
 ghost use Rattle.mls_wire.specs.Devices.{HasFailed};
@@ -90,6 +90,7 @@ fn next_byte<R: Source>(source: &mut R) -> Result<Option<u8>, RunFault>
         (λ o. Consumes (R.device source.old).bytes (R.device source.new).bytes (option_to_list o)) }
     ensures end { IfOk result (λ o. IfNone o (IsAtEnd (R.device source.new).bytes)) }
     ensures effect_on_error { OnErr result (Consumes (R.device source.old).bytes (R.device source.new).bytes []) }
+    ensures fault { IfErr result (λ e. e ≢ RunFault.Write) }
     ensures failed { (R.device source.new).has_failed ≡ ((R.device source.old).has_failed || is_read_fault result) }
     ensures remains_failed { HasFailed (R.device source.old) → result ≡ Err RunFault.Read }
 {
@@ -111,6 +112,7 @@ fn next_size<R: Source>(source: &mut R, first: u8) -> Result<Option<usize>, RunF
     ensures effect_on_error { OnErr result ((more : List ℕ)
         × Consumes (R.device source.old).bytes (R.device source.new).bytes more
         × IsTruncatedRecord (first ∷ more)) }
+    ensures fault { IfErr result (λ e. e ≢ RunFault.Write) }
     ensures failed { (R.device source.new).has_failed ≡ ((R.device source.old).has_failed || is_read_fault result) }
 {
     let size = size_of_length(first);
@@ -134,6 +136,7 @@ fn read_piece<R: Source>(source: &mut R, body: &mut Vec<u8>, count: usize) -> Re
     ensures effect_on_error { OnErr result ((more : List ℕ)
         × (length more < count)
         × Consumes (R.device source.old).bytes (R.device source.new).bytes more) }
+    ensures fault { IfErr result (λ e. e ≢ RunFault.Write) }
     ensures failed { (R.device source.new).has_failed ≡ ((R.device source.old).has_failed || is_read_fault result) }
 {
     let at = body.len();
@@ -155,6 +158,7 @@ fn read_body<R: Source>(source: &mut R, body: &mut Vec<u8>, size: usize) -> Resu
     ensures effect_on_error { OnErr result ((more : List ℕ)
         × (length more < size)
         × Consumes (R.device source.old).bytes (R.device source.new).bytes more) }
+    ensures fault { IfErr result (λ e. e ≢ RunFault.Write) }
     ensures failed { (R.device source.new).has_failed ≡ ((R.device source.old).has_failed || is_read_fault result) }
 {
     'pieces: while body.len() < size {

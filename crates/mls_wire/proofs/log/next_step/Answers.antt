@@ -8,7 +8,7 @@ returns-in_err-size-clause-record_read g c =
     let first = rw c.in-Some.is at c.in_ok-first.ensures.byte in
     let (more, taken, cut) = c.in_err-size.ensures.effect_on_error in
     let some : 0 < c.args.most = omega (arith, c.if-most-eq0.false) in
-    meets_fault _ _ _ _ (c.in-Some.first ∷ more) c.from_residual-in_err-size.result (search rules) (Consumes-trans _ _ _ (c.in-Some.first ∷ []) more first taken) (inr (some, cut))
+    meets_fault _ _ _ _ (c.in-Some.first ∷ more) c.from_residual-in_err-size.result (search rules) (search rules) (Consumes-trans _ _ _ (c.in-Some.first ∷ []) more first taken) (inr (some, cut))
 
 pub returns-in_default-2-clause-record_read : goal.returns-in_default-2-clause-record_read
 returns-in_default-2-clause-record_read g c =
@@ -25,7 +25,7 @@ returns-in_err-read_body-clause-record_read g c =
     let (got, short, body) = c.in_err-read_body.ensures.effect_on_error in
     let some : 0 < c.args.most = omega (arith, c.if-most-eq0.false) in
     let unread_log = Consumes-trans _ _ _ (c.in-Some.first ∷ []) more first taken in
-    meets_fault _ _ _ _ (c.in-Some.first ∷ (more ++ got)) c.from_residual-in_err-read_body.result (search rules) (Consumes-trans _ _ _ (c.in-Some.first ∷ more) got unread_log body)
+    meets_fault _ _ _ _ (c.in-Some.first ∷ (more ++ got)) c.from_residual-in_err-read_body.result (search rules) (search rules) (Consumes-trans _ _ _ (c.in-Some.first ∷ more) got unread_log body)
     (inr (some, body_cut c.in-Some-2.size c.in-Some.first more got form.1 form.0 short))
 
 pub returns-then-len-size-clause-record_read : goal.returns-then-len-size-clause-record_read

@@ -1,10 +1,10 @@
 -- Sets of strict rules: which rules a set has, by the bits of its number.
-use Rattle.std.proofs.Common.{◌≡◌, ◌↔◌, ◌⊎◌, ◌<◌, ◌≤◌, ◌+◌, ◌-◌, ◌*◌, ◌%◌, ◌^◌, ℕ, zero, suc, max, Bool, true, false, not, ◌&&◌, ◌||◌, ◌==◌, bit_and, bit_or, refl, sym, ap, ◌∙◌, inl, inr, arith, w16}
+use Rattle.std.proofs.Common.{◌≡◌, ◌↔◌, ◌⊎◌, ◌<◌, ◌≤◌, ◌+◌, ◌-◌, ◌*◌, ◌%◌, ◌^◌, ℕ, zero, suc, max, min, Bool, true, false, not, ◌&&◌, ◌||◌, ◌==◌, bit_and, bit_or, refl, sym, ap, ◌∙◌, inl, inr, arith, w16}
 use Rattle.std.specs.Int.{bit_at, bit_not}
 use Rattle.std.proofs.lemmas.Bool.{cases_Bool, and_right, true≢false, false≢true, eqb-true, eqb-false}
 use Rattle.std.specs.Coded.{le_prop}
 use mathlib.Core.HLevel.{is_prop→PathP}
-use Rattle.std.proofs.lemmas.Nat.Bits.{bit_at_or, bit_at-lt, bit_at_clear_same, bit_at_clear_other, same_from_bits_below, bit_at-zero, bit_at_ones}
+use Rattle.std.proofs.lemmas.Nat.Bits.{bit_at_and, bit_at_not, bit_at_or, bit_at-lt, bit_at_clear_same, bit_at_clear_other, same_from_bits_below, bit_at-zero, bit_at_ones}
 use Rattle.mls_msgs.specs.Rules.{is_strict_rule, rule_bits, has_rule, is_plain, plain_rules, strict_rules}
 use Rattle.mls_msgs.specs.declared.rules.Rules.{Rules}
 
@@ -83,6 +83,35 @@ has_rule-without r u number low high same n = by_case (cases_Bool (is_strict_rul
         ∙ sym (ap (λ b. b && not (n == number)) (has_rule-inside r n strict))
     by_case (inr other) =
         has_rule-outside u n other ∙ sym (ap (λ b. b && not (n == number)) (has_rule-outside r n other))
+
+difference_of : (x y : ℕ) → x < 2 → y < 2 → (min x (1 - y) == 1) ≡ ((x == 1) && not (y == 1))
+difference_of zero zero _ _ = refl
+difference_of zero (suc zero) _ _ = refl
+difference_of (suc zero) zero _ _ = refl
+difference_of (suc zero) (suc zero) _ _ = refl
+difference_of zero (suc (suc y)) _ h = absurd (omega arith)
+difference_of (suc zero) (suc (suc y)) _ h = absurd (omega arith)
+difference_of (suc (suc x)) y h _ = absurd (omega arith)
+
+-- the set of the bits of one set that are 0 in another has the rules that the other lacks
+pub has_rule-difference : (r s u : Rules) → rule_bits u ≡ bit_and (rule_bits r) (bit_not w16 (rule_bits s)) → (n : ℕ)
+    → has_rule u n ≡ (has_rule r n && not (has_rule s n))
+has_rule-difference r s u same n = by_case (cases_Bool (is_strict_rule n))
+  where
+    small : rule_bits s < 2 ^ 16
+    small = let fits = s.fits in omega arith
+
+    by_case : (is_strict_rule n ≡ true) ⊎ (is_strict_rule n ≡ false) → has_rule u n ≡ (has_rule r n && not (has_rule s n))
+    by_case (inl strict) =
+        let range = strict_range n strict in
+        has_rule-inside u n strict
+        ∙ ap (λ x. bit_at x (n - 40) == 1) same
+        ∙ ap (λ x. x == 1) (bit_at_and (rule_bits r) (bit_not w16 (rule_bits s)) (n - 40)
+        ∙ ap (min (bit_at (rule_bits r) (n - 40))) (bit_at_not w16 (rule_bits s) (n - 40) small (omega arith)))
+        ∙ difference_of _ _ (bit_at-lt (rule_bits r) (n - 40)) (bit_at-lt (rule_bits s) (n - 40))
+        ∙ sym (λ i. has_rule-inside r n strict i && not (has_rule-inside s n strict i))
+    by_case (inr other) =
+        has_rule-outside u n other ∙ sym (λ i. has_rule-outside r n other i && not (has_rule-outside s n other i))
 
 -- a set is determined by its number
 pub rule_bits-determine : (r s : Rules) → rule_bits r ≡ rule_bits s → r ≡ s

@@ -55,6 +55,15 @@ impl Rules {
         }
     }
 
+    /// Returns the rules of this set that another one lacks.
+    pub fn difference(self, rules: Rules) -> Rules
+        ensures difference { (n : ℕ) → has_rule result n ≡ (has_rule self n && not (has_rule rules n)) }
+    {
+        Rules {
+            members: self.members & !rules.members,
+        }
+    }
+
     /// Returns the set without the strict rule of this number, or `None` if the number is none of 40 to 52.
     pub fn without(self, number: u8) -> Option<Rules>
         ensures is_strict_rule { is_some result ≡ is_strict_rule number }

@@ -13,10 +13,10 @@ use Rattle.mls_tree.proofs.Trees.{subtree_at-none}
 use Rattle.mls_check.specs.LeafValidation.{supports_extension, supports_required}
 use Rattle.mls_check.specs.SortedRequirements.{RequireSame}
 use Rattle.mls_msgs.specs.declared.strict_rule.StrictRule.TheVariants.{GroupExtensionUnsupported}
-use Rattle.mls_strict.specs.LeafForms.{supports_all}
+use Rattle.mls_strict.specs.LeafForms.{supports_all, requires_types}
 use Rattle.mls_strict.specs.StrictTrees.{tree_node_meets}
 use Rattle.mls_strict.proofs.Booleans.{and_true}
-use Rattle.mls_strict.specs.StrictTreesInternal.{HoldsBelow, FindsFailingNode, node_supports, requires_types}
+use Rattle.mls_strict.specs.StrictTreesInternal.{HoldsBelow, FindsFailingNode, node_supports}
 
 -- the types of extensions
 abbrev pub types_of : List Extension → List ℕ

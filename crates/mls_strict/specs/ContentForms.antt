@@ -1,4 +1,4 @@
--- What the strict rules ask of a proposal or a commit (RFC 9420, 12.1 and 12.4), in a group with this GroupContext: of what
+-- What the strict rules demand of a proposal or a commit (RFC 9420, 12.1 and 12.4), in a group with this GroupContext: of what
 -- the content has by value, so that a proposal is checked when it comes, and a commit's inline proposals and its path with
 -- it. Used by contracts.
 use Rattle.std.specs.Prelude.{ℕ, ◌+◌, ◌==◌, nat_lt, Bool, true, ◌&&◌, ◌||◌, not, if◌then◌else◌, List, [], ◌∷◌, length, Option, Some, None}
@@ -107,6 +107,10 @@ abbrev pub first_unmet : Rules → (StrictRule → Bool) → List StrictRule →
 first_unmet asked meets [] = None
 first_unmet asked meets (r ∷ rs) =
     if not (has_rule asked (strict_number r)) || meets r then first_unmet asked meets rs else Some r
+
+-- `proposal_refusal asked context p` is the first strict rule of the set that the proposal does not meet by itself.
+unfoldable pub proposal_refusal : Rules → GroupContext → Proposal → Option StrictRule
+proposal_refusal asked context p = first_unmet asked (λ r. proposal_meets context r p) content_rules
 
 -- `content_refusal asked context c` is the first strict rule of the set that the content does not meet.
 unfoldable pub content_refusal : Rules → GroupContext → Content → Option StrictRule

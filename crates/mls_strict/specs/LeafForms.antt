@@ -1,11 +1,12 @@
--- What the strict rules ask of a leaf node by itself, for a group's protocol version and cipher suite (RFC 9420, 7.2). Used
--- by contracts.
-use Rattle.std.specs.Prelude.{ℕ, nat_le, Bool, true, ◌&&◌, not, List}
+-- What the strict rules demand of a leaf node by itself, for a group's protocol version and cipher suite (RFC 9420, 7.2).
+-- Used by contracts.
+use Rattle.std.specs.Prelude.{ℕ, nat_le, Bool, true, ◌&&◌, not, List, [], map}
 use Rattle.std.specs.List.{list_all, list_any}
 use Rattle.mls_nodes.specs.declared.extension.Extension.{Extension}
 use Rattle.mls_nodes.specs.declared.leaf.LeafNode.{LeafNode}
 use Rattle.mls_nodes.specs.declared.leaf_source.LeafSource.{LeafSource}
 use Rattle.mls_nodes.specs.declared.leaf_source.LeafSource.TheVariants as sources
+use Rattle.mls_nodes.specs.declared.required_capabilities.RequiredCapabilities.{RequiredCapabilities}
 use Rattle.mls_check.specs.LeafValidation.{contains_code, is_default_extension, is_default_proposal, supports_extension}
 use Rattle.mls_msgs.specs.declared.strict_rule.StrictRule.{StrictRule}
 use Rattle.mls_msgs.specs.declared.strict_rule.StrictRule.TheVariants as rules
@@ -36,6 +37,10 @@ has_lifetime (sources.Commit _) = true
 -- `supports_all es x`: it supports the type of each extension, by default or by its capabilities (RFC 9420, 12.1.7 and 13.4).
 unfoldable pub supports_all : List Extension → LeafNode → Bool
 supports_all es x = list_all (λ e. supports_extension x e.kind) es
+
+-- `requires_types es` requires that a member supports the types of these extensions, and nothing else (RFC 9420, 13.4).
+abbrev pub requires_types : List Extension → RequiredCapabilities
+requires_types es = record { extensions = map (λ e. e.kind) es; proposals = []; credentials = [] }
 
 -- `leaf_meets version suite r x`: the leaf node meets the strict rule, as far as it concerns one leaf node by itself.
 abbrev pub leaf_meets : ℕ → ℕ → StrictRule → LeafNode → Bool

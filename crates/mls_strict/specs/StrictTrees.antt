@@ -1,4 +1,4 @@
--- What the strict rules ask of a GroupContext and a ratchet tree (RFC 9420, 7.2 and 8.1). Used by contracts.
+-- What the strict rules demand of a GroupContext and a ratchet tree (RFC 9420, 7.2 and 8.1). Used by contracts.
 use Rattle.std.specs.Prelude.{◌≡◌, ℕ, ◌<◌, ◌⊎◌, Bool, true, false, Option, Some, None}
 use Rattle.mls_nodes.specs.NodeModel.{NodeValue, leaf_node, parent_node}
 use Rattle.mls_nodes.specs.declared.context.GroupContext.{GroupContext}

@@ -1,8 +1,7 @@
 -- One strict rule, of a GroupContext and a ratchet tree. Internal: no public contract uses this.
-use Rattle.std.specs.Prelude.{◌≡◌, ℕ, ◌<◌, true, false, Bool, List, [], Option, Some, None, map}
+use Rattle.std.specs.Prelude.{◌≡◌, ℕ, ◌<◌, true, false, Bool, Option, Some, None}
 use Rattle.mls_nodes.specs.NodeModel.{NodeValue, leaf_node, parent_node}
 use Rattle.mls_nodes.specs.declared.context.GroupContext.{GroupContext}
-use Rattle.mls_nodes.specs.declared.extension.Extension.{Extension}
 use Rattle.mls_nodes.specs.declared.required_capabilities.RequiredCapabilities.{RequiredCapabilities}
 use Rattle.mls_tree.specs.Tree.{Tree, node_at}
 use Rattle.mls_check.specs.LeafValidation.{supports_required}
@@ -25,10 +24,6 @@ FindsFailingNode test t (Some place) =
 abbrev pub IsFaultOf : GroupContext → Tree → StrictRule → StrictTreeFault → Type 0
 IsFaultOf context t r (Strict fault) = (fault.rule ≡ r) × FailsAt context t r fault.place
 IsFaultOf context t r OutOfMemory = Unit {0}
-
--- `requires_types es` requires the types of these extensions, and nothing else.
-abbrev pub requires_types : List Extension → RequiredCapabilities
-requires_types es = record { extensions = map (λ e. e.kind) es; proposals = []; credentials = [] }
 
 -- `node_supports required n`: the node satisfies these requirements, as each parent node does.
 abbrev pub node_supports : RequiredCapabilities → NodeValue → Bool

@@ -1,8 +1,8 @@
-//! What the strict rules ask of a proposal or a commit (RFC 9420, 12.1 and 12.4).
+//! What the strict rules demand of a proposal or a commit (RFC 9420, 12.1 and 12.4).
 
 ghost use Rattle.std.specs.Prelude.{◌≡◌};
 ghost use Rattle.std.specs.List.{list_all};
-ghost use Rattle.mls_strict.specs.ContentForms.{content_meets, content_refusal, entry_meets, extensions_meet, first_unmet, is_ciphertext, is_held, node_meets, package_meets, path_meets, proposal_meets};
+ghost use Rattle.mls_strict.specs.ContentForms.{content_meets, content_refusal, proposal_refusal, entry_meets, extensions_meet, first_unmet, is_ciphertext, is_held, node_meets, package_meets, path_meets, proposal_meets};
 
 use crate::extension_lists::{has_each_once, has_readable_senders};
 use crate::key_forms::is_hpke_key;
@@ -250,4 +250,38 @@ pub fn content_refusal(
     ensures { result ≡ content_refusal asked context.now content.now }
 {
     first_unmet(asked, suite, context, content, &CONTENT_RULES)
+}
+
+/// Returns the first of these strict rules that the set has and that a proposal does not meet.
+fn first_unmet_by_proposal(
+    asked: Rules,
+    suite: Suite,
+    context: &GroupContext,
+    proposal: &Proposal,
+    rules: &[StrictRule],
+) -> Option<StrictRule>
+    requires { suite ≡ context.now.cipher_suite }
+    ensures { result ≡ first_unmet asked (λ r. proposal_meets context.now r proposal.now) rules.now }
+{
+    for rule in rules {
+        if asked.has(rule.number()) && !proposal_meets(suite, context, *rule, proposal) {
+            return Some(*rule);
+        }
+    }
+    None
+}
+
+/// Returns the first strict rule of the set, by number, that a proposal does not meet in a group with this GroupContext, as
+/// [`content_refusal`] does for a content that is this proposal.
+#[tactic(auto, unfolding(crate::specs::ContentForms::proposal_refusal))]
+pub fn proposal_refusal(
+    asked: Rules,
+    suite: Suite,
+    context: &GroupContext,
+    proposal: &Proposal,
+) -> Option<StrictRule>
+    requires { suite ≡ context.now.cipher_suite }
+    ensures { result ≡ proposal_refusal asked context.now proposal.now }
+{
+    first_unmet_by_proposal(asked, suite, context, proposal, &CONTENT_RULES)
 }

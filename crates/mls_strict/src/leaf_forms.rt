@@ -1,4 +1,4 @@
-//! What the strict rules ask of a leaf node by itself (RFC 9420, 7.2).
+//! What the strict rules demand of a leaf node by itself (RFC 9420, 7.2).
 
 ghost use Rattle.std.specs.Prelude.{◌≡◌, ◌&&◌, nat_le, nat_lt};
 ghost use Rattle.std.specs.List.{list_any};

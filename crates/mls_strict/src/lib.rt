@@ -2,8 +2,9 @@
 //! and commits, and that anyone can see. A follower checks them after the rules of its profile.
 //!
 //! - [`is_hpke_key`] and [`is_signature_key`] validate a key by itself.
-//! - [`content_refusal`] says which strict rule a proposal or a commit breaks.
+//! - [`content_refusal`] says which strict rule a proposal or a commit breaks, [`proposal_refusal`] which one a proposal does.
 //! - [`validate_strict`] says which one a GroupContext and a ratchet tree break, and where.
+//! - [`required_types`] says what the extensions of a GroupContext require of its members.
 //!
 //! Each call names the first rule, by number, of the set that it is given. `specs/KeyForms.antt`,
 //! `specs/ExtensionLists.antt`, `specs/LeafForms.antt`, `specs/ContentForms.antt` and `specs/StrictTrees.antt` define the
@@ -19,8 +20,8 @@ mod leaf_forms;
 mod strict_fault;
 mod strict_tree;
 
-pub use content_forms::content_refusal;
+pub use content_forms::{content_refusal, proposal_refusal};
 pub use extension_lists::{has_each_once, has_readable_senders};
 pub use key_forms::{is_hpke_key, is_signature_key};
 pub use strict_fault::{StrictFault, StrictTreeFault};
-pub use strict_tree::validate_strict;
+pub use strict_tree::{required_types, validate_strict};

@@ -1,4 +1,4 @@
-//! What the strict rules ask of a GroupContext and a ratchet tree (RFC 9420, 7.2 and 8.1).
+//! What the strict rules demand of a GroupContext and a ratchet tree (RFC 9420, 7.2 and 8.1).
 
 ghost use Rattle.std.specs.Prelude.{◌≡◌, ◌≢◌, ◌+◌, ◌*◌, IfErr, IfOk, OnOk, map};
 ghost use Rattle.mls_nodes.specs.NodeValues.{node_value};
@@ -6,7 +6,8 @@ ghost use Rattle.mls_tree.specs.Tree.{leaf_count};
 ghost use Rattle.mls_check.specs.SortedRequirements.{RequireSame, requirements_of};
 ghost use Rattle.mls_msgs.specs.declared.strict_rule.StrictRule.TheVariants as rules;
 ghost use Rattle.mls_strict.specs.StrictTrees.{IsStrict, IsStrictTreeFault, Meets, tree_node_meets};
-ghost use Rattle.mls_strict.specs.StrictTreesInternal.{FindsFailingNode, IsFaultOf, node_supports, requires_types};
+ghost use Rattle.mls_strict.specs.StrictTreesInternal.{FindsFailingNode, IsFaultOf, node_supports};
+ghost use Rattle.mls_strict.specs.LeafForms.{requires_types};
 
 use crate::content_forms::extensions_meet;
 use crate::key_forms::is_hpke_key;
@@ -19,7 +20,7 @@ use mls_nodes::{Codes, Extensions, ExtensionsLeft, GroupContext, Node, RequiredC
 use mls_tree::PublicTree;
 use std::alloc::{AllocError, Global};
 
-/// The strict rules, in order of their numbers. Of a GroupContext and a tree 40, 45, 49, 50 and 52 ask nothing.
+/// The strict rules, in order of their numbers. Of a GroupContext and a tree 40, 45, 49, 50 and 52 demand nothing.
 const STRICT_RULES: [StrictRule; 13] = [
     StrictRule::TagLength,
     StrictRule::ExtensionRepeated,
@@ -91,24 +92,35 @@ fn extension_types(alloc: Global, extensions: &Extensions) -> Result<Vec<u16>, A
     Ok(types)
 }
 
-/// Returns requirements that a leaf node satisfies if and only if it supports the types of these extensions.
+/// Returns the requirements that a leaf node satisfies if and only if it supports the types of these extensions (RFC 9420,
+/// 13.4).
 ///
 /// # Errors
 ///
 /// `OutOfMemory`. The types take fewer bytes than the extensions, so they fit into a vector too.
-fn required_types(alloc: Global, extensions: &Extensions) -> Result<SortedRequirements, OutOfMemory>
-    ensures { IfOk result (λ required. RequireSame (requirements_of required) (requires_types extensions.now)) }
+pub fn required_types(
+    alloc: Global,
+    extensions: &Extensions,
+) -> Result<RequiredCapabilities, OutOfMemory>
+    ensures { IfOk result (λ required. required ≡ requires_types extensions.now) }
 {
     let types = extension_types(alloc, extensions)?;
     let Ok(types) = Codes::copy(alloc, types.as_slice()) else {
         return Err(OutOfMemory);
     };
-    let requirements = RequiredCapabilities {
+    Ok(RequiredCapabilities {
         extensions: types,
         proposals: Codes::empty(),
         credentials: Codes::empty(),
-    };
-    SortedRequirements::new(alloc, &requirements)
+    })
+}
+
+/// Returns the same requirements, sorted.
+fn sorted_types(alloc: Global, extensions: &Extensions) -> Result<SortedRequirements, OutOfMemory>
+    ensures { IfOk result (λ required. RequireSame (requirements_of required) (requires_types extensions.now)) }
+{
+    let required = required_types(alloc, extensions)?;
+    SortedRequirements::new(alloc, &required)
 }
 
 /// Returns whether a non-blank node satisfies requirements, as each parent node does.
@@ -144,7 +156,7 @@ fn first_unsupporting_leaf(
     ensures { IfOk result (FindsFailingNode
         (tree_node_meets context.now rules.GroupExtensionUnsupported) tree.now.tree) }
 {
-    let required = required_types(alloc, &context.extensions)?;
+    let required = sorted_types(alloc, &context.extensions)?;
     for node_index in 0..node_index_count(tree) {
         if let Some(node) = tree.node(node_index) {
             if !node_supports(alloc, &required, node)? {

@@ -97,7 +97,10 @@ enum mls_start_fault {
     MLS_START_TREE = 5,                     /* inner is an mls_tree_fault, place the node index */
     MLS_START_MEMBER = 6,                   /* inner is an mls_member_fault, place the leaf index */
     MLS_START_SIGNER_NOT_MEMBER = 7,        /* the signer's leaf is blank */
-    MLS_START_INFO_SIGNATURE = 8            /* the GroupInfo's signature has no receipt */
+    MLS_START_INFO_SIGNATURE = 8,           /* the GroupInfo's signature has no receipt */
+    MLS_START_STRICT = 9                    /* a strict rule is not met: inner is an mls_refusal from 40 on, place the
+                                               node index, or 2^64 - 1 if it is no node that does not meet it. No call
+                                               of this library checks strict rules yet */
 };
 
 /* Why no follower resumes from a state: the first that applies. */
@@ -169,7 +172,20 @@ enum mls_refusal {
     MLS_REFUSED_PSK_TWICE = 34,
     MLS_REFUSED_REINIT_NOT_ALONE = 35,
     MLS_REFUSED_JOIN_LIST = 36,
-    MLS_REFUSED_RESYNC_INVALID = 37
+    MLS_REFUSED_RESYNC_INVALID = 37,
+    MLS_REFUSED_TAG_LENGTH = 40,            /* 40 to 52: strict rules; no call of this library checks them yet */
+    MLS_REFUSED_EXTENSION_REPEATED = 41,
+    MLS_REFUSED_EXTENSION_MISPLACED = 42,
+    MLS_REFUSED_EXTENSION_UNREADABLE = 43,
+    MLS_REFUSED_KEY_FORM = 44,
+    MLS_REFUSED_CIPHERTEXT_FORM = 45,
+    MLS_REFUSED_GROUP_UNLISTED = 46,
+    MLS_REFUSED_DEFAULT_LISTED = 47,
+    MLS_REFUSED_LIFETIME_EMPTY = 48,
+    MLS_REFUSED_CERTIFICATE_KEY = 49,
+    MLS_REFUSED_PSK_AHEAD = 50,
+    MLS_REFUSED_GROUP_EXTENSION_UNSUPPORTED = 51,
+    MLS_REFUSED_POINT_OFF_CURVE = 52
 };
 
 /* What an accepted message is. */
@@ -195,7 +211,7 @@ typedef struct {
 
 /* What came of a message. */
 typedef struct {
-    uint32_t number; /* 0: accepted. 1 to 37, an mls_refusal: refused. From 100 on: not processed. */
+    uint32_t number; /* 0: accepted. 1 to 52, an mls_refusal: refused. From 100 on: not processed. */
     uint32_t kind;   /* if accepted, an mls_kind, otherwise 0 */
     uint32_t inner;  /* if number is 25, an mls_member_fault, otherwise 0 */
     uint32_t leaf;   /* if number is 25, the leaf index, otherwise 0 */
@@ -339,7 +355,9 @@ static inline const char *mls_refusal_name(uint32_t number) {
         "PathSource", "PathKeyUsed", "CiphertextCount", "PathParentHash", "KeyRepeated", "Member",
         "TwoContextExtensions", "ContextExtensionsInvalid", "GroupOver", "UnknownExternal", "SenderContent",
         "PskInvalid", "ReInitInvalid", "ExternalInitMisplaced", "PskTwice", "ReInitNotAlone", "JoinList",
-        "ResyncInvalid"};
+        "ResyncInvalid", "", "", "TagLength", "ExtensionRepeated", "ExtensionMisplaced", "ExtensionUnreadable",
+        "KeyForm", "CiphertextForm", "GroupUnlisted", "DefaultListed", "LifetimeEmpty", "CertificateKey", "PskAhead",
+        "GroupExtensionUnsupported", "PointOffCurve"};
     return number < sizeof names / sizeof names[0] ? names[number] : "";
 }
 
@@ -347,7 +365,7 @@ static inline const char *mls_refusal_name(uint32_t number) {
 static inline const char *mls_start_fault_name(uint32_t number) {
     static const char *const names[] = {"", "UnsupportedVersion", "UnsupportedSuite", "NoTree",
                                         "RequirementsUnreadable", "Tree", "Member", "SignerNotMember",
-                                        "InfoSignature"};
+                                        "InfoSignature", "Strict"};
     return number < sizeof names / sizeof names[0] ? names[number] : "";
 }
 

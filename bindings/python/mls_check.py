@@ -24,7 +24,9 @@ NAMES = (
     "RemovesCommitter", "SameLeafTwice", "PathMissing", "TooManyLeaves", "PathLength", "PathSource", "PathKeyUsed",
     "CiphertextCount", "PathParentHash", "KeyRepeated", "Member", "TwoContextExtensions", "ContextExtensionsInvalid",
     "GroupOver", "UnknownExternal", "SenderContent", "PskInvalid", "ReInitInvalid", "ExternalInitMisplaced", "PskTwice",
-    "ReInitNotAlone", "JoinList", "ResyncInvalid",
+    "ReInitNotAlone", "JoinList", "ResyncInvalid", "", "", "TagLength", "ExtensionRepeated", "ExtensionMisplaced",
+    "ExtensionUnreadable", "KeyForm", "CiphertextForm", "GroupUnlisted", "DefaultListed", "LifetimeEmpty",
+    "CertificateKey", "PskAhead", "GroupExtensionUnsupported", "PointOffCurve",
 )
 
 # A signature that has to be verified: whether it is good for `content` under `key` in the cipher suite `suite` (5.1.2).

@@ -245,7 +245,7 @@ static void odd_messages(void) {
             /* the membership tag is checked by no rule: begin again */
             EXPECT(is(start(&group, receipts), MLS_OK, 0, 0));
         } else
-            EXPECT(judgement.number < MLS_REFUSED_GROUP_OVER || judgement.number > MLS_REFUSED_RESYNC_INVALID);
+            EXPECT(judgement.number < MLS_REFUSED_GROUP_OVER || judgement.number > MLS_REFUSED_POINT_OFF_CURVE);
     }
     free(copy.at);
     EXPECT(mls_follower_judge(&group, message.at, message.len, reference, sizeof reference).number == MLS_OK);

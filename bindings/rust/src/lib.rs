@@ -48,14 +48,16 @@ pub struct Refusal {
 impl Refusal {
     /// Returns the name of the rule, as `mlscheck` prints it.
     pub fn name(&self) -> &'static str {
-        const NAMES: [&str; 38] = [
+        const NAMES: [&str; 53] = [
             "", "Malformed", "NotPublic", "WrongGroup", "WrongEpoch", "SenderNotMember", "NotHandshake",
             "BadSignature", "KnownProposal", "AddInvalid", "UpdateInvalid", "RemoveInvalid", "LastEpoch",
             "UnknownReference", "UpdateByCommitter", "RemovesCommitter", "SameLeafTwice", "PathMissing",
             "TooManyLeaves", "PathLength", "PathSource", "PathKeyUsed", "CiphertextCount", "PathParentHash",
             "KeyRepeated", "Member", "TwoContextExtensions", "ContextExtensionsInvalid", "GroupOver",
             "UnknownExternal", "SenderContent", "PskInvalid", "ReInitInvalid", "ExternalInitMisplaced", "PskTwice",
-            "ReInitNotAlone", "JoinList", "ResyncInvalid",
+            "ReInitNotAlone", "JoinList", "ResyncInvalid", "", "", "TagLength", "ExtensionRepeated",
+            "ExtensionMisplaced", "ExtensionUnreadable", "KeyForm", "CiphertextForm", "GroupUnlisted", "DefaultListed",
+            "LifetimeEmpty", "CertificateKey", "PskAhead", "GroupExtensionUnsupported", "PointOffCurve",
         ];
         NAMES.get(self.number as usize).unwrap_or(&"")
     }

@@ -3,6 +3,7 @@
 use Rattle.std.specs.Prelude.{ℕ, List, codes}
 use Rattle.mls_check.specs.declared.members.MemberFault.{MemberFault}
 use Rattle.mls_check.specs.declared.members.MemberFault.TheVariants as members
+use Rattle.mls_msgs.specs.StrictRules.{strict_number, strict_name}
 use Rattle.mls_apply.specs.declared.fault.ApplyFault.{ApplyFault}
 use Rattle.mls_apply.specs.declared.fault.ApplyFault.TheVariants as faults
 use Rattle.mls_apply.specs.declared.refusal.Refusal.{Refusal}
@@ -48,6 +49,7 @@ number_of refusals.PskTwice = 34
 number_of refusals.ReInitNotAlone = 35
 number_of refusals.JoinList = 36
 number_of refusals.ResyncInvalid = 37
+number_of (refusals.Strict r) = strict_number r
 
 -- `name_of e` is the name of a refusal. A report adds the fault of a leaf node to Member.
 abbrev pub name_of : Refusal → List ℕ
@@ -89,6 +91,7 @@ name_of refusals.PskTwice = codes "PskTwice"
 name_of refusals.ReInitNotAlone = codes "ReInitNotAlone"
 name_of refusals.JoinList = codes "JoinList"
 name_of refusals.ResyncInvalid = codes "ResyncInvalid"
+name_of (refusals.Strict r) = strict_name r
 
 -- `member_refusal fault` is the same fault of a leaf node as a refusal.
 abbrev pub member_refusal : MemberFault → Refusal

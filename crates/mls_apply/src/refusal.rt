@@ -2,6 +2,7 @@
 
 use crate::fault::ApplyFault;
 use mls_check::{MemberFault, OutOfMemory};
+use mls_msgs::StrictRule;
 use std::alloc::{AllocError, AllocFailed};
 use thiserror::Error;
 
@@ -135,6 +136,9 @@ pub enum Refusal {
     /// signature key (RFC 9420, 12.4.3.2).
     #[error("an external commit removes another client than its own")]
     ResyncInvalid,
+    /// A strict rule of the follower's set is not met (own rule). It is the last to be checked.
+    #[error("{0}")]
+    Strict(StrictRule),
     /// An allocation failed. It says nothing of the message.
     #[error("out of memory")]
     OutOfMemory,
@@ -144,8 +148,8 @@ impl Refusal {
     ghost use Rattle.std.specs.Prelude.{◌≡◌};
     ghost use Rattle.mls_apply.specs.Refusals.{number_of, name_of};
 
-    /// Returns the number by which reports name the refusal: 0 for `OutOfMemory`, else from 1 on in the order of the
-    /// variants.
+    /// Returns the number by which reports name the refusal: 0 for `OutOfMemory`, that of the rule for `Strict`, else
+    /// from 1 on in the order of the variants.
     pub fn number(&self) -> u8
         ensures { result ≡ number_of self.now }
     {
@@ -188,11 +192,12 @@ impl Refusal {
             Refusal::ReInitNotAlone => 35,
             Refusal::JoinList => 36,
             Refusal::ResyncInvalid => 37,
+            Refusal::Strict(rule) => rule.number(),
         }
     }
 
-    /// Returns the name by which reports name the refusal: that of the variant. A report adds the fault of a leaf node to
-    /// `Member`.
+    /// Returns the name by which reports name the refusal: that of the rule for `Strict`, else that of the variant. A
+    /// report adds the fault of a leaf node to `Member`.
     pub fn name(&self) -> &'static str
         ensures { result.now ≡ name_of self.now }
     {
@@ -235,6 +240,7 @@ impl Refusal {
             Refusal::ReInitNotAlone => "ReInitNotAlone",
             Refusal::JoinList => "JoinList",
             Refusal::ResyncInvalid => "ResyncInvalid",
+            Refusal::Strict(rule) => rule.name(),
         }
     }
 }

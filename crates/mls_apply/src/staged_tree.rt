@@ -268,9 +268,14 @@ impl StagedTree {
         first_changed_failing(alloc, rules, rule, &self.tree, node_indices.as_slice())
     }
 
-    /// Returns the smallest leaf index of a leaf whose capabilities lack what the group requires. Each leaf of the tree
-    /// before the changes must satisfy what the group required then. All leaves are checked if the requirements change.
-    fn first_unmet<C: SignatureCheck>(
+    /// Returns the smallest leaf index of a leaf whose capabilities lack what `rules` require (RFC 9420, 7.3). Each leaf of
+    /// the tree before the changes must satisfy `former`. If these are the same requirements, only the changed leaves are
+    /// checked; else all are.
+    ///
+    /// # Errors
+    ///
+    /// `OutOfMemory`.
+    pub fn first_unmet<C: SignatureCheck>(
         &self,
         alloc: Global,
         former: &RequiredCapabilities,

@@ -11,6 +11,7 @@ use Rattle.mls_check.specs.declared.members.MemberFault.{MemberFault}
 use Rattle.mls_check.specs.declared.members.MemberFault.TheVariants as members
 use Rattle.mls_check.specs.declared.tree_validation.TreeFault.{TreeFault}
 use Rattle.mls_check.specs.declared.tree_validation.TreeFault.TheVariants as trees
+use Rattle.mls_msgs.specs.StrictRules.{strict_number}
 use Rattle.mls_msgs.specs.declared.profile.Profile.{Profile}
 use Rattle.mls_msgs.specs.declared.profile.Profile.TheVariants.{Members, Full}
 use Rattle.mls_apply.specs.Refusals.{number_of}
@@ -23,6 +24,7 @@ use Rattle.mls_follow.specs.declared.start_fault.StartFault.{StartFault}
 use Rattle.mls_follow.specs.declared.start_fault.StartFault.TheVariants as starts
 use Rattle.mls_follow.specs.declared.taken.Taken.{Taken}
 use Rattle.mls_follow.specs.declared.taken.Taken.TheVariants.{Proposal, Commit}
+use Rattle.mls_strict.specs.declared.strict_fault.StrictFault.{StrictFault}
 use Rattle.mls_start.specs.declared.finding.Finding.{Finding}
 use Rattle.mls_start.specs.declared.finding.Finding.TheVariants as findings
 use Rattle.mls_c.specs.declared.input_verdict.InputVerdict.{InputVerdict}
@@ -143,11 +145,22 @@ abbrev pub member_verdict : ℕ → MemberFault → InputVerdict
 member_verdict number members.OutOfMemory = plain_verdict out_of_memory
 member_verdict number fault = verdict number (member_number fault) (member_fault_leaf fault)
 
+-- `place_number place` is the node index, or 2^64 - 1 if there is none.
+abbrev pub place_number : Option ℕ → ℕ
+place_number None = 18446744073709551615
+place_number (Some node_index) = node_index
+
+-- `strict_verdict number fault` is the verdict of a strict rule that is not met (own rule): the number of the rule, and the
+-- node index, if a node does not meet it.
+abbrev pub strict_verdict : ℕ → StrictFault → InputVerdict
+strict_verdict number fault = verdict number (strict_number fault.rule) (place_number fault.place)
+
 -- `start_verdict fault` is the verdict of a start that is refused.
 abbrev pub start_verdict : StartFault → InputVerdict
 start_verdict starts.OutOfMemory = plain_verdict out_of_memory
 start_verdict (starts.Tree fault) = tree_verdict 5 fault
 start_verdict (starts.Member fault) = member_verdict 6 fault
+start_verdict (starts.Strict fault) = strict_verdict 9 fault
 start_verdict fault = plain_verdict (start_number_of fault)
 
 -- `resume_verdict fault` is the verdict of a resumption that is refused: the number of the fault, from 1 on in the order of

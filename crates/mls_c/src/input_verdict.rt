@@ -7,6 +7,7 @@ use mls_check::{MemberFault, TreeFault};
 use mls_follow::{ResumeFault, StartFault};
 use mls_nodes::NodeFault;
 use mls_start::Finding;
+use mls_strict::StrictFault;
 use mls_wire::{WireFault, WireFaultKind};
 
 /// What came of a call on a GroupContext, a GroupInfo, a tree or a state.
@@ -17,7 +18,8 @@ pub struct InputVerdict {
     pub number: u32,
     /// The number of what is wrong inside, or 0.
     pub inner: u32,
-    /// The leaf index, the node index or the offset of what is wrong, or 0.
+    /// The leaf index, the node index or the offset of what is wrong, or 0. It is 18,446,744,073,709,551,615 if a strict
+    /// rule is not met, and not by a node.
     pub place: u64,
 }
 
@@ -53,6 +55,9 @@ const CONTEXT_UNREADABLE: u32 = 109;
 
 /// The state is of another profile.
 pub(crate) const OTHER_PROFILE: u32 = 110;
+
+/// The place of a strict rule that is not met, and not by a node.
+const NO_PLACE: u64 = u64::MAX;
 
 /// Returns a verdict with a number and no more.
 pub(crate) fn plain_verdict(number: u32) -> InputVerdict
@@ -158,6 +163,21 @@ fn member_verdict(number: u32, fault: MemberFault) -> InputVerdict
     }
 }
 
+/// Returns the verdict of a strict rule that is not met: its number, and the node index.
+fn strict_verdict(number: u32, fault: StrictFault) -> InputVerdict
+    ensures { result ≡ numbers.strict_verdict number fault }
+{
+    let place = match fault.place {
+        Some(node_index) => node_index as u64,
+        None => NO_PLACE,
+    };
+    InputVerdict {
+        number,
+        inner: u32::from(fault.rule.number()),
+        place,
+    }
+}
+
 /// Returns the verdict of a start that is refused.
 fn start_verdict(fault: StartFault) -> InputVerdict
     ensures { result ≡ numbers.start_verdict fault }
@@ -166,6 +186,7 @@ fn start_verdict(fault: StartFault) -> InputVerdict
         StartFault::OutOfMemory => plain_verdict(OUT_OF_MEMORY),
         StartFault::Tree(fault) => tree_verdict(5, fault),
         StartFault::Member(fault) => member_verdict(6, fault),
+        StartFault::Strict(fault) => strict_verdict(9, fault),
         _ => plain_verdict(fault.number() as u32),
     }
 }

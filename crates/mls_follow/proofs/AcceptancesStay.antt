@@ -45,6 +45,7 @@ use Rattle.mls_follow.specs.MessageRules.{is_frame_signed, proposal_message_rule
 use Rattle.mls_follow.specs.Start.{is_info_signed}
 use Rattle.mls_follow.specs.RisingRuns.{AcceptancesStay, StartsStay}
 use Rattle.mls_follow.proofs.SignatureAgreement.{text_stays, leaf_stays, members_stay}
+use Rattle.mls_follow.proofs.StrictLists.{both_kept, plain_kept, strict_kept}
 
 -- ---- tests and rules in a list
 
@@ -279,11 +280,13 @@ acceptance_stays G K s bytes more h = record {
   encoded = h.encoded;
   required = h.required;
   requires = h.requires;
-  rules_hold = kept_stays G K s h.required h.message more h.rules_hold;
+  rules_hold =
+      both_kept K s h.required h.message (kept_stays G K s h.required h.message more (plain_kept G s h.required h.message h.rules_hold))
+      (strict_kept G s h.required h.message h.rules_hold);
 }
 
 pub start_stays : StartsStay
-start_stays profile G K info supplied s more h =
+start_stays asked profile G K info supplied s more h =
     let member = h.has_signer.has_members in
     record {
       tree = h.tree;
@@ -297,6 +300,8 @@ start_stays profile G K info supplied s more h =
         set = h.has_signer.set;
       };
       signed = info_stays G K more info h.signer h.signed;
+      strict_info = h.strict_info;
+      strict = h.strict;
       interim = h.interim;
       hashed = h.hashed;
       state = h.state;

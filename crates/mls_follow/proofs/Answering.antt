@@ -10,7 +10,7 @@ use Rattle.mls_apply.specs.RuleLists.{first_failing}
 use Rattle.mls_apply.specs.declared.refusal.Refusal.{Refusal}
 use Rattle.mls_apply.specs.declared.refusal.Refusal.TheVariants.{OutOfMemory}
 use Rattle.mls_follow.specs.State.{State, EncodesMessage}
-use Rattle.mls_follow.specs.MessageRules.{message_rules}
+use Rattle.mls_follow.specs.StrictRules.{all_rules}
 use Rattle.mls_follow.specs.NextState.{Transition, next}
 use Rattle.mls_follow.specs.Acceptance.{IsAcceptable, IsNext, IsFirstRefusal}
 use Rattle.mls_follow.specs.Runs.{IsAnswer}
@@ -30,7 +30,7 @@ module _ (G : VerifyFn) (s : State) (bytes : List ℕ) where
   never_both e a (inl none) = none.1 a.message a.encoded
   never_both e a (inr f) =
       none-some e (sym a.rules_hold
-      ∙ (λ i. first_failing (message_rules G s (Requires-one s.context a.required f.required a.requires f.requires i) (one_message a.message f.message bytes a.encoded f.encoded i)))
+      ∙ (λ i. first_failing (all_rules G s (Requires-one s.context a.required f.required a.requires f.requires i) (one_message a.message f.message bytes a.encoded f.encoded i)))
       ∙ f.fails)
 
   one_refusal : (e f : Refusal) → IsFirstRefusal G s bytes e → IsFirstRefusal G s bytes f → e ≡ f
@@ -39,7 +39,7 @@ module _ (G : VerifyFn) (s : State) (bytes : List ℕ) where
   one_refusal e f (inr a) (inl b) = absurd (b.1 a.message a.encoded)
   one_refusal e f (inr a) (inr b) =
       same_Some e f (sym a.fails
-      ∙ (λ i. first_failing (message_rules G s (Requires-one s.context a.required b.required a.requires b.requires i) (one_message a.message b.message bytes a.encoded b.encoded i)))
+      ∙ (λ i. first_failing (all_rules G s (Requires-one s.context a.required b.required a.requires b.requires i) (one_message a.message b.message bytes a.encoded b.encoded i)))
       ∙ b.fails)
 
   own : (e : Refusal) → (◌≡◌ {A = Result Taken Refusal} (Err e) (Err OutOfMemory) → ⊥) → e ≢ OutOfMemory

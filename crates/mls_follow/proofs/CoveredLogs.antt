@@ -19,7 +19,7 @@ use Rattle.mls_msgs.specs.declared.message.Message.{Message}
 use Rattle.mls_apply.specs.RuleLists.{first_failing}
 use Rattle.mls_apply.specs.declared.refusal.Refusal.{Refusal}
 use Rattle.mls_follow.specs.State.{State, EncodesMessage}
-use Rattle.mls_follow.specs.MessageRules.{message_rules}
+use Rattle.mls_follow.specs.StrictRules.{all_rules}
 use Rattle.mls_follow.specs.Acceptance.{IsFirstRefusal}
 use Rattle.mls_follow.specs.Start.{IsStart}
 use Rattle.mls_follow.specs.Runs.{Call, IsTransition, IsAnswer}
@@ -90,7 +90,7 @@ state_covered R s v = good_tree R s.context.cipher_suite s.context.group_id v.re
 -- ---- messages
 
 module _ (G K : VerifyFn) (s : State) (bytes : List ℕ)
-    (same : (required : RequiredCapabilities) (m : Message) → EncodesMessage s.profile m bytes → first_failing (message_rules G s required m) ≡ first_failing (message_rules K s required m)) where
+    (same : (required : RequiredCapabilities) (m : Message) → EncodesMessage s.profile m bytes → first_failing (all_rules G s required m) ≡ first_failing (all_rules K s required m)) where
   refused_alike : (e : Refusal) → IsFirstRefusal G s bytes e → IsFirstRefusal K s bytes e
   refused_alike e (inl none) = inl none
   refused_alike e (inr f) =
@@ -120,7 +120,7 @@ module _ (G K : VerifyFn) (s : State) (bytes : List ℕ)
 
 module _ (R : VerifyFn) (s : State) (bytes : List ℕ) (v : IsValidState R s) (covers : CoversMessage R s bytes) where
   refusals_alike : (required : RequiredCapabilities) (m : Message) → EncodesMessage s.profile m bytes
-      → first_failing (message_rules R s required m) ≡ first_failing (message_rules all_good s required m)
+      → first_failing (all_rules R s required m) ≡ first_failing (all_rules all_good s required m)
   refusals_alike required m encoded =
       decide_refusals R all_good s required m
       (covered R (message_signatures_in_state s m) (covers (message_signatures_in_state s m) (record { message = m; encoded = encoded; same = refl }))) (state_covered R s v)
@@ -165,23 +165,23 @@ start_flipped : (R : VerifyFn) (info : GroupInfo) (supplied : Option RatchetTree
 start_flipped R info supplied covers t uses = flipped R all_good (start_signatures info t.tree) (covered R (start_signatures info t.tree) (covers t uses))
 
 pub covered_starts : CoveredStartsAreTrusted
-covered_starts profile R info supplied s covers = (
-  decide_starts profile R all_good info supplied s (start_covered R info supplied covers),
-  decide_starts profile all_good R info supplied s (start_flipped R info supplied covers),
+covered_starts asked profile R info supplied s covers = (
+  decide_starts asked profile R all_good info supplied s (start_covered R info supplied covers),
+  decide_starts asked profile all_good R info supplied s (start_flipped R info supplied covers),
 )
 
 pub covered_faults : CoveredFaultsAreTrusted
-covered_faults R info supplied fault covers = (
-  decide_faults R all_good info supplied fault (start_covered R info supplied covers),
-  decide_faults all_good R info supplied fault (start_flipped R info supplied covers),
+covered_faults asked R info supplied fault covers = (
+  decide_faults asked R all_good info supplied fault (start_covered R info supplied covers),
+  decide_faults asked all_good R info supplied fault (start_flipped R info supplied covers),
 )
 
 -- ---- both
 
 pub covered_logs : CoveredLogsAreTrusted
-covered_logs profile R info supplied first last calls start log =
-    let starts = covered_starts profile R info supplied first start in
-    let valid : IsStart profile R info supplied first → IsValidState R first = start_valid profile R info supplied first in (
+covered_logs asked profile R info supplied first last calls start log =
+    let starts = covered_starts asked profile R info supplied first start in
+    let valid : IsStart asked profile R info supplied first → IsValidState R first = start_valid asked profile R info supplied first in (
       λ h. (starts.0 h.0, run_to_trusted R first calls last (valid h.0) log h.1),
       λ h. (let s = starts.1 h.0 in (s, run_from_trusted R first calls last (valid s) log h.1)),
     )

@@ -11,16 +11,19 @@ use Rattle.mls_msgs.specs.MessageParsing.{message_at}
 use Rattle.mls_msgs.specs.Profile.{is_members_message, is_in}
 use Rattle.mls_msgs.specs.declared.message.Message.{Message}
 use Rattle.mls_apply.specs.RuleLists.{first_failing}
+use Rattle.mls_apply.proofs.RuleLists.{others_both}
 use Rattle.mls_apply.specs.declared.refusal.Refusal.{Refusal}
 use Rattle.mls_apply.specs.declared.refusal.Refusal.TheVariants.{Malformed, OutOfMemory}
 use Rattle.mls_wire.specs.Limits.{input_limit}
 use Rattle.mls_nodes.specs.Requirements.{Requires}
 use Rattle.mls_follow.specs.State.{State, EncodesMessage}
 use Rattle.mls_follow.specs.MessageRules.{message_rules}
+use Rattle.mls_follow.specs.StrictRules.{all_rules, strict_rules}
 use Rattle.mls_follow.specs.Acceptance.{EncodesNoMessage}
 use Rattle.mls_follow.specs.Runs.{HasAnswer, IsWellFormed, AnswerExists}
 use Rattle.mls_follow.specs.declared.taken.Taken.{Taken}
 use Rattle.mls_follow.proofs.OwnRules.{of_message}
+use Rattle.mls_follow.proofs.StrictLists.{own_strict, plain_kept}
 use Rattle.mls_follow.proofs.Advancing.{next_there}
 
 module _ (G : VerifyFn) (s : State) (required : RequiredCapabilities) (bytes : List ℕ) (held : IsWellFormed s) (requires : Requires s.context required) where
@@ -42,9 +45,9 @@ module _ (G : VerifyFn) (s : State) (required : RequiredCapabilities) (bytes : L
   )
 
   -- they spell this one
-  checked : (m : Message) → EncodesMessage s.profile m bytes → (o : Option Refusal) → first_failing (message_rules G s required m) ≡ o → Answered
+  checked : (m : Message) → EncodesMessage s.profile m bytes → (o : Option Refusal) → first_failing (all_rules G s required m) ≡ o → Answered
   checked m encoded None kept =
-      let step = next_there s held G required requires m (bytes, encoded) kept in (
+      let step = next_there s held G required requires m (bytes, encoded) (plain_kept G s required m kept) in (
         Ok step.step.taken,
         step.step.state,
         record {
@@ -57,13 +60,13 @@ module _ (G : VerifyFn) (s : State) (required : RequiredCapabilities) (bytes : L
     s,
     record {
       takes = (refl, λ own. inr (record { message = m; encoded = encoded; required = required; requires = requires; fails = fails }));
-      memory = λ h. (of_message G s required m).never (fails ∙ ap Some (same_error e OutOfMemory h));
+      memory = λ h. (others_both (message_rules G s required m) (strict_rules s m) (of_message G s required m) (own_strict s m)).never (fails ∙ ap Some (same_error e OutOfMemory h));
     },
   )
 
   of_profile : (m : Message) → message_at bytes ≡ Some m → nat_le (length bytes) input_limit ≡ true → (b : Bool) → is_in s.profile (is_members_message m) ≡ b → Answered
   of_profile m e f true members =
-      checked m (record { encoded = message_takes bytes m e; allowed = members; bounded = grind (arith, nat_tests) }) (first_failing (message_rules G s required m)) refl
+      checked m (record { encoded = message_takes bytes m e; allowed = members; bounded = grind (arith, nat_tests) }) (first_failing (all_rules G s required m)) refl
   of_profile m e f false foreign =
       malformed (λ n h. false≢true (sym foreign ∙ ap (λ (k : Message). is_in s.profile (is_members_message k)) (same_Some m n (sym e ∙ message_again n bytes h.encoded)) ∙ h.allowed))
 

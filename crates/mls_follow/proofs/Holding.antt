@@ -22,6 +22,8 @@ use Rattle.mls_follow.proofs.Answering.{one_message}
 use Rattle.mls_follow.proofs.Deciding.{an_answer}
 use Rattle.mls_apply.proofs.Encodings.{put_back}
 use Rattle.mls_apply.specs.declared.refusal.Refusal.{Refusal}
+use Rattle.mls_follow.proofs.StrictLists.{plain_kept}
+use Rattle.mls_msgs.specs.declared.rules.Rules.{Rules}
 
 -- a state that a follower may hold, whose group's requirements can be read
 pub record IsSteady (s : State) : Type 0 where
@@ -30,8 +32,8 @@ pub record IsSteady (s : State) : Type 0 where
   pub requires : Requires s.context required
 
 -- it starts in one
-pub start_steady : (profile : Profile) (G : VerifyFn) (info : GroupInfo) (supplied : Option RatchetTree) (s : State) → IsStart profile G info supplied s → IsSteady s
-start_steady profile G info supplied s h =
+pub start_steady : (asked : Rules) (profile : Profile) (G : VerifyFn) (info : GroupInfo) (supplied : Option RatchetTree) (s : State) → IsStart asked profile G info supplied s → IsSteady s
+start_steady asked profile G info supplied s h =
     let valid = h.has_signer.has_members.valid_tree in
     subst IsSteady (sym h.state) (record {
       held = record {
@@ -47,7 +49,7 @@ module _ (G : VerifyFn) (s : State) (steady : IsSteady s) (bytes : List ℕ) whe
   -- what is accepted leads to one
   accepted_steady : (step : Transition) → IsAcceptable G s bytes → IsNext s bytes step → IsSteady step.state
   accepted_steady step a n =
-      let l : Leads s steady.held (next s a.message) = next_there s steady.held G a.required a.requires a.message (bytes, a.encoded) a.rules_hold in
+      let l : Leads s steady.held (next s a.message) = next_there s steady.held G a.required a.requires a.message (bytes, a.encoded) (plain_kept G s a.required a.message a.rules_hold) in
       let same = same_Some l.step step (sym l.is ∙ ap (next s) (one_message a.message n.message bytes a.encoded n.encoded) ∙ n.after) in
       subst (λ (t : Transition). IsSteady t.state) same (record { held = l.still; required = l.required; requires = l.requires })
 
@@ -61,6 +63,6 @@ run_steady G s (call ∷ calls) new steady h =
     run_steady G h.0 calls new (taken_steady G s steady call.bytes call.answer h.0 h.1) h.2
 
 pub run_answered : RunsAreAnswered
-run_answered profile G info supplied first last calls bytes start run =
-    let steady = run_steady G first calls last (start_steady profile G info supplied first start) run in
+run_answered asked profile G info supplied first last calls bytes start run =
+    let steady = run_steady G first calls last (start_steady asked profile G info supplied first start) run in
     an_answer G last steady.required bytes steady.held steady.requires

@@ -33,6 +33,7 @@ use Rattle.mls_follow.specs.Runs.{IsTransition, Call, IsRun}
 use Rattle.mls_follow.specs.declared.taken.Taken.{Taken}
 use Rattle.mls_follow.proofs.Answering.{one_message}
 use Rattle.mls_follow.proofs.KnownReadable.{commit-forgets, join-forgets}
+use Rattle.mls_follow.proofs.StrictLists.{plain_kept}
 
 -- a state that knows none
 knows_none : (G : VerifyFn) (s : State) → s.known ≡ [] → AreKnownSigned G s
@@ -127,7 +128,7 @@ module _ (G : VerifyFn) (s : State) (all : AreKnownSigned G s) (required : Requi
 module _ (G : VerifyFn) (s : State) (all : AreKnownSigned G s) (bytes : List ℕ) where
   accepted-signed : (step : Transition) → IsAcceptable G s bytes → IsNext s bytes step → AreKnownSigned G step.state
   accepted-signed step a n =
-      step-signed G s all a.required a.message step a.rules_hold
+      step-signed G s all a.required a.message step (plain_kept G s a.required a.message a.rules_hold)
       (ap (next s) (one_message a.message n.message bytes a.encoded n.encoded) ∙ n.after)
 
   taken-signed : (answer : Result Taken Refusal) (new : State) → IsTransition G s bytes answer new → AreKnownSigned G new
@@ -139,5 +140,5 @@ run-signed G s [] new all h = subst (AreKnownSigned G) (sym h) all
 run-signed G s (call ∷ calls) new all h = run-signed G h.0 calls new (taken-signed G s all call.bytes call.answer h.0 h.1) h.2
 
 pub followers_signed : FollowersKnowSigned
-followers_signed profile G info supplied first last calls start run =
+followers_signed asked profile G info supplied first last calls start run =
     run-signed G first calls last (knows_none G first (ap (λ (s : State). s.known) start.state)) run

@@ -18,4 +18,5 @@ pub checked_stays : (G K : VerifyFn) (s : State) → Extends G K → HasUniqueKe
 checked_stays G K s more j = record {
   distinct = j.distinct;
   members = λ required requires. members_stay G K s.context.cipher_suite s.context.group_id required s.tree more (j.members required requires);
+  supported = j.supported;
 }

@@ -55,6 +55,7 @@ use Rattle.mls_follow.specs.NextState.{Transition, after_proposal, committed, af
 use Rattle.mls_follow.specs.Resumption.{CanHoldEntries, can_hold, is_receivable, with_pending, base_state, is_over, profile_of_mode}
 use Rattle.mls_apply.specs.Transcript.{confirmed_hash, interim_hash}
 use Rattle.mls_follow.proofs.Answering.{one_message}
+use Rattle.mls_follow.proofs.StrictLists.{plain_kept}
 
 -- ---- lists of rules
 
@@ -369,13 +370,13 @@ in_members Full b e i = absurd (cc)
 
 pub states_stay : MembersStatesStay
 states_stay G s bytes step h a n =
-    step-members G s h a.required a.message step (in_members s.profile (is_members_message a.message) h.profile a.encoded.allowed) a.rules_hold
+    step-members G s h a.required a.message step (in_members s.profile (is_members_message a.message) h.profile a.encoded.allowed) (plain_kept G s a.required a.message a.rules_hold)
     (ap (next s) (one_message a.message n.message bytes a.encoded n.encoded) ∙ n.after)
 
 -- ---- first states
 
 pub members_start : MembersStart
-members_start G info supplied s h = subst IsMembersState (sym h.state) (record { profile = refl; going = refl; known = All-nil IsOfMember })
+members_start asked G info supplied s h = subst IsMembersState (sym h.state) (record { profile = refl; going = refl; known = All-nil IsOfMember })
 
 followed_member : (profile : Profile) (sender : Sender) → profile ≡ Members → is_sender_supported profile sender ≡ true → is_member sender ≡ true
 followed_member Members (senders.Member i) e f = refl

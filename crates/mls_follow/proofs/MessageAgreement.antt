@@ -58,6 +58,7 @@ use Rattle.mls_follow.proofs.SignatureAgreement.{leaf_alike, package_alike, fram
 use Rattle.mls_follow.proofs.CommitLeaves.{IsPathLeaf, new_leaf_is, listed}
 use Rattle.mls_follow.proofs.JoinedLeaves.{join_stood, seat_leaves}
 use Rattle.mls_follow.proofs.EncodedCommits.{added_inside}
+use Rattle.mls_follow.proofs.StrictLists.{all_alike}
 
 -- ---- rules in a list
 
@@ -433,6 +434,6 @@ module _ (G K : VerifyFn) where
 
 pub decide_refusals : SignaturesDetermineRefusal
 decide_refusals G K s required m needed old =
-    messages_alike G K s required old m
+    all_alike G K s required m (messages_alike G K s required old m
     (λ going. from_deduplicated G K (all_message_signatures s.profile s.context s.known s.tree m)
-    (while_open G K s.ended (message_signatures s.profile s.context s.known s.tree m) going needed))
+    (while_open G K s.ended (message_signatures s.profile s.context s.known s.tree m) going needed)))

@@ -11,7 +11,7 @@ use Rattle.mls_follow.specs.AcceptanceInternal.{Takes}
 use Rattle.mls_follow.specs.State.{State}
 use Rattle.mls_follow.specs.MessageRules.{if_full, joiner_rules, outside_rules}
 use Rattle.mls_follow.specs.MessageRulesInternal.{sender_refusal}
-use Rattle.mls_follow.specs.NextState.{after_join, after_outside, after_sender}
+use Rattle.mls_follow.specs.NextState.{Transition, after_join, after_outside, after_sender}
 use Rattle.mls_follow.specs.declared.taken.Taken.{Taken}
 
 module _ (G : VerifyFn) (s : State) (required : RequiredCapabilities) (a : AuthenticatedParts) (sender : Sender) where
@@ -53,14 +53,14 @@ module _ (G : VerifyFn) (s : State) (required : RequiredCapabilities) (a : Authe
   by_committer is = subst (λ (x : Sender). sender_refusal G s required a x ≡ Joiner) (sym is) of_committer
 
   -- what is taken by the sender's rules is taken by those for the message
-  module _ (whole : Option Refusal) (header : whole ≡ sender_refusal G s required a sender) (r : Result Taken Refusal) (new : State) where
-    pub member_taken : (i : ℕ) → sender ≡ senders.Member i → Takes (sender_refusal G s required a (senders.Member i)) (after_sender s a (senders.Member i)) s r new
-        → Takes whole (after_sender s a sender) s r new
-    member_taken i is h = rw header (subst (λ (x : Sender). Takes (sender_refusal G s required a x) (after_sender s a x) s r new) (sym is) h)
+  module _ (strict : Option Transition → Option Refusal) (whole : Option Refusal) (header : whole ≡ sender_refusal G s required a sender) (r : Result Taken Refusal) (new : State) where
+    pub member_taken : (i : ℕ) → sender ≡ senders.Member i → Takes strict (sender_refusal G s required a (senders.Member i)) (after_sender s a (senders.Member i)) s r new
+        → Takes strict whole (after_sender s a sender) s r new
+    member_taken i is h = rw header (subst (λ (x : Sender). Takes strict (sender_refusal G s required a x) (after_sender s a x) s r new) (sym is) h)
 
     pub outside_taken : sender_refusal G s required a sender ≡ Outside → after_sender s a sender ≡ after_outside s a sender a.content.content
-        → Takes Outside (after_outside s a sender a.content.content) s r new → Takes whole (after_sender s a sender) s r new
+        → Takes strict Outside (after_outside s a sender a.content.content) s r new → Takes strict whole (after_sender s a sender) s r new
     outside_taken own next h = rw (header, own, next) h
 
-    pub joiner_taken : sender ≡ senders.NewMemberCommit → Takes Joiner (after_join s a a.content.content) s r new → Takes whole (after_sender s a sender) s r new
+    pub joiner_taken : sender ≡ senders.NewMemberCommit → Takes strict Joiner (after_join s a a.content.content) s r new → Takes strict whole (after_sender s a sender) s r new
     joiner_taken is h = rw (header, by_committer is, ap (after_sender s a) is) h

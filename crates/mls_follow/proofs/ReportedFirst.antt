@@ -26,6 +26,8 @@ use Rattle.mls_follow.specs.State.{State}
 use Rattle.mls_signatures.specs.SigningKeys.{leaf_key, signing_key, outside_key, may_propose}
 use Rattle.mls_follow.specs.ProposalSignatures.{IsProposalUnder, UnsignedIsReportedFirst, KnownIsReportedNext}
 use Rattle.mls_follow.specs.MessageRules.{is_new_proposal, is_frame_signed, proposal_message_rules, handshake_rules, signed_rules, leaf_rules, is_sender_supported, is_known_external, signed_proposal_rules, outside_content_rules, outside_rules, if_full, sender_rules, frame_rules}
+use Rattle.mls_msgs.specs.declared.message.Message.TheVariants as messages
+use Rattle.mls_follow.proofs.StrictLists.{plain_failed}
 
 -- behind a rule that holds the others decide
 behind : (e : Refusal) (b : Bool) (rs : List (Rule Refusal)) → b ≡ true → first_failing (rule e b ∷ rs) ≡ first_failing rs
@@ -101,7 +103,7 @@ module _ (G : VerifyFn) (s : State) (required : RequiredCapabilities) (a : Authe
         ∙ reported KnownProposal (is_new_proposal s a) (proposal_rules G s.context s.tree a.content.sender p) old
 
 pub unsigned_first : UnsignedIsReportedFirst
-unsigned_first G s required m key p h bad = unsigned G s required m.auth key p h bad
+unsigned_first G s required m key p h bad = plain_failed G s required (messages.Public m) BadSignature (unsigned G s required m.auth key p h bad)
 
 pub known_next : KnownIsReportedNext
-known_next G s required m key p h signed old = known G s required m.auth key p h signed old
+known_next G s required m key p h signed old = plain_failed G s required (messages.Public m) KnownProposal (known G s required m.auth key p h signed old)

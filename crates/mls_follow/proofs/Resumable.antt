@@ -57,6 +57,8 @@ use Rattle.mls_follow.specs.declared.taken.Taken.{Taken}
 use Rattle.mls_follow.proofs.Answering.{one_message}
 use Rattle.mls_follow.proofs.Pending.{held_entries, held_more}
 use Rattle.mls_follow.proofs.Validity.{start_valid, step_valid}
+use Rattle.mls_follow.proofs.StrictLists.{plain_kept}
+use Rattle.mls_msgs.specs.declared.rules.Rules.{Rules}
 
 -- ---- what a state has beside its validity
 
@@ -261,8 +263,8 @@ module _ (G : VerifyFn) (s : State) (h : IsResumable G s) (bytes : List ℕ) whe
   accepted_resumable : (step : Transition) → IsAcceptable G s bytes → IsNext s bytes step → IsResumable G step.state
   accepted_resumable step a n =
       let after : next s a.message ≡ Some step = ap (next s) (one_message a.message n.message bytes a.encoded n.encoded) ∙ n.after in
-      resumable G step.state (step_valid G s a.required a.message step h.valid a.requires a.rules_hold after)
-      (step-rests G s rests a.required a.message step a.encoded.allowed a.rules_hold after)
+      resumable G step.state (step_valid G s a.required a.message step h.valid a.requires (plain_kept G s a.required a.message a.rules_hold) after)
+      (step-rests G s rests a.required a.message step a.encoded.allowed (plain_kept G s a.required a.message a.rules_hold) after)
 
   taken_resumable : (answer : Result Taken Refusal) (new : State) → IsTransition G s bytes answer new → IsResumable G new
   taken_resumable (Ok taken) new t = accepted_resumable (record { taken = taken; state = new }) t.0 t.1
@@ -275,9 +277,9 @@ run_resumable G s (call ∷ calls) new h run =
 
 -- ---- first states
 
-pub start_resumable : (profile : Profile) (G : VerifyFn) (info : GroupInfo) (supplied : Option RatchetTree) (s : State) → IsStart profile G info supplied s → IsResumable G s
-start_resumable profile G info supplied s h =
-    resumable G s (start_valid profile G info supplied s h)
+pub start_resumable : (asked : Rules) (profile : Profile) (G : VerifyFn) (info : GroupInfo) (supplied : Option RatchetTree) (s : State) → IsStart asked profile G info supplied s → IsResumable G s
+start_resumable asked profile G info supplied s h =
+    resumable G s (start_valid asked profile G info supplied s h)
     (subst (Rests G) (sym h.state) (record {
       supported = h.has_signer.has_members.valid_tree.readable.has_tree.supported;
       hashed = length-interim info.context.cipher_suite info.context.confirmed (Some info.confirmation_tag) h.interim h.hashed;
@@ -307,7 +309,7 @@ pub resumed_resumable : (G : VerifyFn) (bytes : List ℕ) (s : State) → IsResu
 resumed_resumable G bytes s h = content_resumable G h.content h.tree s h.state
 
 first_resumable : (G : VerifyFn) (s : State) → IsInitialState G s → IsResumable G s
-first_resumable G s (inl h) = start_resumable h.0 G h.1 h.2 s h.3
+first_resumable G s (inl h) = start_resumable h.0 h.1 G h.2 h.3 s h.4
 first_resumable G s (inr h) = resumed_resumable G h.0 s h.1
 
 pub followers_resumable : FollowersAreResumable

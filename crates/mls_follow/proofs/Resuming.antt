@@ -35,6 +35,7 @@ use Rattle.mls_follow.specs.ResumptionParts.{HasNoTree, ReadsTreeBody, resume_fa
 use Rattle.mls_follow.specs.declared.group.Group.{Group}
 use Rattle.mls_follow.specs.declared.resume_fault.ResumeFault.{ResumeFault}
 use Rattle.mls_follow.specs.declared.resume_fault.ResumeFault.TheVariants.{Unreadable, ChecksumDiffers, UnsupportedVersion, UnsupportedSuite, RequirementsUnreadable, Tree, Member, InterimLength, KnownInvalid, OutOfMemory}
+use Rattle.mls_msgs.specs.Rules.{plain_rules}
 
 -- ---- entries
 
@@ -192,7 +193,7 @@ treeless_content bytes c h none = treeless bytes h.file h.encoded (λ t body. no
 
 module _ (G : VerifyFn) (c : FollowerState) (t : RatchetTree) (u : trees.Tree) (interim : List ℕ) (same : u ≡ t.tree) (equal : interim ≡ c.interim) (based : HasInterim G c t) where
   same_base : state_without_pending c.mode c.context u interim ≡ base_state c t
-  same_base = λ i. record { profile = profile_of_mode c.mode; context = c.context; tree = same i; interim = equal i; known = []; ended = is_over c.mode }
+  same_base = λ i. record { profile = profile_of_mode c.mode; rules = plain_rules; context = c.context; tree = same i; interim = equal i; known = []; ended = is_over c.mode }
 
   pub state_of_content : (r : Result Group ResumeFault) → IfOk r (λ g. CanHoldEntries G (state_without_pending c.mode c.context u interim) c.known (group_state g))
       → IfOk r (λ g. IsStateOf G c t (group_state g))

@@ -117,17 +117,17 @@ rising_valid G s events new v h =
     run_valid (last_meaning G events) s r.calls new (valid_stays G (last_meaning G events) s (rising_extends G s events new h) v) r.run
 
 pub rising_follower_valid : RisingFollowersAreValid
-rising_follower_valid profile G info supplied first last events start h =
-    rising_valid G first events last (start_valid profile G info supplied first start) h
+rising_follower_valid asked profile G info supplied first last events start h =
+    rising_valid G first events last (start_valid asked profile G info supplied first start) h
 
 pub rising_signed : RisingFollowersKnowSigned
-rising_signed profile G info supplied first last events start h =
+rising_signed asked profile G info supplied first last events start h =
     let r = as_run G first events last h in
-    followers_signed profile (last_meaning G events) info supplied first last r.calls
-    (start_stays profile G (last_meaning G events) info supplied first (rising_extends G first events last h) start) r.run
+    followers_signed asked profile (last_meaning G events) info supplied first last r.calls
+    (start_stays asked profile G (last_meaning G events) info supplied first (rising_extends G first events last h) start) r.run
 
 pub rising_answered : RisingRunsAreAnswered
-rising_answered profile G info supplied first last events bytes start h =
+rising_answered asked profile G info supplied first last events bytes start h =
     let r = as_run G first events last h in
-    run_answered profile (last_meaning G events) info supplied first last r.calls bytes
-    (start_stays profile G (last_meaning G events) info supplied first (rising_extends G first events last h) start) r.run
+    run_answered asked profile (last_meaning G events) info supplied first last r.calls bytes
+    (start_stays asked profile G (last_meaning G events) info supplied first (rising_extends G first events last h) start) r.run

@@ -9,6 +9,7 @@ use Rattle.mls_check.specs.LeafValidation.{is_leaf_signed}
 use Rattle.mls_check.specs.Signatures.{VerifyFn}
 use Rattle.mls_msgs.specs.declared.group_info.GroupInfo.{GroupInfo}
 use Rattle.mls_msgs.specs.declared.profile.Profile.{Profile}
+use Rattle.mls_msgs.specs.declared.rules.Rules.{Rules}
 use Rattle.mls_follow.specs.State.{State}
 use Rattle.mls_follow.specs.Start.{UsesTree, HasSigner, is_info_signed, IsStart, IsStartFault}
 use Rattle.mls_signatures.specs.Agreement.{AgreeOn}
@@ -20,7 +21,7 @@ use Rattle.mls_signatures.proofs.SupportedContexts.{passes_context}
 use Rattle.mls_signatures.proofs.Agreement.{front, back, from_deduplicated, given}
 use Rattle.mls_follow.proofs.SignatureAgreement.{tree_leaf, leaf_alike, info_alike, members_alike, faults_alike}
 
-module _ (G K : VerifyFn) (info : GroupInfo) (supplied : Option RatchetTree) (agree : AgreeOnStart G K info supplied) where
+module _ (asked : Rules) (G K : VerifyFn) (info : GroupInfo) (supplied : Option RatchetTree) (agree : AgreeOnStart G K info supplied) where
   module _ (t : RatchetTree) (required : RequiredCapabilities) (valid : HasValidTree info.context (UsesTree supplied info.extensions) t required) where
     signatures : AgreeOn G K (info_signatures info (leaf_at 0 t.tree info.signer) ++ tree_signatures info.context.cipher_suite info.context.group_id 0 t.tree)
     signatures =
@@ -52,18 +53,20 @@ module _ (G K : VerifyFn) (info : GroupInfo) (supplied : Option RatchetTree) (ag
       (front G K (info_signatures info (leaf_at 0 t.tree info.signer)) (tree_signatures info.context.cipher_suite info.context.group_id 0 t.tree)
       (signatures t h.required h.has_members.valid_tree)))
 
-  start_moves : (profile : Profile) (s : State) → IsStart profile G info supplied s → IsStart profile K info supplied s
+  start_moves : (profile : Profile) (s : State) → IsStart asked profile G info supplied s → IsStart asked profile K info supplied s
   start_moves profile s h = record {
     tree = h.tree;
     signer = h.signer;
     has_signer = signer_moves h.tree h.signer h.has_signer;
     signed = sym (signed_alike h.tree h.signer h.has_signer) ∙ h.signed;
+    strict_info = h.strict_info;
+    strict = h.strict;
     interim = h.interim;
     hashed = h.hashed;
     state = h.state;
   }
 
-  fault_moves : (fault : StartFault) → IsStartFault G info supplied fault → IsStartFault K info supplied fault
+  fault_moves : (fault : StartFault) → IsStartFault asked G info supplied fault → IsStartFault asked K info supplied fault
   fault_moves starts.UnsupportedVersion h = h
   fault_moves starts.UnsupportedSuite h = h
   fault_moves starts.NoTree h = h
@@ -90,10 +93,17 @@ module _ (G K : VerifyFn) (info : GroupInfo) (supplied : Option RatchetTree) (ag
     has_signer = signer_moves h.tree h.signer h.has_signer;
     unsigned = sym (signed_alike h.tree h.signer h.has_signer) ∙ h.unsigned;
   }
+  fault_moves (starts.Strict fault) h = record {
+    tree = h.tree;
+    signer = h.signer;
+    has_signer = signer_moves h.tree h.signer h.has_signer;
+    signed = sym (signed_alike h.tree h.signer h.has_signer) ∙ h.signed;
+    fails = h.fails;
+  }
   fault_moves starts.OutOfMemory h = h
 
 pub decide_starts : SignaturesDetermineStart
-decide_starts profile G K info supplied s agree h = start_moves G K info supplied agree profile s h
+decide_starts asked profile G K info supplied s agree h = start_moves asked G K info supplied agree profile s h
 
 pub decide_faults : SignaturesDetermineStartFault
-decide_faults G K info supplied fault agree h = fault_moves G K info supplied agree fault h
+decide_faults asked G K info supplied fault agree h = fault_moves asked G K info supplied agree fault h

@@ -1,5 +1,5 @@
 -- A state has a file, or no bytes are its file.
-use Rattle.std.proofs.Common.{◌≡◌, ◌∙◌, ℕ, List, length, map, Option, Some, None, refl, sym, ap, subst, inl, inr}
+use Rattle.std.proofs.Common.{◌≡◌, ◌∙◌, ℕ, Bool, true, false, List, length, map, Option, Some, None, refl, sym, ap, subst, inl, inr}
 use Rattle.std.specs.Prelude.{◌⊎◌}
 use Rattle.std.proofs.lemmas.Option.{none-some, same_Some}
 use Rattle.sha2.specs.Sha256.{sha256}
@@ -18,9 +18,11 @@ use Rattle.mls_follow.specs.State.{State}
 use Rattle.mls_follow.specs.StoredState.{IsTreeBody, Stores, EncodesState, HasNoFile, stored_entry, stored_mode}
 use Rattle.mls_follow.specs.StoredRuns.{StoredFileOrNone}
 use Rattle.mls_follow.proofs.Readings.{read_or_not, fits_or_not, same_or_not, le_or_not}
-use Rattle.mls_follow.proofs.StoredStates.{made_file, no_file, long_file, no_tree_no_file, no_mode_no_file}
+use Rattle.mls_follow.proofs.StoredStates.{made_file, no_file, long_file, no_tree_no_file, no_mode_no_file, not_plain_no_file}
 use Rattle.mls_follow.proofs.StoredTrees.{encoded_tree, filled-full}
 use Rattle.mls_follow.proofs.Storing.{own_bytes, no_body, is_same}
+use Rattle.mls_msgs.specs.Rules.{is_plain, plain_rules}
+use Rattle.mls_msgs.proofs.RuleSets.{is_plain-iff}
 
 -- ---- shapes
 
@@ -117,8 +119,8 @@ module _ (s : State) where
     by_content : FileOrNone
     by_content = by_state (follower_state c) refl
 
-  by_mode : (mode : GroupMode) → stored_mode s.profile s.ended ≡ Some mode → HasShape s.tree → FileOrNone
-  by_mode mode e shape =
+  by_mode : s.rules ≡ plain_rules → (mode : GroupMode) → stored_mode s.profile s.ended ≡ Some mode → HasShape s.tree → FileOrNone
+  by_mode plain mode e shape =
       let t : RatchetTree = record { tree = s.tree; shape = shape } in
       elim (body_or_none t) [
         | inr none ↦ inr (no_tree_no_file s t refl none)
@@ -130,16 +132,20 @@ module _ (s : State) where
               tree = body.0;
               known = map stored_entry s.known;
             } in
-            by_content c t body.1 (record { mode = e; context = refl; tree = refl; interim = refl; known = refl }))
+            by_content c t body.1 (record { mode = e; rules = plain; context = refl; tree = refl; interim = refl; known = refl }))
       ]
 
-  by_shape : (o : Option GroupMode) → stored_mode s.profile s.ended ≡ o → HasShape s.tree → FileOrNone
-  by_shape None e shape = inr (no_mode_no_file s e)
-  by_shape (Some mode) e shape = by_mode mode e shape
+  by_shape : s.rules ≡ plain_rules → (o : Option GroupMode) → stored_mode s.profile s.ended ≡ o → HasShape s.tree → FileOrNone
+  by_shape plain None e shape = inr (no_mode_no_file s e)
+  by_shape plain (Some mode) e shape = by_mode plain mode e shape
+
+  by_rules : (b : Bool) → is_plain s.rules ≡ b → HasShape s.tree → FileOrNone
+  by_rules true plain shape = by_shape ((is_plain-iff s.rules).0 plain) (stored_mode s.profile s.ended) refl shape
+  by_rules false strict shape = inr (not_plain_no_file s strict)
 
 pub some_file : StoredFileOrNone
 some_file s =
     elim (shape_or_not s.tree) [
-      | inl shape ↦ by_shape s (stored_mode s.profile s.ended) refl shape
+      | inl shape ↦ by_rules s (is_plain s.rules) refl shape
       | inr none ↦ inr (λ bytes e. none (subst HasShape e.stores.tree e.tree.shape))
     ]

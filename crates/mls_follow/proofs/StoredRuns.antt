@@ -47,6 +47,7 @@ module _ (G : VerifyFn) (s : State) (c : FollowerState) (t : RatchetTree) (h : I
       let mode = mode_same c.mode s.profile s.ended stores.mode in
       λ i. record {
         profile = mode.0 i;
+        rules = stores.rules i;
         context = sym stores.context i;
         tree = sym stores.tree i;
         interim = sym stores.interim i;

@@ -3,7 +3,9 @@ use Rattle.std.proofs.Common.{◌≡◌, ◌∙◌, ℕ, ◌≤◌, Bool, true, 
 use Rattle.mls_wire.specs.Limits.{input_limit}
 use Rattle.mls_tree.specs.RatchetTree.{RatchetTree}
 use Rattle.mls_tree.specs.RatchetTreeInternal.{RatchetTree-same}
+use Rattle.std.proofs.lemmas.Bool.{false≢true}
 use Rattle.std.proofs.lemmas.Option.{none-some, same_Some}
+use Rattle.mls_msgs.specs.Rules.{is_plain}
 use Rattle.mls_msgs.specs.declared.profile.Profile.{Profile}
 use Rattle.mls_msgs.specs.declared.profile.Profile.TheVariants as profiles
 use Rattle.mls_state.proofs.Files.{state_is_unique, file_is_unique}
@@ -85,7 +87,8 @@ one_state c t r s p q =
     let interim = sym p.interim ∙ q.interim in
     let known = one_list r.known s.known (sym p.known ∙ q.known) in
     let mode = one_mode r.profile s.profile r.ended s.ended c.mode p.mode q.mode in
-    λ i. record { profile = mode.0 i; context = context i; tree = tree i; interim = interim i; known = known i; ended = mode.1 i }
+    let asked = p.rules ∙ sym q.rules in
+    λ i. record { profile = mode.0 i; rules = asked i; context = context i; tree = tree i; interim = interim i; known = known i; ended = mode.1 i }
 
 -- ---- files
 
@@ -126,6 +129,10 @@ module _ (s : State) (c : FollowerState) (t : RatchetTree) (body : IsTreeBody c.
 -- a state without a mode has no file
 pub no_mode_no_file : (s : State) → stored_mode s.profile s.ended ≡ None → HasNoFile s
 no_mode_no_file s none bytes h = none-some h.content.mode (sym none ∙ h.stores.mode)
+
+-- nor has one that asks strict rules
+pub not_plain_no_file : (s : State) → is_plain s.rules ≡ false → HasNoFile s
+not_plain_no_file s strict bytes h = false≢true (sym strict ∙ ap is_plain h.stores.rules)
 
 -- without a body there is no content
 

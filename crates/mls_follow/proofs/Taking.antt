@@ -1,5 +1,5 @@
 -- What is found of a message says how it is taken.
-use Rattle.std.proofs.Common.{◌≡◌, ◌≢◌, ◌∙◌, ℕ, List, Some, Result, Ok, Err, refl, sym, ap, inr}
+use Rattle.std.proofs.Common.{◌≡◌, ◌≢◌, ◌∙◌, ℕ, List, Option, Some, Result, Ok, Err, refl, sym, ap, subst, inr}
 use Rattle.std.specs.Prelude.{OnOk, IfOk, IfErr, OnErr}
 use Rattle.mls_nodes.specs.declared.required_capabilities.RequiredCapabilities.{RequiredCapabilities}
 use Rattle.mls_check.specs.Signatures.{VerifyFn}
@@ -7,18 +7,22 @@ use Rattle.mls_msgs.specs.declared.authenticated.AuthenticatedParts.{Authenticat
 use Rattle.mls_msgs.specs.declared.message.Message.{Message}
 use Rattle.mls_msgs.specs.declared.message.Message.TheVariants as messages
 use Rattle.mls_msgs.specs.declared.public_message.PublicParts.{PublicParts}
+use Rattle.mls_msgs.specs.declared.strict_rule.StrictRule.{StrictRule}
 use Rattle.mls_apply.specs.RuleLists.{first_failing}
 use Rattle.mls_apply.specs.declared.refusal.Refusal.{Refusal}
 use Rattle.mls_apply.specs.declared.refusal.Refusal.TheVariants.{NotPublic, OutOfMemory}
 use Rattle.mls_nodes.specs.Requirements.{Requires}
 use Rattle.mls_follow.specs.State.{State, EncodesMessage}
-use Rattle.mls_follow.specs.MessageRules.{frame_rules, message_rules}
+use Rattle.mls_follow.specs.MessageRules.{frame_rules}
 use Rattle.mls_follow.specs.MessageRulesInternal.{frame_refusal}
 use Rattle.mls_follow.specs.NextState.{after_sender}
 use Rattle.mls_follow.specs.Acceptance.{IsAcceptable, IsNext, IsFirstRefusal}
-use Rattle.mls_follow.specs.AcceptanceInternal.{Takes}
+use Rattle.mls_follow.specs.AcceptanceInternal.{Takes, judged}
+use Rattle.mls_follow.specs.StrictRules.{all_rules}
+use Rattle.mls_follow.specs.StrictRulesInternal.{strict_refusal, unmet_rule}
 use Rattle.mls_follow.specs.Runs.{IsTransition}
 use Rattle.mls_follow.specs.declared.taken.Taken.{Taken}
+use Rattle.mls_follow.proofs.StrictLists.{all_word}
 
 -- the shut word
 frame_word : (G : VerifyFn) (s : State) (required : RequiredCapabilities) (a : AuthenticatedParts) → frame_refusal G s required a ≡ first_failing (frame_rules G s required a)
@@ -31,18 +35,30 @@ module _ (G : VerifyFn) (s : State) (required : RequiredCapabilities) (requires 
     word : first_failing (frame_rules G s required p.auth) ≡ frame_refusal G s required a
     word = ap (λ (x : AuthenticatedParts). first_failing (frame_rules G s required x)) (sym same) ∙ sym (frame_word G s required a)
 
-    pub frame_taken : (r : Result Taken Refusal) (new : State)
-        → Takes (frame_refusal G s required a) (after_sender s a a.content.sender) s r new
+    after : after_sender s p.auth p.auth.content.sender ≡ after_sender s a a.content.sender
+    after = ap (λ (x : AuthenticatedParts). after_sender s x x.content.sender) (sym same)
+
+    all : first_failing (all_rules G s required (messages.Public p))
+        ≡ judged (strict_refusal s.rules (unmet_rule s p)) (frame_refusal G s required a) (after_sender s a a.content.sender)
+    all = sym (all_word s p G required) ∙ (λ i. judged (strict_refusal s.rules (unmet_rule s p)) (word i) (after i))
+
+    pub frame_taken : (unmet : Option StrictRule) → unmet ≡ unmet_rule s p → (r : Result Taken Refusal) (new : State)
+        → Takes (strict_refusal s.rules unmet) (frame_refusal G s required a) (after_sender s a a.content.sender) s r new
         → (bytes : List ℕ) → EncodesMessage s.profile (messages.Public p) bytes → IsTransition G s bytes r new
-    frame_taken (Ok taken) new h bytes encoded = (
-      record { message = messages.Public p; encoded = encoded; required = required; requires = requires; rules_hold = word ∙ h.0 },
-      record { message = messages.Public p; encoded = encoded; after = ap (λ (x : AuthenticatedParts). after_sender s x x.content.sender) (sym same) ∙ h.1 },
-    )
-    frame_taken (Err e) new h bytes encoded =
-        (h.3, λ own. inr (record { message = messages.Public p; encoded = encoded; required = required; requires = requires; fails = word ∙ h.2 own }))
+    frame_taken unmet is r new h bytes encoded =
+        taken_of r (subst (λ (u : Option StrictRule). Takes (strict_refusal s.rules u) (frame_refusal G s required a) (after_sender s a a.content.sender) s r new) is h)
+      where
+        taken_of : (r : Result Taken Refusal) → Takes (strict_refusal s.rules (unmet_rule s p)) (frame_refusal G s required a) (after_sender s a a.content.sender) s r new
+            → IsTransition G s bytes r new
+        taken_of (Ok taken) h = (
+          record { message = messages.Public p; encoded = encoded; required = required; requires = requires; rules_hold = all ∙ h.0 },
+          record { message = messages.Public p; encoded = encoded; after = after ∙ h.1 },
+        )
+        taken_of (Err e) h =
+            (h.3, λ own. inr (record { message = messages.Public p; encoded = encoded; required = required; requires = requires; fails = all ∙ h.2 own }))
 
   -- a message that is not in the open
-  not_public : (m : Message) → ((p : PublicParts) → m ≢ messages.Public p) → first_failing (message_rules G s required m) ≡ Some NotPublic
+  not_public : (m : Message) → ((p : PublicParts) → m ≢ messages.Public p) → first_failing (all_rules G s required m) ≡ Some NotPublic
   not_public (messages.Public p) other = absurd (other p refl)
   not_public (messages.Unread wire_format body) other = refl
   not_public (messages.GroupInfo g) other = refl

@@ -13,8 +13,9 @@ use Rattle.mls_apply.specs.declared.refusal.Refusal.{Refusal}
 use Rattle.mls_apply.specs.declared.refusal.Refusal.TheVariants.{Malformed}
 use Rattle.mls_nodes.specs.Requirements.{Requires}
 use Rattle.mls_follow.specs.State.{State, EncodesMessage, HasEncoding}
-use Rattle.mls_follow.specs.MessageRules.{message_rules, reference_of}
+use Rattle.mls_follow.specs.MessageRules.{reference_of}
 use Rattle.mls_follow.specs.NextState.{Transition, next}
+use Rattle.mls_follow.specs.StrictRules.{all_rules}
 
 -- `IsAcceptable G s bytes`: the bytes are the encoding of a message that satisfies every rule (RFC 9420, 6, 12.1 to
 -- 12.4).
@@ -23,7 +24,7 @@ pub record IsAcceptable (G : VerifyFn) (s : State) (bytes : List ℕ) : Type 0 w
   pub encoded : EncodesMessage s.profile message bytes
   pub required : RequiredCapabilities
   pub requires : Requires s.context required
-  pub rules_hold : first_failing (message_rules G s required message) ≡ None
+  pub rules_hold : first_failing (all_rules G s required message) ≡ None
 
 -- `IsNext s bytes step`: the step is the one after the message of these bytes.
 pub record IsNext (s : State) (bytes : List ℕ) (step : Transition) : Type 0 where
@@ -38,7 +39,7 @@ pub record FailsRule (G : VerifyFn) (s : State) (bytes : List ℕ) (e : Refusal)
   pub encoded : EncodesMessage s.profile message bytes
   pub required : RequiredCapabilities
   pub requires : Requires s.context required
-  pub fails : first_failing (message_rules G s required message) ≡ Some e
+  pub fails : first_failing (all_rules G s required message) ≡ Some e
 
 -- `EncodesNoMessage profile bytes`: the bytes are the encoding of no message in the profile.
 abbrev pub EncodesNoMessage : Profile → List ℕ → Type 0

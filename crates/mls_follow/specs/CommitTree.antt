@@ -6,6 +6,7 @@ use Rattle.mls_nodes.specs.declared.context.GroupContext.{GroupContext}
 use Rattle.mls_msgs.specs.declared.commit.UpdatePath.{UpdatePath}
 use Rattle.mls_msgs.specs.declared.framed_content.Sender.{Sender}
 use Rattle.mls_msgs.specs.declared.framed_content.Sender.TheVariants as senders
+use Rattle.mls_msgs.specs.Rules.{plain_rules}
 use Rattle.mls_msgs.specs.declared.group_info.GroupInfo.{GroupInfo}
 use Rattle.mls_msgs.specs.declared.profile.Profile.{Profile}
 use Rattle.mls_msgs.specs.declared.profile.Profile.TheVariants as profiles
@@ -18,11 +19,13 @@ use Rattle.mls_apply.specs.declared.refusal.Refusal.{Refusal}
 use Rattle.mls_apply.specs.declared.refusal.Refusal.TheVariants.{TooManyLeaves}
 use Rattle.mls_follow.specs.State.{State}
 use Rattle.mls_follow.specs.MessageRules.{CommitterTree, committer_tree, fail_with, path_rules_of}
+use Rattle.mls_msgs.specs.declared.rules.Rules.{Rules}
 
 -- `in_context context` is a state with this context.
 abbrev pub in_context : GroupContext → State
 in_context context = record {
   profile = profiles.Members;
+  rules = plain_rules;
   context = context;
   tree = leaf None;
   interim = [];
@@ -55,11 +58,12 @@ committer_rules H path (Some q) = path_rules_of H q.applied_tree q.leaf path
 abbrev pub change_rules : (List ℕ → List ℕ) → Sender → Option UpdatePath → Option AppliedTree → List (Rule Refusal)
 change_rules H committer path o = committer_rules H path (option_and_then (committer_tree committer) o)
 
--- `initial_state_of_tree profile info t interim` is the state of a GroupInfo, a tree and an interim transcript hash,
+-- `initial_state_of_tree asked profile info t interim` is the state of a GroupInfo, a tree and an interim transcript hash,
 -- with no pending proposals.
-abbrev pub initial_state_of_tree : Profile → GroupInfo → Tree → List ℕ → State
-initial_state_of_tree profile info t interim = record {
+abbrev pub initial_state_of_tree : Rules → Profile → GroupInfo → Tree → List ℕ → State
+initial_state_of_tree asked profile info t interim = record {
   profile = profile;
+  rules = asked;
   context = info.context;
   tree = t;
   interim = interim;

@@ -18,6 +18,7 @@ use Rattle.mls_follow.specs.MessageSignatures.{AreSignaturesOf}
 use Rattle.mls_follow.specs.declared.start_fault.StartFault.{StartFault}
 use Rattle.mls_follow.specs.declared.taken.Taken.{Taken}
 use Rattle.mls_signatures.specs.declared.signature_to_verify.SignatureToVerify.{SignatureToVerify}
+use Rattle.mls_msgs.specs.declared.rules.Rules.{Rules}
 
 -- `all_good` accepts every signature.
 abbrev pub all_good : VerifyFn
@@ -76,14 +77,14 @@ AnsweredRunsAreOne =
 -- good.
 abbrev pub CoveredStartsAreTrusted : Type 0
 CoveredStartsAreTrusted =
-    (profile : Profile) (R : VerifyFn) (info : GroupInfo) (supplied : Option RatchetTree) (s : State) → CoversStart R info supplied
-    → IsStart profile R info supplied s ↔ IsStart profile all_good info supplied s
+    (asked : Rules) (profile : Profile) (R : VerifyFn) (info : GroupInfo) (supplied : Option RatchetTree) (s : State) → CoversStart R info supplied
+    → IsStart asked profile R info supplied s ↔ IsStart asked profile all_good info supplied s
 
 -- If each signature of the start is good, a start has the same faults as if every signature were good.
 abbrev pub CoveredFaultsAreTrusted : Type 0
 CoveredFaultsAreTrusted =
-    (R : VerifyFn) (info : GroupInfo) (supplied : Option RatchetTree) (fault : StartFault) → CoversStart R info supplied
-    → IsStartFault R info supplied fault ↔ IsStartFault all_good info supplied fault
+    (asked : Rules) (R : VerifyFn) (info : GroupInfo) (supplied : Option RatchetTree) (fault : StartFault) → CoversStart R info supplied
+    → IsStartFault asked R info supplied fault ↔ IsStartFault asked all_good info supplied fault
 
 -- If each signature of a message is good, its result and the state after it are those as if every signature were good.
 -- The state before it is valid by `R`.
@@ -104,8 +105,8 @@ CoveredRunsAreTrusted =
 -- follower that accepts every signature.
 abbrev pub CoveredLogsAreTrusted : Type 0
 CoveredLogsAreTrusted =
-    (profile : Profile) (R : VerifyFn) (info : GroupInfo) (supplied : Option RatchetTree) (first last : State)
+    (asked : Rules) (profile : Profile) (R : VerifyFn) (info : GroupInfo) (supplied : Option RatchetTree) (first last : State)
     (calls : List Call)
     → CoversStart R info supplied → CoversLog R first (map (λ call. call.bytes) calls)
-    → (IsStart profile R info supplied first × IsAnsweredRun R first calls last)
-    ↔ (IsStart profile all_good info supplied first × IsAnsweredRun all_good first calls last)
+    → (IsStart asked profile R info supplied first × IsAnsweredRun R first calls last)
+    ↔ (IsStart asked profile all_good info supplied first × IsAnsweredRun all_good first calls last)

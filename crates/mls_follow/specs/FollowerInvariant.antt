@@ -1,4 +1,4 @@
--- The invariant of a follower's state (RFC 9420, 7.3 and 12.4.2). Internal: no public contract uses this.
+-- The invariant of a follower's state (RFC 9420, 7.3, 12.4.2 and 13.4). Internal: no public contract uses this.
 use Rattle.std.specs.Prelude.{◌≡◌, Bool, true}
 use Rattle.std.specs.Coded.{Coded-set, coded_bool}
 use Rattle.mls_nodes.specs.declared.required_capabilities.RequiredCapabilities.{RequiredCapabilities}
@@ -6,14 +6,18 @@ use Rattle.mls_nodes.specs.Requirements.{Requires}
 use Rattle.mls_check.specs.DistinctKeys.{has_distinct_keys}
 use Rattle.mls_check.specs.LeafValidation.{LeavesAreValid, all_leaves, member_rule}
 use Rattle.mls_check.specs.Signatures.{VerifyFn}
+use Rattle.mls_msgs.specs.Rules.{has_rule}
 use Rattle.mls_follow.specs.State.{State}
+use Rattle.mls_follow.specs.StrictRules.{supports_extensions}
 
 -- `HasUniqueKeysAndValidLeaves G s`: the state's tree has distinct encryption keys, and its leaf nodes are valid under
--- what the context requires, by the checker's verification function G.
+-- what the context requires, by the checker's verification function G. If the follower has strict rule 51, they support the
+-- types of the context's extensions (RFC 9420, 13.4).
 pub record HasUniqueKeysAndValidLeaves (G : VerifyFn) (s : State) : Type 0 where
   pub distinct : has_distinct_keys s.tree ≡ true
   pub members : (required : RequiredCapabilities) → Requires s.context required
       → LeavesAreValid G s.context.cipher_suite s.context.group_id required s.tree
+  pub supported : has_rule s.rules 51 ≡ true → supports_extensions s.context.extensions s.tree ≡ true
 
 bool_set : (x y : Bool) → IsProp (x ≡ y)
 bool_set x y = Coded-set coded_bool x y
@@ -26,4 +30,5 @@ HasUniqueKeysAndValidLeaves-prop G s x y = λ i. record {
     rules = λ k. bool_set (all_leaves (member_rule G s.context.cipher_suite s.context.group_id required s.tree k) 0 s.tree) true
         ((x.members required requires).rules k) ((y.members required requires).rules k) i;
   };
+  supported = λ asked. bool_set (supports_extensions s.context.extensions s.tree) true (x.supported asked) (y.supported asked) i;
 }

@@ -6,6 +6,7 @@ use Rattle.mls_follow.specs.declared.group.Group.{Group}
 abbrev pub group_state : Group → State
 group_state g = record {
   profile = g.profile;
+  rules = g.rules;
   context = g.context;
   tree = g.tree.tree;
   interim = g.interim;

@@ -7,6 +7,7 @@ use Rattle.mls_follow.specs.State.{State}
 abbrev pub with_known : State → List KnownProposal → State
 with_known s known = record {
   profile = s.profile;
+  rules = s.rules;
   context = s.context;
   tree = s.tree;
   interim = s.interim;

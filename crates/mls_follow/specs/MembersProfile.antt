@@ -20,6 +20,7 @@ use Rattle.mls_follow.specs.MessageRules.{message_rules}
 use Rattle.mls_follow.specs.NextState.{Transition}
 use Rattle.mls_follow.specs.Resumption.{IsResumed}
 use Rattle.mls_follow.specs.Start.{IsStart}
+use Rattle.mls_msgs.specs.declared.rules.Rules.{Rules}
 
 -- `IsOfMember k`: the pending proposal is in the members' profile, and its sender is a member.
 pub record IsOfMember (k : KnownProposal) : Type 0 where
@@ -72,7 +73,7 @@ MembersStatesStay =
 -- A follower that starts in the members' profile starts in such a state.
 abbrev pub MembersStart : Type 0
 MembersStart =
-    (G : VerifyFn) (info : GroupInfo) (supplied : Option RatchetTree) (s : State) → IsStart Members G info supplied s
+    (asked : Rules) (G : VerifyFn) (info : GroupInfo) (supplied : Option RatchetTree) (s : State) → IsStart asked Members G info supplied s
     → IsMembersState s
 
 -- A follower that resumes in the members' profile resumes in such a state.

@@ -15,9 +15,10 @@ use Rattle.mls_signatures.specs.Agreement.{AgreeOn}
 use Rattle.mls_signatures.specs.SignaturesToVerify as lists
 use Rattle.mls_signatures.specs.declared.signature_to_verify.SignatureToVerify.{SignatureToVerify}
 use Rattle.mls_follow.specs.State.{State, EncodesMessage}
-use Rattle.mls_follow.specs.MessageRules.{message_rules}
+use Rattle.mls_follow.specs.StrictRules.{all_rules}
 use Rattle.mls_follow.specs.Start.{UsesTree, IsStart, IsStartFault}
 use Rattle.mls_follow.specs.declared.start_fault.StartFault.{StartFault}
+use Rattle.mls_msgs.specs.declared.rules.Rules.{Rules}
 
 -- `message_signatures_in_state s m` is the signatures of a message in the state `s`, without duplicates. Empty if the
 -- group is over.
@@ -48,20 +49,20 @@ SignaturesDetermineRefusal =
     (G K : VerifyFn) (s : State) (required : RequiredCapabilities) (m : Message)
     → AgreeOn G K (message_signatures_in_state s m)
     → AgreeOn G K (state_signatures s)
-    → first_failing (message_rules G s required m) ≡ first_failing (message_rules K s required m)
+    → first_failing (all_rules G s required m) ≡ first_failing (all_rules K s required m)
 
 -- The signatures of a start determine whether a follower starts, and in which state.
 abbrev pub SignaturesDetermineStart : Type 0
 SignaturesDetermineStart =
-    (profile : Profile) (G K : VerifyFn) (info : GroupInfo) (supplied : Option RatchetTree) (s : State)
-    → AgreeOnStart G K info supplied → IsStart profile G info supplied s → IsStart profile K info supplied s
+    (asked : Rules) (profile : Profile) (G K : VerifyFn) (info : GroupInfo) (supplied : Option RatchetTree) (s : State)
+    → AgreeOnStart G K info supplied → IsStart asked profile G info supplied s → IsStart asked profile K info supplied s
 
 -- The signatures of a start determine why no follower starts.
 abbrev pub SignaturesDetermineStartFault : Type 0
 SignaturesDetermineStartFault =
-    (G K : VerifyFn) (info : GroupInfo) (supplied : Option RatchetTree) (fault : StartFault)
-    → AgreeOnStart G K info supplied → IsStartFault G info supplied fault
-    → IsStartFault K info supplied fault
+    (asked : Rules) (G K : VerifyFn) (info : GroupInfo) (supplied : Option RatchetTree) (fault : StartFault)
+    → AgreeOnStart G K info supplied → IsStartFault asked G info supplied fault
+    → IsStartFault asked K info supplied fault
 
 -- Leaf nodes that are valid remain valid if more signatures are good (RFC 9420, 7.3).
 abbrev pub MembersStay : Type 0

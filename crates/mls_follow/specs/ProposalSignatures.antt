@@ -19,9 +19,11 @@ use Rattle.mls_apply.specs.declared.refusal.Refusal.TheVariants.{BadSignature}
 use Rattle.mls_apply.specs.RuleLists.{first_failing}
 use Rattle.mls_signatures.specs.SigningKeys.{signing_key, may_propose}
 use Rattle.mls_follow.specs.State.{State}
-use Rattle.mls_follow.specs.MessageRules.{reference_of, is_sender_supported, is_new_proposal, is_frame_signed, message_rules}
+use Rattle.mls_follow.specs.MessageRules.{reference_of, is_sender_supported, is_new_proposal, is_frame_signed}
+use Rattle.mls_follow.specs.StrictRules.{all_rules}
 use Rattle.mls_follow.specs.Start.{IsStart}
 use Rattle.mls_follow.specs.Runs.{Call, IsRun}
+use Rattle.mls_msgs.specs.declared.rules.Rules.{Rules}
 
 -- `IsProposalUnder s a key p`: the content is a proposal for the current group and epoch, the group goes on, the sender's
 -- messages are processed, and the sender may send the proposal and has this key.
@@ -39,14 +41,14 @@ abbrev pub UnsignedIsReportedFirst : Type 0
 UnsignedIsReportedFirst =
     (G : VerifyFn) (s : State) (required : RequiredCapabilities) (m : PublicParts) (key : List ℕ) (p : Proposal)
     → IsProposalUnder s m.auth key p → is_frame_signed G s.context key m.auth ≡ false
-    → first_failing (message_rules G s required (messages.Public m)) ≡ Some BadSignature
+    → first_failing (all_rules G s required (messages.Public m)) ≡ Some BadSignature
 
 -- If its signature is good and it is pending already, that is the first refusal.
 abbrev pub KnownIsReportedNext : Type 0
 KnownIsReportedNext =
     (G : VerifyFn) (s : State) (required : RequiredCapabilities) (m : PublicParts) (key : List ℕ) (p : Proposal)
     → IsProposalUnder s m.auth key p → is_frame_signed G s.context key m.auth ≡ true → is_new_proposal s m.auth ≡ false
-    → first_failing (message_rules G s required (messages.Public m)) ≡ Some refusals.KnownProposal
+    → first_failing (all_rules G s required (messages.Public m)) ≡ Some refusals.KnownProposal
 
 -- `IsKnownSigned G context t k`: the pending proposal has the reference of a content that its sender has signed, under the
 -- key of its leaf in the tree or under the key of a sender outside the group; and its sender may send it.
@@ -67,6 +69,6 @@ AreKnownSigned G s = All (IsKnownSigned G s.context s.tree) s.known
 -- After any run from a start, `AreKnownSigned` holds.
 abbrev pub FollowersKnowSigned : Type 0
 FollowersKnowSigned =
-    (profile : Profile) (G : VerifyFn) (info : GroupInfo) (supplied : Option RatchetTree) (first last : State)
-    (calls : List Call) → IsStart profile G info supplied first → IsRun G first calls last
+    (asked : Rules) (profile : Profile) (G : VerifyFn) (info : GroupInfo) (supplied : Option RatchetTree) (first last : State)
+    (calls : List Call) → IsStart asked profile G info supplied first → IsRun G first calls last
     → AreKnownSigned G last

@@ -9,6 +9,7 @@ use Rattle.mls_hash.specs.SuiteHash.{hash_length}
 use Rattle.mls_check.specs.Signatures.{VerifyFn}
 use Rattle.mls_check.specs.GroupTree.{HasMembers, FailsSuite, FailsRequirements, FailsValid, FailsMembers}
 use Rattle.mls_msgs.specs.Profile.{is_in, is_members_proposal}
+use Rattle.mls_msgs.specs.Rules.{plain_rules}
 use Rattle.mls_msgs.specs.declared.profile.Profile.{Profile}
 use Rattle.mls_msgs.specs.declared.profile.Profile.TheVariants as profiles
 use Rattle.mls_state.specs.Layout.{state_file}
@@ -100,6 +101,7 @@ is_over Ended = true
 abbrev pub base_state : FollowerState → RatchetTree → State
 base_state c t = record {
   profile = profile_of_mode c.mode;
+  rules = plain_rules;
   context = c.context;
   tree = t.tree;
   interim = c.interim;

@@ -9,6 +9,7 @@ use Rattle.mls_tree.specs.Tree as trees
 use Rattle.mls_check.specs.Signatures.{VerifyFn}
 use Rattle.mls_check.specs.declared.group_tree.GroupTreeFault.{GroupTreeFault}
 use Rattle.mls_check.specs.declared.group_tree.GroupTreeFault.TheVariants as groups
+use Rattle.mls_msgs.specs.Rules.{plain_rules}
 use Rattle.mls_state.specs.declared.known_entry.KnownEntry.{KnownEntry}
 use Rattle.mls_state.specs.declared.state.GroupMode.{GroupMode}
 use Rattle.mls_follow.specs.State.{State}
@@ -62,6 +63,7 @@ IsKnownFault G s es OutOfMemory = Unit {0}
 abbrev pub state_without_pending : GroupMode → GroupContext → trees.Tree → List ℕ → State
 state_without_pending mode context t interim = record {
   profile = profile_of_mode mode;
+  rules = plain_rules;
   context = context;
   tree = t;
   interim = interim;

@@ -13,6 +13,7 @@ use Rattle.mls_follow.specs.Start.{IsStart}
 use Rattle.mls_follow.specs.Runs.{Call, IsTransition, IsRun, IsFold, HasAnswer, accepted}
 use Rattle.mls_follow.specs.Validity.{IsValidState}
 use Rattle.mls_follow.specs.ProposalSignatures.{AreKnownSigned}
+use Rattle.mls_msgs.specs.declared.rules.Rules.{Rules}
 
 -- ---- definitions
 
@@ -68,8 +69,8 @@ AcceptancesStay =
 -- A follower that starts under a checker starts in the same state under each checker that extends it.
 abbrev pub StartsStay : Type 0
 StartsStay =
-    (profile : Profile) (G K : VerifyFn) (info : GroupInfo) (supplied : Option RatchetTree) (s : State) → Extends G K
-    → IsStart profile G info supplied s → IsStart profile K info supplied s
+    (asked : Rules) (profile : Profile) (G K : VerifyFn) (info : GroupInfo) (supplied : Option RatchetTree) (s : State) → Extends G K
+    → IsStart asked profile G info supplied s → IsStart asked profile K info supplied s
 
 -- The last verification function of a rising run extends the first one.
 abbrev pub RisingRunsExtend : Type 0
@@ -118,23 +119,23 @@ RisingRunsKeepValidity =
 -- The state after a rising run from a start is valid under the last verification function.
 abbrev pub RisingFollowersAreValid : Type 0
 RisingFollowersAreValid =
-    (profile : Profile) (G : VerifyFn) (info : GroupInfo) (supplied : Option RatchetTree) (first last : State)
+    (asked : Rules) (profile : Profile) (G : VerifyFn) (info : GroupInfo) (supplied : Option RatchetTree) (first last : State)
     (events : List Event)
-    → IsStart profile G info supplied first → IsRisingRun G first events last
+    → IsStart asked profile G info supplied first → IsRisingRun G first events last
     → IsValidState (last_meaning G events) last
 
 -- Each pending proposal after a rising run from a start is signed, under the last verification function.
 abbrev pub RisingFollowersKnowSigned : Type 0
 RisingFollowersKnowSigned =
-    (profile : Profile) (G : VerifyFn) (info : GroupInfo) (supplied : Option RatchetTree) (first last : State)
+    (asked : Rules) (profile : Profile) (G : VerifyFn) (info : GroupInfo) (supplied : Option RatchetTree) (first last : State)
     (events : List Event)
-    → IsStart profile G info supplied first → IsRisingRun G first events last
+    → IsStart asked profile G info supplied first → IsRisingRun G first events last
     → AreKnownSigned (last_meaning G events) last
 
 -- After a rising run from a start there is an answer to any bytes, under the last verification function.
 abbrev pub RisingRunsAreAnswered : Type 0
 RisingRunsAreAnswered =
-    (profile : Profile) (G : VerifyFn) (info : GroupInfo) (supplied : Option RatchetTree) (first last : State)
+    (asked : Rules) (profile : Profile) (G : VerifyFn) (info : GroupInfo) (supplied : Option RatchetTree) (first last : State)
     (events : List Event)
-    (bytes : List ℕ) → IsStart profile G info supplied first → IsRisingRun G first events last
+    (bytes : List ℕ) → IsStart asked profile G info supplied first → IsRisingRun G first events last
     → HasAnswer (last_meaning G events) last bytes

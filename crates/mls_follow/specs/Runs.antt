@@ -17,6 +17,7 @@ use Rattle.mls_follow.specs.NextState.{Transition}
 use Rattle.mls_follow.specs.Acceptance.{IsAcceptable, IsNext, IsFirstRefusal}
 use Rattle.mls_follow.specs.Start.{IsStart}
 use Rattle.mls_follow.specs.declared.taken.Taken.{Taken}
+use Rattle.mls_msgs.specs.declared.rules.Rules.{Rules}
 
 -- `IsTransition G s bytes result new`: `take` may return `result` and leave the state `new`. It accepts only what is
 -- acceptable, and moves to the next state. It refuses only for the first rule that fails, or if it runs out of memory,
@@ -93,6 +94,6 @@ AnswerExists =
 -- After any run from a start, there is such an answer to any bytes.
 abbrev pub RunsAreAnswered : Type 0
 RunsAreAnswered =
-    (profile : Profile) (G : VerifyFn) (info : GroupInfo) (supplied : Option RatchetTree) (first last : State)
-    (calls : List Call) (bytes : List ℕ) → IsStart profile G info supplied first → IsRun G first calls last
+    (asked : Rules) (profile : Profile) (G : VerifyFn) (info : GroupInfo) (supplied : Option RatchetTree) (first last : State)
+    (calls : List Call) (bytes : List ℕ) → IsStart asked profile G info supplied first → IsRun G first calls last
     → HasAnswer G last bytes

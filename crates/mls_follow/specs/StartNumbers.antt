@@ -14,3 +14,4 @@ start_number_of (starts.Tree fault) = 5
 start_number_of (starts.Member fault) = 6
 start_number_of starts.SignerNotMember = 7
 start_number_of starts.InfoSignature = 8
+start_number_of (starts.Strict fault) = 9

@@ -8,12 +8,15 @@ use Rattle.mls_msgs.specs.Message.{message}
 use Rattle.mls_msgs.specs.Profile.{is_members_message, is_in}
 use Rattle.mls_msgs.specs.declared.profile.Profile.{Profile}
 use Rattle.mls_msgs.specs.declared.message.Message.{Message}
+use Rattle.mls_msgs.specs.declared.rules.Rules.{Rules}
 use Rattle.mls_apply.specs.declared.list_item.KnownProposal.{KnownProposal}
 
--- The profile, the GroupContext, the tree, the interim transcript hash, the pending proposals in the order in which they
--- were accepted, and whether the group is over: a commit with a ReInit was accepted (11.2).
+-- The profile, the set of strict rules (own rule), the GroupContext, the tree, the interim transcript hash, the pending
+-- proposals in the order in which they were accepted, and whether the group is over: a commit with a ReInit was accepted
+-- (11.2).
 pub record State : Type 0 where
   pub profile : Profile
+  pub rules : Rules
   pub context : GroupContext
   pub tree : Tree
   pub interim : List ℕ

@@ -16,6 +16,7 @@ use Rattle.mls_follow.specs.StoredState.{EncodesState, HasNoFile, stored_entry}
 use Rattle.mls_follow.specs.Resumption.{CanHoldEntries, IsResumed, IsResumeFault}
 use Rattle.mls_follow.specs.declared.resume_fault.ResumeFault.{ResumeFault}
 use Rattle.mls_follow.specs.declared.resume_fault.ResumeFault.TheVariants.{Unreadable, ChecksumDiffers, UnsupportedVersion, UnsupportedSuite, RequirementsUnreadable, Tree, Member, InterimLength, KnownInvalid, OutOfMemory}
+use Rattle.mls_msgs.specs.declared.rules.Rules.{Rules}
 
 -- `IsResumable G s`: the state satisfies the conditions of a resumption: the context is supported, the tree and its leaf
 -- nodes are valid, the interim transcript hash has the length of the suite's hashes, and each pending proposal can be
@@ -29,7 +30,7 @@ pub record IsResumable (G : VerifyFn) (s : State) : Type 0 where
 -- `IsInitialState G s`: a follower starts from a GroupInfo in the state, or resumes from a file in it.
 abbrev pub IsInitialState : VerifyFn → State → Type 0
 IsInitialState G s =
-    ((profile : Profile) × (info : GroupInfo) × (supplied : Option RatchetTree) × IsStart profile G info supplied s)
+    ((asked : Rules) × (profile : Profile) × (info : GroupInfo) × (supplied : Option RatchetTree) × IsStart asked profile G info supplied s)
     ⊎ ((bytes : List ℕ) × IsResumed G bytes s)
 
 -- ---- resumptions are determined

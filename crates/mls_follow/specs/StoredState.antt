@@ -4,6 +4,7 @@ use Rattle.mls_wire.specs.Encoding.{vector}
 use Rattle.mls_wire.specs.Limits.{input_limit}
 use Rattle.mls_tree.specs.RatchetTree.{RatchetTree}
 use Rattle.mls_tree.specs.TreeDecoding.{IsTreeOf}
+use Rattle.mls_msgs.specs.Rules.{plain_rules}
 use Rattle.mls_msgs.specs.declared.profile.Profile.{Profile}
 use Rattle.mls_msgs.specs.declared.profile.Profile.TheVariants as profiles
 use Rattle.mls_state.specs.StateFile.{IsFileOf}
@@ -38,9 +39,10 @@ stored_mode profiles.Members true = None
 stored_mode profiles.Full false = Some Full
 stored_mode profiles.Full true = Some Ended
 
--- `Stores c t s`: `c`, whose tree is `t`, stores the state `s`.
+-- `Stores c t s`: `c`, whose tree is `t`, stores the state `s`, which has no strict rules.
 pub record Stores (c : FollowerState) (t : RatchetTree) (s : State) : Type 0 where
   pub mode : stored_mode s.profile s.ended ≡ Some c.mode
+  pub rules : s.rules ≡ plain_rules
   pub context : c.context ≡ s.context
   pub tree : t.tree ≡ s.tree
   pub interim : c.interim ≡ s.interim

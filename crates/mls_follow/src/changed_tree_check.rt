@@ -14,17 +14,20 @@ use mls_apply::{Refusal, StagedTree};
 use mls_check::{MemberFault, SignatureCheck, SortedRequirements};
 use mls_hash::Suite;
 use mls_index::LeafRules;
+use mls_msgs::Rules;
 use mls_nodes::{GroupContext, RequiredCapabilities};
 use mls_wire::Opaque;
 use std::alloc::Global;
 
-/// What the check needs: the GroupContext, its suite, and what the group requires before the commit and after it.
+/// What the check needs: the GroupContext, its suite, what the group requires before the commit and after it, and the set of
+/// strict rules.
 #[derive(Drop)]
 pub(crate) struct TreeRules<'a> {
     pub(crate) suite: Suite,
     pub(crate) context: &'a GroupContext,
     pub(crate) former: &'a RequiredCapabilities,
     pub(crate) required: &'a RequiredCapabilities,
+    pub(crate) asked: Rules,
     ghost same_suite: { suite ≡ context.now.cipher_suite },
 }
 

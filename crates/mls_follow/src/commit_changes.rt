@@ -1,13 +1,13 @@
 //! The rules for a commit (RFC 9420, 12.4.2), and how it changes the group's tree, in place.
 
-ghost use Rattle.std.specs.Prelude.{◌≡◌, ◌≢◌, ◌<◌, ℕ, Some, None, IsSome, IsTrue, IfOk, IfErr, OnOk, is_some, option_map, true, false};
+ghost use Rattle.std.specs.Prelude.{◌≡◌, ◌≢◌, ◌<◌, ℕ, Some, None, IsSome, IsTrue, IfOk, IfErr, OnOk, is_some, option_map, unwrap_or, true, false};
 ghost use Rattle.mls_hash.specs.SuiteHash.{hash_of};
 ghost use Rattle.mls_nodes.specs.declared.required_capabilities.RequiredCapabilities.{RequiredCapabilities};
 ghost use Rattle.mls_check.specs.Signatures.{VerifyFn};
 ghost use Rattle.mls_tree.specs.Tree.{leaf_at, leaf_count};
 ghost use Rattle.mls_tree.specs.TreeHash.{tree_hash};
 ghost use Rattle.mls_msgs.specs.declared.framed_content.Sender.TheVariants.{Member};
-ghost use Rattle.mls_apply.specs.ContextExtensions.{proposed_extensions};
+ghost use Rattle.mls_apply.specs.ContextExtensions.{new_extensions, proposed_extensions};
 ghost use Rattle.mls_apply.specs.ResolvedList.{resolved};
 ghost use Rattle.mls_apply.specs.JoinRules.{join_items, join_refusal};
 ghost use Rattle.mls_apply.specs.ListRules.{list_refusal};
@@ -18,6 +18,9 @@ ghost use Rattle.mls_apply.specs.AppliedList.{applied_tree, outcome};
 ghost use Rattle.mls_apply.specs.StagedInternal.{SatisfiesTreeRules};
 ghost use Rattle.mls_follow.specs.State.{State, last_epoch};
 ghost use Rattle.mls_follow.specs.AcceptanceInternal.{FailsWithRule};
+ghost use Rattle.mls_msgs.specs.Rules.{has_rule};
+ghost use Rattle.mls_follow.specs.StrictRules.{supports_extensions};
+ghost use Rattle.mls_follow.specs.StrictRulesInternal.{RefusesCommit, commit_strict_refusal};
 ghost use Rattle.mls_follow.specs.GroupModel.{group_state};
 ghost use Rattle.mls_follow.specs.GroupModelInternal.{with_known};
 ghost use Rattle.mls_follow.specs.MessageRules.{changed_tree, inline_rules, applied_tree_rules, path_rules_of, committer_tree, resulting};
@@ -29,6 +32,7 @@ use crate::group::{Group, StagedContext};
 use crate::next_extensions::copy_of_proposed;
 use crate::proposals_by_value::check_inline;
 use crate::resolved::{ReceivedCommit, ResolvedCommit};
+use crate::strict_rules::check_support;
 use mls_apply::{
     CommitterPath, EpochState, Leaves, ListItem, Refusal, StagedTree, check_join, check_list,
     have_distinct_added_keys, join_items, resolve_list,
@@ -36,6 +40,7 @@ use mls_apply::{
 use mls_check::SignatureCheck;
 use mls_hash::Suite;
 use mls_msgs::{Commit, Sender, UpdatePath};
+use mls_nodes::{Extensions, GroupContext};
 use mls_wire::Opaque;
 use std::alloc::Global;
 
@@ -65,6 +70,7 @@ pub(crate) fn check_items<'a, C: SignatureCheck>(
         committer,
         commit,
         known,
+        ..
     } = *received;
     if group.context.epoch == u64::MAX {
         return Err(Refusal::LastEpoch);
@@ -235,7 +241,7 @@ fn check_added_keys(
 /// Stages a commit, and returns what it changes in the GroupContext, if the tree after the list and the path satisfies its
 /// rules. The changes can then be made final. The proposed extensions are copied last. On error a part of the commit may
 /// have been applied.
-pub(crate) fn stage_commit<C: SignatureCheck>(
+fn stage_commit<C: SignatureCheck>(
     alloc: Global,
     rules: &TreeRules<'_>,
     checker: &C,
@@ -272,4 +278,65 @@ pub(crate) fn stage_commit<C: SignatureCheck>(
         tree_hash,
         extensions,
     })
+}
+
+/// Returns the extensions of the GroupContext after a commit: those that it proposes, else the current ones.
+fn extensions_after<'a>(context: &'a GroupContext, staged: &'a StagedContext) -> &'a Extensions
+    ensures { let proposed = option_map (λ next. next.extensions) staged.now.extensions in
+        result.now ≡ unwrap_or proposed context.now.extensions }
+{
+    match &staged.extensions {
+        Some(next) => &next.extensions,
+        None => &context.extensions,
+    }
+}
+
+/// Stages a commit, as `stage_commit` does, if it also meets the strict rules, which are checked last. The changes can then be
+/// made final. On error a part of the commit may have been applied.
+pub(crate) fn stage_strict_commit<C: SignatureCheck>(
+    alloc: Global,
+    rules: &TreeRules<'_>,
+    checker: &C,
+    tree: &mut StagedTree,
+    commit: &ResolvedCommit<'_>,
+) -> Result<StagedContext, Refusal>
+    requires present { IsTrue (is_present tree.old.tree commit.now.committer) }
+    requires rules_hold { SatisfiesTreeRules (C.meaning checker.now) rules.now.context.now rules.now.former.now
+        tree.old.base }
+    requires supported { has_rule rules.now.asked 51 ≡ true
+        → supports_extensions rules.now.context.now.extensions tree.old.base ≡ true }
+    ensures rules_hold { let o = outcome commit.now.items.items tree.old.tree in
+        OnOk result (first_failing (applied_tree_rules (C.meaning checker.now)
+        (in_context rules.now.context.now) rules.now.required.now
+        commit.now.committer commit.now.path.now o) ≡ None) }
+    ensures strict_rules_hold { let extensions = new_extensions rules.now.context.now.extensions commit.now.items.items in
+        OnOk result (commit_strict_refusal rules.now.asked commit.now.strict extensions tree.new.tree ≡ None) }
+    ensures refused { let o = outcome commit.now.items.items tree.old.tree in
+        let H = hash_of rules.now.context.now.cipher_suite in
+        IfErr result (RefusesCommit rules.now.context.now rules.now.asked commit.now.strict commit.now.items.items
+        (first_failing (applied_tree_rules (C.meaning checker.now) (in_context rules.now.context.now)
+        rules.now.required.now commit.now.committer commit.now.path.now o))
+        (changed_tree H commit.now.committer commit.now.path.now o)) }
+    ensures tree { let o = outcome commit.now.items.items tree.old.tree in
+        let H = hash_of rules.now.context.now.cipher_suite in
+        OnOk result (changed_tree H commit.now.committer commit.now.path.now o
+        ≡ Some tree.new.tree) }
+    ensures hash { let H = hash_of rules.now.context.now.cipher_suite in
+        IfOk result (λ staged. tree_hash H 0 tree.new.tree ≡ Some staged.tree_hash) }
+    ensures extensions { IfOk result (λ staged.
+        option_map (λ next. next.extensions) staged.extensions ≡ proposed_extensions commit.now.items.items) }
+    ensures base { tree.new.base ≡ tree.old.base }
+    ensures is_index_of_tree { OnOk result (tree.new.indexed ≡ true) }
+{
+    let staged = stage_commit(alloc, rules, checker, tree, commit)?;
+    let extensions = extensions_after(rules.context, &staged);
+    let answer = match commit.strict {
+        Some(rule) => Err(Refusal::Strict(rule)),
+        None => check_support(alloc, rules, checker, tree, extensions),
+    };
+    if let Err(refusal) = answer {
+        drop(staged);
+        return Err(refusal);
+    }
+    Ok(staged)
 }

@@ -5,6 +5,7 @@ ghost use Rattle.mls_wire.specs.Limits.{input_limit};
 ghost use Rattle.mls_tree.specs.PublicTreeModel.{plain};
 ghost use Rattle.mls_nodes.specs.ExternalSenders.{senders_by};
 ghost use Rattle.mls_nodes.specs.Requirements.{extension_of, Requires};
+ghost use Rattle.mls_msgs.specs.Rules.{plain_rules};
 ghost use Rattle.mls_msgs.specs.declared.profile.Profile.TheVariants.{Members};
 ghost use Rattle.mls_apply.specs.Staged.{IsSettled};
 ghost use Rattle.mls_follow.specs.CommitTree.{initial_state_of_tree};
@@ -17,25 +18,28 @@ ghost use Rattle.mls_follow.specs.Runs.{IsTransition};
 ghost use Rattle.mls_check.specs.GroupTree.{FailsSuite, IsSupportedContext};
 ghost use Rattle.mls_check.specs.ReceiptSets.{with_receipt};
 ghost use Rattle.mls_check.specs.Signatures.{Extends};
+ghost use Rattle.mls_follow.specs.AddedRules.{HasAddedRules, IsStrictRefused};
 ghost use Rattle.mls_follow.specs.Resumption.{IsResumed, IsResumeFault};
 ghost use Rattle.mls_follow.specs.Start.{IsStart, IsStartFault};
 
+use crate::added_rules::StrictRefused;
 use crate::framed_content_rules::read_message;
 use crate::group::Group;
 use crate::resume::{ResumeRefused, resumed_group};
-use crate::start::{StartParts, StartRefused, check_start, supported_suite};
+use crate::start::{StartParts, StartRefused, StartRules, check_start, supported_suite};
 use crate::start_fault::StartFault;
 use crate::taken::Taken;
 use mls_apply::{KnownProposal, PendingProposals, Refusal, StagedTree};
 use mls_check::{LearningCheck, OutOfMemory, SignatureCheck};
 use mls_hash::Suite;
-use mls_msgs::{GroupInfo, Message, Profile};
+use mls_msgs::{GroupInfo, Message, Profile, Rules};
 use mls_nodes::GroupContext;
 use mls_tree::{HashValue, PublicTree};
 use std::alloc::Global;
 
 /// A follower of a group: the group's public state, and a checker of signatures. Its tree always has distinct
-/// encryption keys and valid leaf nodes, by this checker.
+/// encryption keys and valid leaf nodes, by this checker. With strict rule 51 these always support the types of the
+/// GroupContext's extensions.
 #[derive(Drop)]
 pub struct Follower<C: SignatureCheck> {
     pub(crate) group: Group,
@@ -56,10 +60,11 @@ fn initial_group(
     requires required { Requires info.context checked.required }
     requires senders { checked.senders ≡ senders_by info.context.extensions }
     requires settled { IsSettled tree }
-    ensures { group_state result ≡ initial_state_of_tree profile info tree.tree checked.interim }
+    ensures { group_state result ≡ initial_state_of_tree checked.asked profile info tree.tree checked.interim }
 {
     Group {
         profile,
+        rules: checked.asked,
         context: info.context,
         tree,
         interim: checked.interim,
@@ -85,10 +90,10 @@ impl<C: SignatureCheck> Follower<C> {
         tree: Option<PublicTree>,
         checker: C,
     ) -> Result<Follower<C>, StartRefused<C>>
-        ensures started { IfOk result (λ f. IsStart Members (C.meaning checker) info
+        ensures started { IfOk result (λ f. IsStart plain_rules Members (C.meaning checker) info
             (option_map plain tree) (state_of f)) }
         ensures checker { IfOk result (λ f. C.meaning (checker_of f) ≡ C.meaning checker) }
-        ensures refused { IfErr result (λ r. IsStartFault (C.meaning checker) info
+        ensures refused { IfErr result (λ r. IsStartFault plain_rules (C.meaning checker) info
             (option_map plain tree) r.fault) }
         ensures unsupported_version { IsErrAnd result
             (λ r. r.fault ≡ StartFault.UnsupportedVersion) ↔ (info.context.version ≢ 1) }
@@ -102,9 +107,40 @@ impl<C: SignatureCheck> Follower<C> {
         Follower::start_in(alloc, Profile::Members, info, tree, checker)
     }
 
-    /// Starts a follower from a GroupInfo (RFC 9420, 12.4.3), with the tree that is passed, otherwise with the one in the GroupInfo. In the members' profile it processes the proposals Add, Update, Remove and GroupContextExtensions of
+    /// Starts a follower without strict rules, as [`Follower::start_by`] does.
+    ///
+    /// # Errors
+    ///
+    /// Those of [`Follower::start_by`], but for `Strict`.
+    pub fn start_in(
+        alloc: Global,
+        profile: Profile,
+        info: GroupInfo,
+        tree: Option<PublicTree>,
+        checker: C,
+    ) -> Result<Follower<C>, StartRefused<C>>
+        ensures started { IfOk result (λ f. IsStart plain_rules profile (C.meaning checker) info
+            (option_map plain tree) (state_of f)) }
+        ensures checker { IfOk result (λ f. C.meaning (checker_of f) ≡ C.meaning checker) }
+        ensures refused { IfErr result (λ r. IsStartFault plain_rules (C.meaning checker) info
+            (option_map plain tree) r.fault) }
+        ensures unsupported_version { IsErrAnd result
+            (λ r. r.fault ≡ StartFault.UnsupportedVersion) ↔ (info.context.version ≢ 1) }
+        ensures unsupported_suite { IsErrAnd result
+            (λ r. r.fault ≡ StartFault.UnsupportedSuite) ↔ FailsSuite info.context }
+        ensures no_tree { IsSupportedContext info.context → tree ≡ None → extension_of 2 info.extensions ≡ None
+            → IsErrAnd result (λ r. r.fault ≡ StartFault.NoTree) }
+        ensures returned_arguments { IfErr result (λ r. (r.info ≡ info)
+            × (option_map plain r.tree ≡ option_map plain tree) × (r.checker ≡ checker)) }
+    {
+        Follower::start_by(alloc, Rules::plain(), profile, info, tree, checker)
+    }
+
+    /// Starts a follower from a GroupInfo (RFC 9420, 12.4.3), with the tree that is passed, otherwise with the one in the
+    /// GroupInfo. In the members' profile it processes the proposals Add, Update, Remove and GroupContextExtensions of
     /// members. In the full profile it processes also PreSharedKey and ReInit (12.1.4, 12.1.5), and the proposals of external
-    /// senders and of clients that propose to join (12.1.8), and external commits (12.4.3.2).
+    /// senders and of clients that propose to join (12.1.8), and external commits (12.4.3.2). It accepts what meets the rules
+    /// of the profile and then the strict rules of the set.
     ///
     /// Whether the group is over, no GroupInfo says: the follower takes it that it goes on (11.2).
     ///
@@ -120,21 +156,24 @@ impl<C: SignatureCheck> Follower<C> {
     /// 6. Its leaf nodes are valid ([`mls_check::validate_members`]).
     /// 7. The signer's leaf is non-blank.
     /// 8. The signature of the GroupInfo is good.
+    /// 9. The strict rules of the set are met: by the GroupInfo itself, of which 40 and 41 are, then by its GroupContext and
+    ///    the tree ([`mls_strict::validate_strict`]).
     ///
     /// All arguments are returned as they were, except that slots of the tree's hash cache may have been filled.
     /// Conditions 1 and 2, and that there is neither a tree nor an extension for one, are checked before anything is
     /// allocated.
-    pub fn start_in(
+    pub fn start_by(
         alloc: Global,
+        asked: Rules,
         profile: Profile,
         info: GroupInfo,
         tree: Option<PublicTree>,
         checker: C,
     ) -> Result<Follower<C>, StartRefused<C>>
-        ensures started { IfOk result (λ f. IsStart profile (C.meaning checker) info
+        ensures started { IfOk result (λ f. IsStart asked profile (C.meaning checker) info
             (option_map plain tree) (state_of f)) }
         ensures checker { IfOk result (λ f. C.meaning (checker_of f) ≡ C.meaning checker) }
-        ensures refused { IfErr result (λ r. IsStartFault (C.meaning checker) info
+        ensures refused { IfErr result (λ r. IsStartFault asked (C.meaning checker) info
             (option_map plain tree) r.fault) }
         ensures unsupported_version { IsErrAnd result
             (λ r. r.fault ≡ StartFault.UnsupportedVersion) ↔ (info.context.version ≢ 1) }
@@ -156,7 +195,8 @@ impl<C: SignatureCheck> Follower<C> {
                 });
             }
         };
-        match check_start(alloc, suite, &info, tree, &checker) {
+        let rules = StartRules { asked, suite };
+        match check_start(alloc, &rules, &info, tree, &checker) {
             Ok((tree, checked)) => Ok(Follower {
                 group: initial_group(alloc, profile, info, tree, checked),
                 checker,
@@ -211,6 +251,13 @@ impl<C: SignatureCheck> Follower<C> {
         self.group.profile
     }
 
+    /// Returns the set of strict rules (own rule). No message changes it. It doesn't allocate.
+    pub fn rules(&self) -> Rules
+        ensures { result ≡ (state_of self.now).rules }
+    {
+        self.group.rules
+    }
+
     /// Returns whether the group is over: a commit with a ReInit was accepted (RFC 9420, 11.2). Every later message of the
     /// group's last epoch is then refused. It doesn't allocate.
     pub fn ended(&self) -> bool
@@ -255,6 +302,25 @@ impl<C: SignatureCheck> Follower<C> {
         &self.checker
     }
 
+    /// Adds strict rules to the follower's set. Only those that it lacks are checked, and none is taken away.
+    ///
+    /// # Errors
+    ///
+    /// The follower is unchanged.
+    ///
+    /// - [`StrictRefused::Group`]: the GroupContext or the tree does not meet the first of them, by number, as
+    ///   [`mls_strict::validate_strict`] says.
+    /// - [`StrictRefused::Known`]: a pending proposal does not meet one.
+    /// - [`StrictRefused::OutOfMemory`].
+    pub fn make_strict(&mut self, asked: Rules) -> Result<(), StrictRefused>
+        ensures made { OnOk result (HasAddedRules asked (state_of self.old) (state_of self.new)) }
+        ensures refused { IfErr result (IsStrictRefused asked (state_of self.old)) }
+        ensures unchanged_on_error { OnErr result (state_of self.new ≡ state_of self.old) }
+        ensures checker { checker_of self.new ≡ checker_of self.old }
+    {
+        self.group.add_rules(self.alloc, asked)
+    }
+
     /// Processes a message, which `bytes` must encode.
     fn take_message(&mut self, message: &Message, bytes: &[u8]) -> Result<Taken, Refusal>
         requires { EncodesMessage (state_of self.old).profile message.now bytes.now }
@@ -265,10 +331,11 @@ impl<C: SignatureCheck> Follower<C> {
         self.group.take(self.alloc, &self.checker, message, bytes)
     }
 
-    /// Processes one message (RFC 9420, 6), and accepts it if it satisfies every rule.
+    /// Processes one message (RFC 9420, 6), and accepts it if it satisfies every rule: those of the profile, and then the
+    /// strict rules of the follower's set.
     ///
     /// After a commit the tree is checked from its changes. All leaves are visited only if the commit changes what the
-    /// group requires. A commit with a ReInit is applied as any other, and ends the group (RFC 9420, 11.2).
+    /// group requires, or the types of the context's extensions and there is strict rule 51. A commit with a ReInit is applied as any other, and ends the group (RFC 9420, 11.2).
     ///
     /// # Errors
     ///

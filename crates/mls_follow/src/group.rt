@@ -18,18 +18,19 @@ use mls_apply::{
     KnownProposal, PendingProposals, Refusal, StagedTree, confirmed_hash, interim_hash,
 };
 use mls_hash::Suite;
-use mls_msgs::{Authenticated, Profile, Proposal, Sender};
+use mls_msgs::{Authenticated, Profile, Proposal, Rules, Sender};
 use mls_nodes::{ExternalSenders, GroupContext, RequiredCapabilities};
 use mls_tree::HashValue;
 use mls_wire::{Opaque, copy_of};
 use std::alloc::{AllocError, Global};
 
-/// The public state of a group: the profile, its context, its tree, the interim transcript hash, the pending proposals and
-/// whether it is over; and, read from these, the cipher suite, what the group requires of its members, and its external
-/// senders, `None` if they cannot be read.
+/// The public state of a group: the profile, the set of strict rules, its context, its tree, the interim transcript hash,
+/// the pending proposals and whether it is over; and, read from these, the cipher suite, what the group requires of its
+/// members, and its external senders, `None` if they cannot be read.
 #[derive(Drop)]
 pub(crate) struct Group {
     pub(crate) profile: Profile,
+    pub(crate) rules: Rules,
     pub(crate) context: GroupContext,
     pub(crate) tree: StagedTree,
     pub(crate) interim: HashValue,

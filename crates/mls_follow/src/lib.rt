@@ -9,6 +9,7 @@
 //! those of a start are [`mls_signatures::start_signatures`].
 #![tactic(auto)]
 
+mod added_rules;
 mod changed_tree_check;
 mod commit_changes;
 mod context_pieces;
@@ -30,9 +31,11 @@ mod signatures;
 mod start;
 mod start_fault;
 mod stored_state;
+mod strict_rules;
 mod take;
 mod taken;
 
+pub use added_rules::StrictRefused;
 pub use follower::Follower;
 pub use mls_apply::{Refusal, confirmed_hash, interim_hash};
 pub use resume::ResumeRefused;

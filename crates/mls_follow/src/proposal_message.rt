@@ -57,6 +57,7 @@ pub(crate) fn check_proposal_message<C: SignatureCheck>(
         auth,
         sender,
         proposal,
+        ..
     } = *sent;
     let reference = reference_of(alloc, group, auth)?;
     if group.known.find(reference.as_slice()).is_some() {

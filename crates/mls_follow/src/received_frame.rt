@@ -1,11 +1,11 @@
-//! A PublicMessage that was received, and what its sender has signed of it.
+//! A PublicMessage that was received, what its sender has signed of it, and the strict rule that it does not meet.
 
 ghost use Rattle.std.specs.Prelude.{◌≡◌, Some, None};
 ghost use Rattle.mls_msgs.specs.Message.{message};
 ghost use Rattle.mls_msgs.specs.Tbs.{content_tbs};
 ghost use Rattle.mls_msgs.specs.declared.message.Message.TheVariants.{Public};
 
-use mls_msgs::{Authenticated, PublicMessage};
+use mls_msgs::{Authenticated, PublicMessage, StrictRule};
 use std::marker::Model;
 
 /// The AuthenticatedContent of a PublicMessage, and its FramedContentTBS without a GroupContext (RFC 9420, 6.1): a part of
@@ -53,4 +53,11 @@ impl<'a> ReceivedFrame<'a> {
     {
         self.tbs
     }
+}
+
+/// A PublicMessage that was received, and the first strict rule of the group's set that it does not meet by itself.
+#[derive(Drop)]
+pub(crate) struct JudgedFrame<'a> {
+    pub(crate) frame: ReceivedFrame<'a>,
+    pub(crate) strict: Option<StrictRule>,
 }

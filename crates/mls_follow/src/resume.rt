@@ -24,7 +24,7 @@ use crate::resume_fault::ResumeFault;
 use mls_apply::{PendingProposals, StagedTree};
 use mls_check::{OutOfMemory, SignatureCheck};
 use mls_hash::Suite;
-use mls_msgs::Profile;
+use mls_msgs::{Profile, Rules};
 use mls_nodes::{ExternalSenders, GroupContext, NodeFault, RequiredCapabilities};
 use mls_signatures::senders_of;
 use mls_state::{FollowerState, GroupMode, StateFile, StateFileFault, decode_state_file};
@@ -242,6 +242,7 @@ fn group_of<C: SignatureCheck>(
     } = content;
     let mut group = Group {
         profile: profile_of_mode(mode),
+        rules: Rules::plain(),
         context,
         tree: found.tree,
         interim: found.interim,

@@ -1,6 +1,6 @@
 //! What a follower starts from (RFC 9420, 12.4.3.1).
 
-ghost use Rattle.std.specs.Prelude.{◌≡◌, ◌≢◌, ◌↔◌, ℕ, List, Option, None, Some, Err, IfOk, IfErr, OnOk, OnErr, IsErrAnd, option_map};
+ghost use Rattle.std.specs.Prelude.{◌≡◌, ◌≢◌, ◌↔◌, ℕ, List, Option, None, Some, Err, IfOk, IfErr, OnOk, OnErr, IsErrAnd, MatchOption, option_map};
 ghost use Rattle.mls_check.specs.Signatures.{VerifyFn};
 ghost use Rattle.mls_tree.specs.PublicTreeModel.{plain};
 ghost use Rattle.mls_tree.specs.RatchetTree.{RatchetTree};
@@ -10,8 +10,10 @@ ghost use Rattle.mls_check.specs.GroupTree.{IsSupportedContext, HasMembers, Fail
 ghost use Rattle.mls_msgs.specs.declared.profile.Profile.{Profile};
 ghost use Rattle.mls_apply.specs.Staged.{IsSettled};
 ghost use Rattle.mls_follow.specs.CommitTree.{initial_state_of_tree};
-ghost use Rattle.mls_follow.specs.Start.{UsesTree, UsesNoTree, IsStart, IsStartFault, info_interim, is_info_signed};
-ghost use Rattle.mls_follow.specs.StartInternal.{StartsWith, FailsWith, IsSignedIn, FailsSigned};
+ghost use Rattle.mls_msgs.specs.declared.rules.Rules.{Rules};
+ghost use Rattle.mls_strict.specs.StrictTrees.{IsStrict};
+ghost use Rattle.mls_follow.specs.Start.{UsesTree, UsesNoTree, InfoMeets, IsInfoFault, IsStart, IsStartFault, info_interim, is_info_signed};
+ghost use Rattle.mls_follow.specs.StartInternal.{StartsWith, FailsWith, FailsStrictly, IsSignedIn, FailsSigned};
 
 use crate::context_pieces::ContextPieces;
 use crate::group_tree::{UnsupportedContext, group_requirements, suite_of};
@@ -19,9 +21,10 @@ use crate::start_fault::StartFault;
 use mls_apply::{StagedTree, interim_hash};
 use mls_check::{OutOfMemory, SignatureCheck, signed_in_pieces};
 use mls_hash::Suite;
-use mls_msgs::{GROUP_INFO_LABEL, GroupInfo};
+use mls_msgs::{GROUP_INFO_LABEL, GroupInfo, Rules, StrictRule};
 use mls_nodes::{EncodedLeaf, ExternalSenders, NodeFault, RequiredCapabilities, find_extension};
 use mls_signatures::senders_of;
+use mls_strict::{StrictFault, StrictTreeFault, has_each_once, validate_strict};
 use mls_tree::{HashValue, PublicTree};
 use mls_wire::EncodedLength;
 use std::alloc::Global;
@@ -42,9 +45,17 @@ pub struct StartRefused<C> {
     pub checker: C,
 }
 
+/// By what a start is checked: the strict rules of the follower's set, and the cipher suite of the GroupInfo.
+#[derive(Drop)]
+pub(crate) struct StartRules {
+    pub(crate) asked: Rules,
+    pub(crate) suite: Suite,
+}
+
 /// What is found of a GroupInfo and a tree from which a follower starts.
 #[derive(Drop)]
 pub(crate) struct StartParts {
+    pub(crate) asked: Rules,
     pub(crate) suite: Suite,
     pub(crate) required: RequiredCapabilities,
     pub(crate) senders: Option<ExternalSenders>,
@@ -55,8 +66,8 @@ pub(crate) struct StartParts {
 pub(crate) fn supported_suite(info: &GroupInfo) -> Result<Suite, StartFault>
     ensures supported { OnOk result (IsSupportedContext info.now.context) }
     ensures suite { IfOk result (λ suite. suite ≡ info.now.context.cipher_suite) }
-    ensures refused { IfErr result (λ e. (G : VerifyFn) (supplied : Option RatchetTree)
-        → IsStartFault G info.now supplied e) }
+    ensures refused { IfErr result (λ e. (asked : Rules) (G : VerifyFn) (supplied : Option RatchetTree)
+        → IsStartFault asked G info.now supplied e) }
     ensures unfollowed { OnErr result (¬ IsSupportedContext info.now.context) }
     ensures unsupported_version { (result ≡ Err StartFault.UnsupportedVersion)
         ↔ (info.now.context.version ≢ 1) }
@@ -139,7 +150,8 @@ fn check_signer<C: SignatureCheck>(
     checker: &C,
 ) -> Result<(), StartFault>
     ensures signed { OnOk result (IsSignedIn (C.meaning checker.now) info.now (plain tree.now)) }
-    ensures refused { IfErr result (FailsSigned (C.meaning checker.now) info.now (plain tree.now)) }
+    ensures refused { IfErr result (λ e. (asked : Rules)
+        → FailsSigned asked (C.meaning checker.now) info.now (plain tree.now) e) }
 {
     let Some(signer) = tree.leaf(info.signer) else {
         return Err(StartFault::SignerNotMember);
@@ -164,7 +176,8 @@ fn validated_requirements<C: SignatureCheck>(
     ensures tree { plain tree.new ≡ plain tree.old }
     ensures members { IfOk result (HasMembers (C.meaning checker.now) info.now.context
         (λ t. t ≡ plain tree.new) (plain tree.new)) }
-    ensures refused { IfErr result (FailsWith (C.meaning checker.now) info.now (plain tree.new)) }
+    ensures refused { IfErr result (λ e. (asked : Rules)
+        → FailsWith asked (C.meaning checker.now) info.now (plain tree.new) e) }
 {
     match group_requirements(alloc, suite, &info.context, tree, checker) {
         Ok(required) => Ok(required),
@@ -172,47 +185,92 @@ fn validated_requirements<C: SignatureCheck>(
     }
 }
 
-/// Returns the interim transcript hash of a GroupInfo that its signer has signed.
+/// Returns the first of the strict rules 40 and 41, if the set has it, that a GroupInfo does not meet by itself.
+fn unmet_by_info(rules: &StartRules, info: &GroupInfo) -> Option<StrictRule>
+    requires suite_of_context { rules.now.suite ≡ info.now.context.cipher_suite }
+    ensures { MatchOption result (InfoMeets rules.now.asked info.now) (IsInfoFault rules.now.asked info.now) }
+{
+    let tag = info.confirmation_tag.as_slice();
+    if rules.asked.has(40) && tag.len() != usize::from(rules.suite.hash_length()) {
+        return Some(StrictRule::TagLength);
+    }
+    if rules.asked.has(41) && !has_each_once(&info.extensions) {
+        return Some(StrictRule::ExtensionRepeated);
+    }
+    None
+}
+
+/// Checks that a GroupInfo, its GroupContext and its tree meet the strict rules.
+fn check_strict_start(
+    alloc: Global,
+    rules: &StartRules,
+    info: &GroupInfo,
+    tree: &PublicTree,
+) -> Result<(), StartFault>
+    requires suite_of_context { rules.now.suite ≡ info.now.context.cipher_suite }
+    ensures info { OnOk result (InfoMeets rules.now.asked info.now) }
+    ensures strict { OnOk result (IsStrict rules.now.asked info.now.context tree.now.tree) }
+    ensures refused { IfErr result (FailsStrictly rules.now.asked info.now (plain tree.now)) }
+{
+    if let Some(rule) = unmet_by_info(rules, info) {
+        return Err(StartFault::Strict(StrictFault { rule, place: None }));
+    }
+    match validate_strict(alloc, rules.asked, rules.suite, &info.context, tree) {
+        Ok(()) => Ok(()),
+        Err(StrictTreeFault::Strict(fault)) => Err(StartFault::Strict(fault)),
+        Err(StrictTreeFault::OutOfMemory) => Err(StartFault::OutOfMemory),
+    }
+}
+
+/// Returns the interim transcript hash of a GroupInfo that its signer has signed, and that meets the strict rules with its
+/// tree.
 fn verified_interim_hash<C: SignatureCheck>(
     alloc: Global,
-    suite: Suite,
+    rules: &StartRules,
     info: &GroupInfo,
     tree: &PublicTree,
     checker: &C,
 ) -> Result<HashValue, StartFault>
-    requires suite_of_context { suite ≡ info.now.context.cipher_suite }
+    requires suite_of_context { rules.now.suite ≡ info.now.context.cipher_suite }
     ensures signed { OnOk result (IsSignedIn (C.meaning checker.now) info.now (plain tree.now)) }
+    ensures info { OnOk result (InfoMeets rules.now.asked info.now) }
+    ensures strict { OnOk result (IsStrict rules.now.asked info.now.context tree.now.tree) }
     ensures hashed { IfOk result (λ interim. info_interim info.now ≡ Some interim) }
-    ensures refused { IfErr result (FailsSigned (C.meaning checker.now) info.now (plain tree.now)) }
+    ensures refused { IfErr result (FailsSigned rules.now.asked (C.meaning checker.now) info.now (plain tree.now)) }
 {
     check_signer(alloc, info, tree, checker)?;
+    check_strict_start(alloc, rules, info, tree)?;
     let confirmed = info.context.confirmed.as_slice();
+    let suite = rules.suite;
     Ok(interim_hash(alloc, suite, confirmed, &info.confirmation_tag)?)
 }
 
 /// Returns what is found of a supported GroupInfo and a tree from which a follower starts. Checks the tree, then its
-/// leaf nodes, then the signature of the GroupInfo. Reads the external senders last.
+/// leaf nodes, then the signature of the GroupInfo, then the strict rules. Reads the external senders last.
 fn check_info_and_tree<C: SignatureCheck>(
     alloc: Global,
-    suite: Suite,
+    rules: &StartRules,
     info: &GroupInfo,
     tree: &mut PublicTree,
     checker: &C,
 ) -> Result<StartParts, StartFault>
     requires supported { IsSupportedContext info.now.context }
-    requires suite_of_context { suite ≡ info.now.context.cipher_suite }
+    requires suite_of_context { rules.now.suite ≡ info.now.context.cipher_suite }
     ensures tree { plain tree.new ≡ plain tree.old }
+    ensures asked { IfOk result (λ checked. checked.asked ≡ rules.now.asked) }
     ensures suite { IfOk result (λ checked. checked.suite ≡ info.now.context.cipher_suite) }
     ensures required { IfOk result (λ checked. Requires info.now.context checked.required) }
     ensures senders { IfOk result (λ checked. checked.senders ≡ senders_by info.now.context.extensions) }
-    ensures started { IfOk result (λ checked. StartsWith
+    ensures started { IfOk result (λ checked. StartsWith rules.now.asked
         (C.meaning checker.now) info.now (plain tree.old) checked.interim) }
-    ensures refused { IfErr result (FailsWith (C.meaning checker.now) info.now (plain tree.old)) }
+    ensures refused { IfErr result (FailsWith rules.now.asked (C.meaning checker.now) info.now (plain tree.old)) }
 {
+    let suite = rules.suite;
     let required = validated_requirements(alloc, suite, info, tree, checker)?;
-    match verified_interim_hash(alloc, suite, info, tree, checker) {
+    match verified_interim_hash(alloc, rules, info, tree, checker) {
         Ok(interim) => match senders_of(alloc, &info.context.extensions) {
             Ok(senders) => Ok(StartParts {
+                asked: rules.asked,
                 suite,
                 required,
                 senders,
@@ -233,24 +291,25 @@ fn check_info_and_tree<C: SignatureCheck>(
 /// Does the same with a tree that is passed, and indexes it last. On error the tree is returned.
 fn check_tree<C: SignatureCheck>(
     alloc: Global,
-    suite: Suite,
+    rules: &StartRules,
     info: &GroupInfo,
     mut tree: PublicTree,
     checker: &C,
 ) -> Result<(StagedTree, StartParts), (StartFault, PublicTree)>
     requires supported { IsSupportedContext info.now.context }
-    requires suite_of_context { suite ≡ info.now.context.cipher_suite }
+    requires suite_of_context { rules.now.suite ≡ info.now.context.cipher_suite }
     ensures tree { IfOk result (λ found. found.0.tree ≡ tree.tree) }
     ensures settled { IfOk result (λ found. IsSettled found.0) }
+    ensures asked { IfOk result (λ found. found.1.asked ≡ rules.now.asked) }
     ensures suite { IfOk result (λ found. found.1.suite ≡ info.now.context.cipher_suite) }
     ensures required { IfOk result (λ found. Requires info.now.context found.1.required) }
     ensures senders { IfOk result (λ found. found.1.senders ≡ senders_by info.now.context.extensions) }
-    ensures started { IfOk result (λ found. StartsWith
+    ensures started { IfOk result (λ found. StartsWith rules.now.asked
         (C.meaning checker.now) info.now (plain tree) found.1.interim) }
-    ensures refused { IfErr result (λ r. FailsWith (C.meaning checker.now) info.now (plain tree) r.0) }
+    ensures refused { IfErr result (λ r. FailsWith rules.now.asked (C.meaning checker.now) info.now (plain tree) r.0) }
     ensures returned_arguments { IfErr result (λ r. plain r.1 ≡ plain tree) }
 {
-    match check_info_and_tree(alloc, suite, info, &mut tree, checker) {
+    match check_info_and_tree(alloc, rules, info, &mut tree, checker) {
         Ok(checked) => match StagedTree::of(alloc, tree) {
             Ok(tree) => Ok((tree, checked)),
             Err(tree) => {
@@ -265,24 +324,25 @@ fn check_tree<C: SignatureCheck>(
 /// Does the same with the tree in the GroupInfo.
 fn check_embedded_tree<C: SignatureCheck>(
     alloc: Global,
-    suite: Suite,
+    rules: &StartRules,
     info: &GroupInfo,
     checker: &C,
 ) -> Result<(StagedTree, StartParts), StartFault>
     requires supported { IsSupportedContext info.now.context }
-    requires suite_of_context { suite ≡ info.now.context.cipher_suite }
+    requires suite_of_context { rules.now.suite ≡ info.now.context.cipher_suite }
     ensures settled { IfOk result (λ found. IsSettled found.0) }
+    ensures asked { IfOk result (λ found. found.1.asked ≡ rules.now.asked) }
     ensures suite { IfOk result (λ found. found.1.suite ≡ info.now.context.cipher_suite) }
     ensures required { IfOk result (λ found. Requires info.now.context found.1.required) }
     ensures senders { IfOk result (λ found. found.1.senders ≡ senders_by info.now.context.extensions) }
-    ensures started { IfOk result (λ found. (profile : Profile) → IsStart profile (C.meaning checker.now)
-        info.now None (initial_state_of_tree profile info.now found.0.tree found.1.interim)) }
-    ensures refused { IfErr result (IsStartFault (C.meaning checker.now) info.now None) }
+    ensures started { IfOk result (λ found. (profile : Profile) → IsStart rules.now.asked profile (C.meaning checker.now)
+        info.now None (initial_state_of_tree rules.now.asked profile info.now found.0.tree found.1.interim)) }
+    ensures refused { IfErr result (IsStartFault rules.now.asked (C.meaning checker.now) info.now None) }
     ensures no_extension { extension_of 2 info.now.extensions ≡ None
         → result ≡ Err StartFault.NoTree }
 {
     let tree = tree_in(alloc, info)?;
-    match check_tree(alloc, suite, info, tree, checker) {
+    match check_tree(alloc, rules, info, tree, checker) {
         Ok(found) => Ok(found),
         Err((fault, tree)) => {
             drop(tree);
@@ -295,31 +355,32 @@ fn check_embedded_tree<C: SignatureCheck>(
 /// passed.
 pub(crate) fn check_start<C: SignatureCheck>(
     alloc: Global,
-    suite: Suite,
+    rules: &StartRules,
     info: &GroupInfo,
     tree: Option<PublicTree>,
     checker: &C,
 ) -> Result<(StagedTree, StartParts), (StartFault, Option<PublicTree>)>
     requires supported { IsSupportedContext info.now.context }
-    requires suite_of_context { suite ≡ info.now.context.cipher_suite }
+    requires suite_of_context { rules.now.suite ≡ info.now.context.cipher_suite }
     ensures settled { IfOk result (λ found. IsSettled found.0) }
+    ensures asked { IfOk result (λ found. found.1.asked ≡ rules.now.asked) }
     ensures suite { IfOk result (λ found. found.1.suite ≡ info.now.context.cipher_suite) }
     ensures required { IfOk result (λ found. Requires info.now.context found.1.required) }
     ensures senders { IfOk result (λ found. found.1.senders ≡ senders_by info.now.context.extensions) }
-    ensures started { IfOk result (λ found. (profile : Profile) → IsStart profile (C.meaning checker.now)
-        info.now (option_map plain tree) (initial_state_of_tree profile info.now found.0.tree found.1.interim)) }
-    ensures refused { IfErr result (λ r. IsStartFault (C.meaning checker.now) info.now
+    ensures started { IfOk result (λ found. (profile : Profile) → IsStart rules.now.asked profile (C.meaning checker.now)
+        info.now (option_map plain tree) (initial_state_of_tree rules.now.asked profile info.now found.0.tree found.1.interim)) }
+    ensures refused { IfErr result (λ r. IsStartFault rules.now.asked (C.meaning checker.now) info.now
         (option_map plain tree) r.0) }
     ensures returned_arguments { IfErr result (λ r. option_map plain r.1 ≡ option_map plain tree) }
     ensures no_extension { tree ≡ None → extension_of 2 info.now.extensions ≡ None
         → IsErrAnd result (λ r. r.0 ≡ StartFault.NoTree) }
 {
     match tree {
-        Some(tree) => match check_tree(alloc, suite, info, tree, checker) {
+        Some(tree) => match check_tree(alloc, rules, info, tree, checker) {
             Ok(found) => Ok(found),
             Err((fault, tree)) => Err((fault, Some(tree))),
         },
-        None => match check_embedded_tree(alloc, suite, info, checker) {
+        None => match check_embedded_tree(alloc, rules, info, checker) {
             Ok(found) => Ok(found),
             Err(fault) => Err((fault, None)),
         },

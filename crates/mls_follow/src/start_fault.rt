@@ -1,6 +1,7 @@
 //! Why no follower starts from a GroupInfo (RFC 9420, 12.4.3.1).
 
 use mls_check::{GroupTreeFault, MemberFault, OutOfMemory, TreeFault};
+use mls_strict::StrictFault;
 use std::alloc::AllocError;
 use thiserror::Error;
 
@@ -32,6 +33,10 @@ pub enum StartFault {
     /// The signature of the GroupInfo is not good (RFC 9420, 12.4.3).
     #[error("the signature of the GroupInfo is not good")]
     InfoSignature,
+    /// A strict rule of the follower's set is not met (own rule): by the GroupInfo itself, else by its GroupContext or its
+    /// tree. It is the last to be checked.
+    #[error("{0}")]
+    Strict(StrictFault),
     /// An allocation failed. It says nothing of the GroupInfo.
     #[error("out of memory")]
     OutOfMemory,
@@ -56,6 +61,7 @@ impl StartFault {
             StartFault::Member(_) => 6,
             StartFault::SignerNotMember => 7,
             StartFault::InfoSignature => 8,
+            StartFault::Strict(_) => 9,
         }
     }
 }

@@ -131,6 +131,9 @@ impl Group {
             × Stores c t (group_state self.now)) }
         ensures none { IfErr result (λ e. e ≢ CodecFault.OutOfMemory → HasNoFile (group_state self.now)) }
     {
+        if !self.rules.is_plain() {
+            return Err(too_long());
+        }
         let Some(mode) = stored_mode(self.profile, self.ended) else {
             return Err(too_long());
         };
@@ -172,8 +175,8 @@ impl<C: SignatureCheck> Follower<C> {
     /// # Errors
     ///
     /// `TooLong` at 0 only if the state has no file: it would have more than 268,435,456 bytes, as many as an input may
-    /// have. (No file has a group of the members' profile that is over either, and no follower has such a state.) Or
-    /// [`CodecFault::OutOfMemory`].
+    /// have, or the state has strict rules, for which a file has no place. (No file has a group of the members' profile that
+    /// is over either, and no follower has such a state.) Or [`CodecFault::OutOfMemory`].
     pub fn encode_state(&self) -> Result<Vec<u8>, CodecFault>
         ensures encoded { IfOk result (λ bytes. EncodesState (state_of self.now) bytes.items) }
         ensures too_long { IfErr result (λ e. e ≢ CodecFault.OutOfMemory

@@ -20,18 +20,20 @@ ghost use Rattle.mls_follow.specs.MessageRulesInternal.{external_commit_refusal,
 ghost use Rattle.mls_follow.specs.NextState.{after_commit, after_content, after_join, after_outside, after_proposal, after_sender, after_tree, with_list};
 ghost use Rattle.mls_follow.specs.State.{EncodesMessage, last_epoch};
 ghost use Rattle.mls_follow.specs.AcceptanceInternal.{Takes};
+ghost use Rattle.mls_follow.specs.StrictRulesInternal.{strict_refusal};
 ghost use Rattle.mls_follow.specs.Runs.{IsTransition};
 
 use crate::changed_tree_check::TreeRules;
-use crate::commit_changes::{check_items, check_join_items, stage_commit};
+use crate::commit_changes::{check_items, check_join_items, stage_strict_commit};
 use crate::framed_content_rules::{
     check_header, check_joiner_frame, check_member_frame, check_outside_frame,
 };
 use crate::group::Group;
 use crate::next_extensions::{proposed_requirements, required_after};
 use crate::proposal_message::check_proposal_message;
-use crate::received_frame::ReceivedFrame;
+use crate::received_frame::{JudgedFrame, ReceivedFrame};
 use crate::resolved::{MemberMessage, ReceivedCommit, ResolvedCommit, SentProposal};
+use crate::strict_rules::unmet_rule;
 use crate::taken::Taken;
 use mls_apply::{PendingProposals, Refusal, has_reinit};
 use mls_check::SignatureCheck;
@@ -52,12 +54,16 @@ impl Group {
         requires present { IsTrue (is_present self.old.tree.tree sent.now.sender) }
         requires referenced { IsSome (reference_of self.old.context sent.now.auth.now) }
         ensures { let s = group_state self.old in
-            Takes (proposal_refusal (C.meaning checker.now) s sent.now.auth.now sent.now.sender sent.now.proposal.now)
+            Takes (strict_refusal self.old.rules sent.now.strict)
+            (proposal_refusal (C.meaning checker.now) s sent.now.auth.now sent.now.sender sent.now.proposal.now)
             (option_map (after_proposal s sent.now.sender sent.now.proposal.now) (reference_of self.old.context
             sent.now.auth.now))
             s result (group_state self.new) }
     {
         let reference = check_proposal_message(alloc, self, checker, sent)?;
+        if let Some(rule) = sent.strict {
+            return Err(Refusal::Strict(rule));
+        }
         Ok(self.store_proposal(alloc, reference, sent.sender, sent.proposal)?)
     }
 
@@ -73,13 +79,15 @@ impl Group {
         requires member { IsSome (leaf_at 0 self.old.tree.tree message.now.sender) }
         requires referenced { IsSome (reference_of self.old.context message.now.auth.now) }
         ensures { let s = group_state self.old in
-            Takes (handshake_refusal (C.meaning checker.now) s self.old.required message.now.auth.now
+            Takes (strict_refusal self.old.rules message.now.strict)
+            (handshake_refusal (C.meaning checker.now) s self.old.required message.now.auth.now
             message.now.sender (contents.Proposal proposal.now))
             (after_content s message.now.auth.now message.now.sender (contents.Proposal proposal.now))
             s result (group_state self.new) }
     {
         let sent = SentProposal {
             auth: message.auth,
+            strict: message.strict,
             sender: Sender::Member(message.sender),
             proposal,
         };
@@ -105,7 +113,8 @@ impl Group {
             let o = outcome commit.now.items.items self.old.tree.tree in
             let H = hash_of self.old.context.cipher_suite in
             let listed = with_list s (Some commit.now.items.items) in
-            Takes (first_failing (applied_tree_rules (C.meaning checker.now) s (unwrap_or required self.old.required)
+            Takes (strict_refusal self.old.rules commit.now.strict)
+            (first_failing (applied_tree_rules (C.meaning checker.now) s (unwrap_or required self.old.required)
             commit.now.committer commit.now.path.now o))
             (option_and_then (after_tree listed commit.now.auth.now) (changed_tree H commit.now.committer
             commit.now.path.now o))
@@ -123,8 +132,9 @@ impl Group {
             context: &self.context,
             former: &self.required,
             required: required_after(&self.required, &required),
+            asked: self.rules,
         };
-        match stage_commit(alloc, &rules, checker, &mut self.tree, commit) {
+        match stage_strict_commit(alloc, &rules, checker, &mut self.tree, commit) {
             Ok(staged) => {
                 self.tree.settle();
                 let ends = has_reinit(commit.items.as_slice());
@@ -152,7 +162,8 @@ impl Group {
             let required = required_after self.old.required (proposed_extensions commit.now.items.items) in
             let H = hash_of self.old.context.cipher_suite in
             let listed = with_list s (Some commit.now.items.items) in
-            Takes (first_failing (rules_with_requirements (C.meaning checker.now) s commit.now.committer
+            Takes (strict_refusal self.old.rules commit.now.strict)
+            (first_failing (rules_with_requirements (C.meaning checker.now) s commit.now.committer
             commit.now.path.now o required))
             (option_and_then (after_tree listed commit.now.auth.now) (changed_tree H commit.now.committer
             commit.now.path.now o))
@@ -176,7 +187,8 @@ impl Group {
         requires commit { IsTrue (is_commit auth.now.content.content) }
         requires checked { HasUniqueKeysAndValidLeaves (C.meaning checker.now) (group_state self.old) }
         ensures { let s = group_state self.old in
-            Takes (handshake_refusal (C.meaning checker.now) (with_known s received.now.known.now) self.old.required
+            Takes (strict_refusal self.old.rules received.now.strict)
+            (handshake_refusal (C.meaning checker.now) (with_known s received.now.known.now) self.old.required
             auth.now received.now.committer (contents.Commit received.now.commit.now))
             (after_content (with_known s received.now.known.now) auth.now received.now.committer (contents.Commit
             received.now.commit.now))
@@ -185,6 +197,7 @@ impl Group {
         let items = check_items(alloc, self, checker, received)?;
         let resolved = ResolvedCommit {
             auth,
+            strict: received.strict,
             committer: Sender::Member(received.committer),
             items,
             path: &received.commit.path,
@@ -208,13 +221,15 @@ impl Group {
         requires commit { IsTrue (is_commit message.now.auth.now.content.content) }
         requires checked { HasUniqueKeysAndValidLeaves (C.meaning checker.now) (group_state self.old) }
         ensures { let s = group_state self.old in
-            Takes (handshake_refusal (C.meaning checker.now) s self.old.required message.now.auth.now
+            Takes (strict_refusal self.old.rules message.now.strict)
+            (handshake_refusal (C.meaning checker.now) s self.old.required message.now.auth.now
             message.now.sender (contents.Commit commit.now))
             (after_content s message.now.auth.now message.now.sender (contents.Commit commit.now))
             s result (group_state self.new) }
     {
         let known = replace(&mut self.known, PendingProposals::new(alloc));
         let received = ReceivedCommit {
+            strict: message.strict,
             committer: message.sender,
             commit,
             known: &known,
@@ -233,20 +248,25 @@ impl Group {
         &mut self,
         alloc: Global,
         checker: &C,
-        frame: &ReceivedFrame<'_>,
+        judged: &JudgedFrame<'_>,
         sender: u32,
     ) -> Result<Taken, Refusal>
-        requires hashed { IsSome (confirmed_input frame.now) }
-        requires referenced { IsSome (reference_of self.old.context frame.now) }
+        requires hashed { IsSome (confirmed_input judged.now.frame) }
+        requires referenced { IsSome (reference_of self.old.context judged.now.frame) }
         requires checked { HasUniqueKeysAndValidLeaves (C.meaning checker.now) (group_state self.old) }
         ensures { let s = group_state self.old in
-            Takes (sender_refusal (C.meaning checker.now) s self.old.required frame.now (Member sender))
-            (after_sender s frame.now (Member sender))
+            Takes (strict_refusal self.old.rules judged.now.strict)
+            (sender_refusal (C.meaning checker.now) s self.old.required judged.now.frame (Member sender))
+            (after_sender s judged.now.frame (Member sender))
             s result (group_state self.new) }
     {
-        check_member_frame(alloc, self, checker, frame, sender)?;
-        let auth = frame.auth();
-        let message = MemberMessage { auth, sender };
+        check_member_frame(alloc, self, checker, &judged.frame, sender)?;
+        let auth = judged.frame.auth();
+        let message = MemberMessage {
+            auth,
+            strict: judged.strict,
+            sender,
+        };
         match &auth.content().content {
             Content::Application(_) => unreachable!(),
             Content::Proposal(proposal) => {
@@ -262,19 +282,21 @@ impl Group {
         &mut self,
         alloc: Global,
         checker: &C,
-        frame: &ReceivedFrame<'_>,
+        judged: &JudgedFrame<'_>,
     ) -> Result<Taken, Refusal>
-        requires present { IsTrue (is_present self.old.tree.tree frame.now.content.sender) }
-        requires referenced { IsSome (reference_of self.old.context frame.now) }
+        requires present { IsTrue (is_present self.old.tree.tree judged.now.frame.content.sender) }
+        requires referenced { IsSome (reference_of self.old.context judged.now.frame) }
         ensures { let s = group_state self.old in
-            Takes (outside_refusal (C.meaning checker.now) s frame.now frame.now.content.sender)
-            (after_outside s frame.now frame.now.content.sender frame.now.content.content)
+            Takes (strict_refusal self.old.rules judged.now.strict)
+            (outside_refusal (C.meaning checker.now) s judged.now.frame judged.now.frame.content.sender)
+            (after_outside s judged.now.frame judged.now.frame.content.sender judged.now.frame.content.content)
             s result (group_state self.new) }
     {
-        let proposal = check_outside_frame(alloc, self, checker, frame)?;
-        let auth = frame.auth();
+        let proposal = check_outside_frame(alloc, self, checker, &judged.frame)?;
+        let auth = judged.frame.auth();
         let sent = SentProposal {
             auth,
+            strict: judged.strict,
             sender: auth.content().sender,
             proposal,
         };
@@ -287,19 +309,20 @@ impl Group {
         &mut self,
         alloc: Global,
         checker: &C,
-        frame: &ReceivedFrame<'_>,
+        judged: &JudgedFrame<'_>,
     ) -> Result<Taken, Refusal>
-        requires present { IsTrue (is_present self.old.tree.tree frame.now.content.sender) }
-        requires referenced { IsSome (reference_of self.old.context frame.now) }
+        requires present { IsTrue (is_present self.old.tree.tree judged.now.frame.content.sender) }
+        requires referenced { IsSome (reference_of self.old.context judged.now.frame) }
         ensures { let s = group_state self.old in
-            Takes (first_failing (if_full self.old.profile (outside_rules (C.meaning checker.now) s frame.now
-            frame.now.content.sender)))
-            (after_outside s frame.now frame.now.content.sender frame.now.content.content)
+            Takes (strict_refusal self.old.rules judged.now.strict)
+            (first_failing (if_full self.old.profile (outside_rules (C.meaning checker.now) s judged.now.frame
+            judged.now.frame.content.sender)))
+            (after_outside s judged.now.frame judged.now.frame.content.sender judged.now.frame.content.content)
             s result (group_state self.new) }
     {
         match self.profile {
             Profile::Members => Err(Refusal::SenderNotMember),
-            Profile::Full => self.take_outside_frame(alloc, checker, frame),
+            Profile::Full => self.take_outside_frame(alloc, checker, judged),
         }
     }
 
@@ -309,21 +332,24 @@ impl Group {
         &mut self,
         alloc: Global,
         checker: &C,
-        auth: &Authenticated,
+        judged: &JudgedFrame<'_>,
         commit: &Commit,
     ) -> Result<Taken, Refusal>
         requires path { IsSome commit.now.path }
-        requires hashed { IsSome (confirmed_input auth.now) }
-        requires commit { IsTrue (is_commit auth.now.content.content) }
+        requires hashed { IsSome (confirmed_input judged.now.frame) }
+        requires commit { IsTrue (is_commit judged.now.frame.content.content) }
         requires checked { HasUniqueKeysAndValidLeaves (C.meaning checker.now) (group_state self.old) }
         ensures { let s = group_state self.old in
-            Takes (external_commit_refusal (C.meaning checker.now) s self.old.required commit.now)
-            (after_commit s auth.now NewMemberCommit commit.now (Some (join_items commit.now.proposals)))
+            Takes (strict_refusal self.old.rules judged.now.strict)
+            (external_commit_refusal (C.meaning checker.now) s self.old.required commit.now)
+            (after_commit s judged.now.frame NewMemberCommit commit.now (Some (join_items commit.now.proposals)))
             s result (group_state self.new) }
     {
         let items = check_join_items(alloc, self, commit)?;
+        let auth = judged.frame.auth();
         let resolved = ResolvedCommit {
             auth,
+            strict: judged.strict,
             committer: Sender::NewMemberCommit,
             items,
             path: &commit.path,
@@ -338,17 +364,18 @@ impl Group {
         &mut self,
         alloc: Global,
         checker: &C,
-        frame: &ReceivedFrame<'_>,
+        judged: &JudgedFrame<'_>,
     ) -> Result<Taken, Refusal>
-        requires hashed { IsSome (confirmed_input frame.now) }
+        requires hashed { IsSome (confirmed_input judged.now.frame) }
         requires checked { HasUniqueKeysAndValidLeaves (C.meaning checker.now) (group_state self.old) }
         ensures { let s = group_state self.old in
-            Takes (joiner_refusal (C.meaning checker.now) s self.old.required frame.now frame.now.content.content)
-            (after_join s frame.now frame.now.content.content)
+            Takes (strict_refusal self.old.rules judged.now.strict)
+            (joiner_refusal (C.meaning checker.now) s self.old.required judged.now.frame judged.now.frame.content.content)
+            (after_join s judged.now.frame judged.now.frame.content.content)
             s result (group_state self.new) }
     {
-        let commit = check_joiner_frame(alloc, self, checker, frame)?;
-        self.take_external_commit(alloc, checker, frame.auth(), commit)
+        let commit = check_joiner_frame(alloc, self, checker, &judged.frame)?;
+        self.take_external_commit(alloc, checker, judged, commit)
     }
 
     /// Processes an AuthenticatedContent of a client that joins with a commit (RFC 9420, 12.4.3.2) in the full profile. The
@@ -358,19 +385,20 @@ impl Group {
         &mut self,
         alloc: Global,
         checker: &C,
-        frame: &ReceivedFrame<'_>,
+        judged: &JudgedFrame<'_>,
     ) -> Result<Taken, Refusal>
-        requires hashed { IsSome (confirmed_input frame.now) }
+        requires hashed { IsSome (confirmed_input judged.now.frame) }
         requires checked { HasUniqueKeysAndValidLeaves (C.meaning checker.now) (group_state self.old) }
         ensures { let s = group_state self.old in
-            Takes (first_failing (if_full self.old.profile (joiner_rules (C.meaning checker.now) s self.old.required
-            frame.now frame.now.content.content)))
-            (after_join s frame.now frame.now.content.content)
+            Takes (strict_refusal self.old.rules judged.now.strict)
+            (first_failing (if_full self.old.profile (joiner_rules (C.meaning checker.now) s self.old.required
+            judged.now.frame judged.now.frame.content.content)))
+            (after_join s judged.now.frame judged.now.frame.content.content)
             s result (group_state self.new) }
     {
         match self.profile {
             Profile::Members => Err(Refusal::SenderNotMember),
-            Profile::Full => self.take_joiner_frame(alloc, checker, frame),
+            Profile::Full => self.take_joiner_frame(alloc, checker, judged),
         }
     }
 
@@ -380,22 +408,23 @@ impl Group {
         &mut self,
         alloc: Global,
         checker: &C,
-        frame: &ReceivedFrame<'_>,
+        judged: &JudgedFrame<'_>,
     ) -> Result<Taken, Refusal>
-        requires hashed { IsSome (confirmed_input frame.now) }
-        requires referenced { IsSome (reference_of self.old.context frame.now) }
+        requires hashed { IsSome (confirmed_input judged.now.frame) }
+        requires referenced { IsSome (reference_of self.old.context judged.now.frame) }
         requires checked { HasUniqueKeysAndValidLeaves (C.meaning checker.now) (group_state self.old) }
         ensures { let s = group_state self.old in
-            Takes (frame_refusal (C.meaning checker.now) s self.old.required frame.now)
-            (after_sender s frame.now frame.now.content.sender)
+            Takes (strict_refusal self.old.rules judged.now.strict)
+            (frame_refusal (C.meaning checker.now) s self.old.required judged.now.frame)
+            (after_sender s judged.now.frame judged.now.frame.content.sender)
             s result (group_state self.new) }
     {
-        check_header(self, frame)?;
-        match frame.auth().content().sender {
-            Sender::Member(sender) => self.take_member_frame(alloc, checker, frame, sender),
-            Sender::External(_) => self.take_outside(alloc, checker, frame),
-            Sender::NewMemberProposal => self.take_outside(alloc, checker, frame),
-            Sender::NewMemberCommit => self.take_joiner(alloc, checker, frame),
+        check_header(self, &judged.frame)?;
+        match judged.frame.auth().content().sender {
+            Sender::Member(sender) => self.take_member_frame(alloc, checker, judged, sender),
+            Sender::External(_) => self.take_outside(alloc, checker, judged),
+            Sender::NewMemberProposal => self.take_outside(alloc, checker, judged),
+            Sender::NewMemberCommit => self.take_joiner(alloc, checker, judged),
         }
     }
 
@@ -415,7 +444,9 @@ impl Group {
         match message {
             Message::Public(public) => {
                 let frame = ReceivedFrame::new(public, bytes);
-                self.take_frame(alloc, checker, &frame)
+                let strict = unmet_rule(self, public);
+                let judged = JudgedFrame { frame, strict };
+                self.take_frame(alloc, checker, &judged)
             }
             _ => Err(Refusal::NotPublic),
         }

@@ -10,6 +10,7 @@ pub mod LogsExist
 pub mod ReplaysExist
 pub mod SignaturesExist
 pub mod SignatureLogs
+pub mod SignatureStarts
 mod ValidEpochs
 mod CoveredReports
 mod SavedStates

@@ -15,7 +15,7 @@ use Rattle.mls_show.specs.declared.verdict.Verdict.TheVariants.{Yes, No}
 use Rattle.mls_start.specs.Inputs.{Inputs}
 use Rattle.mls_start.specs.StartFindings.{IsFirstState, Declines}
 use Rattle.mls_start.specs.declared.finding.Finding.{Finding}
-use Rattle.mls_report.specs.Replay.{ProcessedMessage, AreProcessed, state_after, processed_line, processed_lines, one_if, accepted_count, refused_count, message_limit, messages_to_come, AreRecords, IsLogEnd, Follows, ReportsPart, IsVerdict, last_lines, ending, ReportsDecline, ReportsReplay, StopsInDecline}
+use Rattle.mls_report.specs.Replay.{ProcessedMessage, AreProcessed, state_after, processed_line, processed_lines, one_if, accepted_count, refused_count, message_limit, messages_to_come, AreRecords, IsLogEnd, Follows, ReportsPart, IsVerdict, last_lines, ending, ReportsDecline, ReportsReplay, StopsInDecline, ReplaysPart}
 use Rattle.mls_report.specs.ReplaySteps.{ReportsMessage, StopsAtMessage, FollowsLog, ReplaysLog}
 use Rattle.mls_report.specs.Finding.{finding_line, finding_verdict}
 
@@ -212,6 +212,15 @@ pub replays-to : (G : VerifyFn) (i : Inputs) (K : VerifyFn) → K ≡ G → (s :
 replays-to G i K same s starts l0 l1 w0 w1 verdict last h =
     let moved : ReplaysLog G s l0 l1 w0 w1 verdict last = subst (λ (g : VerifyFn). ReplaysLog g s l0 l1 w0 w1 verdict last) same h in
     record { state = s; starts = starts; reports = moved.0; last_is = moved.1 }
+
+pub replay-stops : (G : VerifyFn) (i : Inputs) (K : VerifyFn) → K ≡ G → (s : State) → IsFirstState G i s → (l0 l1 w0 w1 : Option (List ℕ)) (fault : RunFault)
+    → ReportsPart K s l0 l1 w0 w1 fault → ReplaysPart G i l0 l1 w0 w1 fault
+replay-stops G i K same s starts l0 l1 w0 w1 fault part =
+    inr (record {
+      state = s;
+      starts = starts;
+      reports = subst (λ (g : VerifyFn). ReportsPart g s l0 l1 w0 w1 fault) same part;
+    })
 
 module _ {L : Type 0} (G : VerifyFn) (i : Inputs) (finding : Finding) (declines : Declines G i finding) (l : L) (w0 w1 : Option (List ℕ)) where
   pub reports-decline : (verdict : Verdict) → Appends w0 w1 (finding_line finding) × (verdict ≡ finding_verdict finding) → ReportsDecline G i l l w0 w1 verdict

@@ -1,6 +1,7 @@
 -- A replay has a report, whatever the bytes of its inputs.
 use Rattle.std.proofs.Common.{ℕ, zero, suc, [], ◌++◌, Bool, true, false, Some, None, refl, inl, inr, arith}
 use Rattle.mls_check.specs.Signatures.{VerifyFn}
+use Rattle.mls_msgs.specs.Rules.{plain_rules}
 use Rattle.mls_follow.proofs.Holding.{run_answered}
 use Rattle.mls_follow.proofs.StoredRuns.{resumed_answered}
 use Rattle.mls_follow.specs.State.{State}
@@ -21,7 +22,7 @@ verdict_there false (suc n) = (No, inr (λ e. omega (arith, e)))
 
 -- whatever messages come, there is an answer to the next
 pub first_answering : (G : VerifyFn) (i : Inputs) (s : State) → IsFirstState G i s → IsAnswering G s
-first_answering G (OfInfo profile info tree) s h calls last bytes run = run_answered profile G h.info h.supplied s last calls bytes h.start run
+first_answering G (OfInfo profile info tree) s h calls last bytes run = run_answered plain_rules profile G h.info h.supplied s last calls bytes h.start run
 first_answering G (OfState file) s h calls last bytes run = resumed_answered G file bytes s last calls h run
 
 pub some_replay : ReplayExists

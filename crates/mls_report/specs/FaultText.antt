@@ -1,11 +1,13 @@
 -- The texts of faults in reports (docs/FORMATS.md). Used by contracts.
-use Rattle.std.specs.Prelude.{ℕ, List, ◌++◌, codes}
+use Rattle.std.specs.Prelude.{ℕ, List, ◌++◌, codes, Option, Some, None}
 use Rattle.std.specs.Fmt.{decimal}
 use Rattle.mls_show.specs.FaultText.{node_fault_text}
 use Rattle.mls_check.specs.declared.members.MemberFault.{MemberFault}
 use Rattle.mls_check.specs.declared.members.MemberFault.TheVariants as members
 use Rattle.mls_check.specs.declared.tree_validation.TreeFault.{TreeFault}
 use Rattle.mls_check.specs.declared.tree_validation.TreeFault.TheVariants as trees
+use Rattle.mls_msgs.specs.StrictRules.{strict_number, strict_name}
+use Rattle.mls_strict.specs.declared.strict_fault.StrictFault.{StrictFault}
 use Rattle.mls_follow.specs.declared.resume_fault.ResumeFault.{ResumeFault}
 use Rattle.mls_follow.specs.declared.resume_fault.ResumeFault.TheVariants as resumes
 use Rattle.mls_follow.specs.declared.start_fault.StartFault.{StartFault}
@@ -32,8 +34,19 @@ member_fault_text (members.SignatureKeyRepeated leaf) =
 member_fault_text (members.LeafSignature leaf) = codes "5 LeafSignature " ++ decimal leaf
 member_fault_text members.OutOfMemory = codes "OutOfMemory"
 
+-- `named_at number name place` is the number, the name, and the node index if there is one.
+abbrev pub named_at : ℕ → List ℕ → Option ℕ → List ℕ
+named_at number name None = decimal number ++ (codes " " ++ name)
+named_at number name (Some node_index) =
+    decimal number ++ (codes " " ++ (name ++ (codes " " ++ decimal node_index)))
+
+-- `strict_fault_text f` is the strict rule that is not met (own rule), by number and name, with the node index if a node does
+-- not meet it.
+abbrev pub strict_fault_text : StrictFault → List ℕ
+strict_fault_text fault = named_at (strict_number fault.rule) (strict_name fault.rule) fault.place
+
 -- `start_fault_text f` is why no follower starts, by number and name, with the fault of the tree or of a leaf node
--- (RFC 9420, 12.4.3.1).
+-- (RFC 9420, 12.4.3.1), or the strict rule that is not met (own rule).
 abbrev pub start_fault_text : StartFault → List ℕ
 start_fault_text starts.UnsupportedVersion = codes "1 UnsupportedVersion"
 start_fault_text starts.UnsupportedSuite = codes "2 UnsupportedSuite"
@@ -43,6 +56,7 @@ start_fault_text (starts.Tree fault) = codes "5 Tree " ++ tree_fault_text fault
 start_fault_text (starts.Member fault) = codes "6 Member " ++ member_fault_text fault
 start_fault_text starts.SignerNotMember = codes "7 SignerNotMember"
 start_fault_text starts.InfoSignature = codes "8 InfoSignature"
+start_fault_text (starts.Strict fault) = codes "9 Strict " ++ strict_fault_text fault
 start_fault_text starts.OutOfMemory = codes "OutOfMemory"
 
 -- `resume_fault_text f` is why no follower resumes from the file of a state: it cannot be read, or the first condition

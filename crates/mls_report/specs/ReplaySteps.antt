@@ -16,8 +16,8 @@ use Rattle.mls_wire.specs.declared.fault.RunFault.{RunFault}
 use Rattle.mls_wire.specs.declared.fault.RunFault.TheVariants.{Read, Write, Memory}
 use Rattle.mls_show.specs.declared.verdict.Verdict.{Verdict}
 
--- `ReadsStep log0 log1 old new step`: a reader, `old` before and `new` after, has read a record of a log, after which one
--- fewer may come, or what shows that the log has ended or is broken.
+-- `ReadsStep log0 log1 old new step`: a reader, `old` before and `new` after, has read a record of a log, after which
+-- one fewer may come, or what shows that the log has ended or is broken.
 abbrev pub ReadsStep : Option (List ℕ) → Option (List ℕ) → LogState → LogState → RecordStep → Type 0
 ReadsStep log0 log1 old new steps.Record =
     (old.most ≡ new.most + 1) × (new.is_over ≡ false)
@@ -25,8 +25,8 @@ ReadsStep log0 log1 old new steps.Record =
 ReadsStep log0 log1 old new (steps.End broken) =
     (new ≡ ended old) × (read : List ℕ) × Consumes log0 log1 read × IsLogEnd old.most read log1 broken
 
--- `ReadsUndecided log0 log1 most`: the bytes read of a log, of which `most` messages may still come, don't decide yet what
--- comes next.
+-- `ReadsUndecided log0 log1 most`: the bytes read of a log, of which `most` messages may still come, don't decide yet
+-- what comes next.
 pub record ReadsUndecided (log0 log1 : Option (List ℕ)) (most : ℕ) : Type 0 where
   pub rest : List ℕ
   pub read : Consumes log0 log1 rest

@@ -8,6 +8,7 @@ use mls_check::{MemberFault, TreeFault};
 use mls_follow::{ResumeFault, StartFault};
 use mls_nodes::NodeFault;
 use mls_show::node_fault_text;
+use mls_strict::StrictFault;
 use std::alloc::{AllocError, Global};
 
 /// Returns the first fault of a tree: number, name, and node index, as `4 KeyRepeated 12`.
@@ -66,7 +67,29 @@ fn start_member_text(alloc: Global, fault: MemberFault) -> Result<String, AllocE
     format!(in alloc; "6 Member {fault}")
 }
 
-/// Returns why no follower can start: number and name, and those of a fault of the tree or of the members.
+/// Returns the strict rule that is not met: number and name, and the node index if a node does not meet it, as
+/// `44 KeyForm 0`.
+fn strict_fault_text(alloc: Global, fault: StrictFault) -> Result<String, AllocError>
+    ensures { IfOk result (λ text. string_bytes text ≡ texts.strict_fault_text fault) }
+{
+    let (number, name) = (fault.rule.number(), fault.rule.name());
+    match fault.place {
+        Some(node_index) => format!(in alloc; "{number} {name} {node_index}"),
+        None => format!(in alloc; "{number} {name}"),
+    }
+}
+
+/// Returns why no follower can start, if a strict rule is the cause.
+fn start_strict_text(alloc: Global, fault: StrictFault) -> Result<String, AllocError>
+    ensures { IfOk result
+        (λ text. string_bytes text ≡ codes "9 Strict " ++ texts.strict_fault_text fault) }
+{
+    let fault = strict_fault_text(alloc, fault)?;
+    format!(in alloc; "9 Strict {fault}")
+}
+
+/// Returns why no follower can start: number and name, and those of a fault of the tree or of the members, or of the strict
+/// rule that is not met.
 pub fn start_fault_text(alloc: Global, fault: StartFault) -> Result<String, AllocError>
     ensures { IfOk result (λ text. string_bytes text ≡ texts.start_fault_text fault) }
 {
@@ -81,6 +104,7 @@ pub fn start_fault_text(alloc: Global, fault: StartFault) -> Result<String, Allo
         StartFault::Member(fault) => start_member_text(alloc, fault),
         StartFault::SignerNotMember => String::from_str(alloc, "7 SignerNotMember"),
         StartFault::InfoSignature => String::from_str(alloc, "8 InfoSignature"),
+        StartFault::Strict(fault) => start_strict_text(alloc, fault),
         StartFault::OutOfMemory => String::from_str(alloc, "OutOfMemory"),
     }
 }

@@ -31,11 +31,9 @@ pub fn next_record<L: Source>(reader: &mut Records, log: &mut L) -> Result<Recor
     ensures fault { IfErr result (λ e. e ≢ RunFault.Write) }
     ensures read { ReadFails result (L.device log.new) }
 {
-    match reader.next(log) {
-        Ok(LogStep::Record) => Ok(RecordStep::Record),
-        Ok(LogStep::End | LogStep::Over) => Ok(RecordStep::End { is_broken: false }),
-        Ok(LogStep::Broken) => Ok(RecordStep::End { is_broken: true }),
-        Err(RunFault::Read) => Err(RunFault::Read),
-        Err(_) => Err(RunFault::Memory),
+    match reader.next(log)? {
+        LogStep::Record => Ok(RecordStep::Record),
+        LogStep::End | LogStep::Over => Ok(RecordStep::End { is_broken: false }),
+        LogStep::Broken => Ok(RecordStep::End { is_broken: true }),
     }
 }

@@ -29,10 +29,13 @@ fn report_log<L: Source, R: SignatureCheck, K: Sink>(
     requires log { has_failed (option_map (λ l. (L.device l).has_failed) log.old) ≡ false }
     requires out { IsWorking (K.device out.old) }
     ensures printed { IfOk result (ReportsLogIf (R.meaning receipts.now) (state_of follower.old)
-        (device_bytes L.device log.old) (device_bytes L.device log.new) (K.device out.old).bytes (K.device out.new).bytes) }
+        (device_bytes L.device log.old) (device_bytes L.device log.new)
+        (K.device out.old).bytes (K.device out.new).bytes) }
     ensures effect_on_error { IfErr result (LogPartIf (R.meaning receipts.now) (state_of follower.old)
-        (device_bytes L.device log.old) (device_bytes L.device log.new) (K.device out.old).bytes (K.device out.new).bytes) }
-    ensures read { (result ≡ Err RunFault.Read) ↔ (has_failed (option_map (λ l. (L.device l).has_failed) log.new) ≡ true) }
+        (device_bytes L.device log.old) (device_bytes L.device log.new)
+        (K.device out.old).bytes (K.device out.new).bytes) }
+    ensures read { (result ≡ Err RunFault.Read)
+        ↔ (has_failed (option_map (λ l. (L.device l).has_failed) log.new) ≡ true) }
     ensures write { WriteFails result (K.device out.new) }
 {
     match log {
@@ -54,12 +57,15 @@ fn report_started<L: Source, R: SignatureCheck, K: Sink>(
     ensures printed { (i : Inputs)
         → StartsWith i (state_of start.follower) (signatures_left (state_of start.follower) start.signatures)
         → IfOk result (Signatures (R.meaning receipts.now) i
-        (device_bytes L.device log.old) (device_bytes L.device log.new) (K.device out.old).bytes (K.device out.new).bytes) }
+        (device_bytes L.device log.old) (device_bytes L.device log.new)
+        (K.device out.old).bytes (K.device out.new).bytes) }
     ensures effect_on_error { (i : Inputs)
         → StartsWith i (state_of start.follower) (signatures_left (state_of start.follower) start.signatures)
         → IfErr result (SignaturesPart (R.meaning receipts.now) i
-        (device_bytes L.device log.old) (device_bytes L.device log.new) (K.device out.old).bytes (K.device out.new).bytes) }
-    ensures read { (result ≡ Err RunFault.Read) ↔ (has_failed (option_map (λ l. (L.device l).has_failed) log.new) ≡ true) }
+        (device_bytes L.device log.old) (device_bytes L.device log.new)
+        (K.device out.old).bytes (K.device out.new).bytes) }
+    ensures read { (result ≡ Err RunFault.Read)
+        ↔ (has_failed (option_map (λ l. (L.device l).has_failed) log.new) ≡ true) }
     ensures write { WriteFails result (K.device out.new) }
 {
     let mut follower = start.follower;
@@ -75,19 +81,19 @@ fn report_started<L: Source, R: SignatureCheck, K: Sink>(
     verdict
 }
 
-/// Writes the signatures to verify that `receipts` don't cover, each in a line: its receipt, which is its line in a file of
-/// receipts if it is good, the suite, the key, the SignContent (RFC 9420, 5.1.2) and the signature. If no follower starts
-/// or resumes although every signature is accepted, it writes the line of [`validate`](crate::validate) instead; the verdict
-/// is `No` and the log is not read.
+/// Writes the signatures to verify that `receipts` don't cover, each in a line: its receipt, which is its line in a
+/// file of receipts if it is good, the suite, the key, the SignContent (RFC 9420, 5.1.2) and the signature. If no
+/// follower starts or resumes although every signature is accepted, it writes the line of
+/// [`validate`](crate::validate) instead; the verdict is `No` and the log is not read.
 ///
 /// First come the signatures of the start ([`mls_signatures::start_signatures`]) or of the resumption
 /// ([`mls_signatures::resumption_signatures`]). A signature is made only after the line of the one before is written.
 ///
 /// Then it reads the log, if there is one: at most 1,000,000 records, each a message as a variable-length vector
 /// (2.1.2). It reads a record, processes the message accepting every signature, writes the lines of the signatures that
-/// the message needed ([`Follower::signatures_to_verify`]), each before it makes the next signature, and only then reads
-/// on. A message that is not decodable needs no signature; it has the line of [`replay`](crate::replay), and so has a
-/// broken log. The verdict is `Yes` if each message is decodable and the log is not broken.
+/// the message needed ([`Follower::signatures_to_verify`]), each before it makes the next signature, and only then
+/// reads on. A message that is not decodable needs no signature; it has the line of [`replay`](crate::replay), and so
+/// has a broken log. The verdict is `Yes` if each message is decodable and the log is not broken.
 ///
 /// # Errors
 ///
@@ -105,10 +111,13 @@ pub fn signatures<L: Source, R: SignatureCheck, K: Sink>(
     requires log { has_failed (option_map (λ l. (L.device l).has_failed) log.old) ≡ false }
     requires out { IsWorking (K.device out.old) }
     ensures printed { IfOk result (Signatures (R.meaning receipts.now) (inputs_of start)
-        (device_bytes L.device log.old) (device_bytes L.device log.new) (K.device out.old).bytes (K.device out.new).bytes) }
+        (device_bytes L.device log.old) (device_bytes L.device log.new)
+        (K.device out.old).bytes (K.device out.new).bytes) }
     ensures effect_on_error { IfErr result (SignaturesPart (R.meaning receipts.now) (inputs_of start)
-        (device_bytes L.device log.old) (device_bytes L.device log.new) (K.device out.old).bytes (K.device out.new).bytes) }
-    ensures read { (result ≡ Err RunFault.Read) ↔ (has_failed (option_map (λ l. (L.device l).has_failed) log.new) ≡ true) }
+        (device_bytes L.device log.old) (device_bytes L.device log.new)
+        (K.device out.old).bytes (K.device out.new).bytes) }
+    ensures read { (result ≡ Err RunFault.Read)
+        ↔ (has_failed (option_map (λ l. (L.device l).has_failed) log.new) ≡ true) }
     ensures write { WriteFails result (K.device out.new) }
 {
     match start.trusting(alloc) {

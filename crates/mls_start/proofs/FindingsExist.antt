@@ -17,6 +17,7 @@ use Rattle.mls_check.specs.declared.group_tree.GroupTreeFault.{GroupTreeFault}
 use Rattle.mls_check.specs.declared.group_tree.GroupTreeFault.TheVariants as groups
 use Rattle.mls_msgs.specs.Message.{message}
 use Rattle.mls_msgs.specs.Profile.{message_in}
+use Rattle.mls_msgs.specs.Rules.{plain_rules}
 use Rattle.mls_msgs.specs.declared.profile.Profile.{Profile}
 use Rattle.mls_msgs.proofs.Profiles.{encoded_in, message_or_none}
 use Rattle.mls_msgs.specs.declared.group_info.GroupInfo.{GroupInfo}
@@ -126,7 +127,7 @@ module _ (profile : Profile) (G : VerifyFn) (info_bytes : List ℕ) (tree_bytes 
   by_inputs : (info : GroupInfo) (supplied : Option RatchetTree) → IsReadAs profile info_bytes tree_bytes info supplied → Begun
   by_inputs info supplied h =
       let interim = interim_of info info_bytes h.is_info.encoded in
-      elim (starts_or_not profile G info supplied interim.0 interim.1) [
+      elim (starts_or_not plain_rules profile G info supplied interim.0 interim.1) [
         | inl s ↦ inl (s.0, record { info = info; supplied = supplied; is_read = h; start = s.1 })
         | inr f ↦ inr (StartRefused f.0, (info, supplied, h, f.1, f.2), refl)
       ]

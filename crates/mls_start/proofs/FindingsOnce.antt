@@ -18,6 +18,7 @@ use Rattle.mls_check.specs.GroupTree.{IsSupportedContext, HasTree, HasReadableRe
 use Rattle.mls_check.specs.LeafValidation.{LeavesAreValid}
 use Rattle.mls_check.specs.Signatures.{VerifyFn}
 use Rattle.mls_check.specs.ValidTree.{Valid, IsFirstTreeFault}
+use Rattle.mls_msgs.specs.Rules.{plain_rules}
 use Rattle.mls_msgs.specs.declared.profile.Profile.{Profile}
 use Rattle.mls_msgs.specs.declared.group_info.GroupInfo.{GroupInfo}
 use Rattle.mls_msgs.specs.declared.message.Message.{Message}
@@ -220,8 +221,8 @@ module _ (profile : Profile) (G : VerifyFn) (info_bytes : List ℕ) (tree_bytes 
   -- the start is one
   same_start : (s u : State) → IsStarted profile G info_bytes tree_bytes s → IsStarted profile G info_bytes tree_bytes u → s ≡ u
   same_start s u a b =
-      one_start profile G b.info b.supplied s u
-      (moved (λ (x : GroupInfo) (h : Option RatchetTree). IsStart profile G x h s) a.info b.info a.supplied b.supplied a.is_read b.is_read a.start) b.start
+      one_start plain_rules profile G b.info b.supplied s u
+      (moved (λ (x : GroupInfo) (h : Option RatchetTree). IsStart plain_rules profile G x h s) a.info b.info a.supplied b.supplied a.is_read b.is_read a.start) b.start
 
   -- another message is no group info
   no_other : (m : Message) (x : GroupInfo) → EncodesMessage profile m info_bytes → ((info : GroupInfo) → m ≢ messages.GroupInfo info) → IsInfo profile info_bytes x → ⊥
@@ -242,8 +243,8 @@ module _ (profile : Profile) (G : VerifyFn) (info_bytes : List ℕ) (tree_bytes 
   not_ready NotGroupInfo a m = no_other a.0 m.0 a.1 a.2 m.1
   not_ready (TreeUnreadable x) a m = not_supplied tree_bytes m.0 a.2 m.1
   not_ready (StartRefused x) a m =
-      no_fault_of_start profile G a.0 a.1 m.0 x a.3
-      (moved (λ (z : GroupInfo) (h : Option RatchetTree). IsStart profile G z h m.0) m.1.info a.0 m.1.supplied a.1 m.1.is_read a.2 m.1.start) a.4
+      no_fault_of_start plain_rules profile G a.0 a.1 m.0 x a.3
+      (moved (λ (z : GroupInfo) (h : Option RatchetTree). IsStart plain_rules profile G z h m.0) m.1.info a.0 m.1.supplied a.1 m.1.is_read a.2 m.1.start) a.4
   not_ready (Starts x) a m = absurd m
   not_ready _ a m = absurd a
 
@@ -269,8 +270,8 @@ module _ (profile : Profile) (G : VerifyFn) (info_bytes : List ℕ) (tree_bytes 
   alike_start NotGroupInfo NotGroupInfo e a b = refl
   alike_start (TreeUnreadable x) (TreeUnreadable y) e a b = tt
   alike_start (StartRefused x) (StartRefused y) e a b =
-      ap StartRefused (one_start_fault G b.0 b.1 x y a.3 b.3
-      (moved (λ (z : GroupInfo) (h : Option RatchetTree). IsStartFault G z h x) a.0 b.0 a.1 b.1 a.2 b.2 a.4) b.4)
+      ap StartRefused (one_start_fault plain_rules G b.0 b.1 x y a.3 b.3
+      (moved (λ (z : GroupInfo) (h : Option RatchetTree). IsStartFault plain_rules G z h x) a.0 b.0 a.1 b.1 a.2 b.2 a.4) b.4)
   alike_start (Starts x) (Starts y) e a b = ap Starts (a.2 ∙ ap started_of (same_start a.0 b.0 a.1 b.1) ∙ sym b.2)
   alike_start (InfoUnreadable x) g e a b = absurd (other_place 0 (start_position g) refl e)
   alike_start NotGroupInfo g e a b = absurd (other_place 1 (start_position g) refl e)

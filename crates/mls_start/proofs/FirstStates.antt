@@ -3,6 +3,7 @@ use Rattle.std.proofs.Common.{◌≡◌, ◌∙◌, ℕ, List, true, false, Opti
 use Rattle.std.specs.Prelude.{◌⊎◌}
 use Rattle.std.proofs.lemmas.Bool.{false≢true}
 use Rattle.mls_check.specs.Signatures.{VerifyFn}
+use Rattle.mls_msgs.specs.Rules.{plain_rules}
 use Rattle.mls_msgs.specs.declared.message.Message.TheVariants as messages
 use Rattle.mls_msgs.specs.declared.profile.Profile.{Profile}
 use Rattle.mls_signatures.specs.SignaturesToVerify.{start_signatures, resumption_signatures}
@@ -214,13 +215,18 @@ first_starts (OfState bytes) s h = (resumption_signatures s.context s.tree s.kno
 -- ---- what holds of a first state
 
 pub first_valid : FirstStatesAreValid
-first_valid G (OfInfo profile info tree) s h = start_valid profile G h.info h.supplied s h.start
+first_valid G (OfInfo profile info tree) s h = start_valid plain_rules profile G h.info h.supplied s h.start
 first_valid G (OfState bytes) s h = resumption_valid G bytes s h
 
 pub first_steady : (G : VerifyFn) (i : Inputs) (s : State) → IsFirstState G i s → IsSteady s
-first_steady G (OfInfo profile info tree) s h = start_steady profile G h.info h.supplied s h.start
+first_steady G (OfInfo profile info tree) s h = start_steady plain_rules profile G h.info h.supplied s h.start
 first_steady G (OfState bytes) s h = resumed_steady G bytes s h
 
 pub first_resumable : (G : VerifyFn) (i : Inputs) (s : State) → IsFirstState G i s → IsResumable G s
-first_resumable G (OfInfo profile info tree) s h = start_resumable profile G h.info h.supplied s h.start
+first_resumable G (OfInfo profile info tree) s h = start_resumable plain_rules profile G h.info h.supplied s h.start
 first_resumable G (OfState bytes) s h = resumed_resumable G bytes s h
+
+-- that a follower starts or resumes in the state is what is found
+pub first_found : (G : VerifyFn) (i : Inputs) (s : State) (found : Finding) → IsFirstState G i s → found ≡ Starts (started_of s) → IsFindingOf G i found
+first_found G (OfInfo profile info tree) s found h e = subst (IsStartFinding profile G info tree) (sym e) (s, h, refl)
+first_found G (OfState bytes) s found h e = subst (IsStateFinding G bytes) (sym e) (s, h, refl)

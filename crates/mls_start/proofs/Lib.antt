@@ -1,4 +1,5 @@
 pub mod InOrder
+pub mod StrictStarts
 pub mod StartsOnce
 pub mod StartsExist
 pub mod FindingsOnce

@@ -5,6 +5,7 @@ use Rattle.mls_tree.specs.RatchetTree.{RatchetTree}
 use Rattle.mls_tree.specs.Tree.{Tree, leaf_at}
 use Rattle.mls_check.specs.LeafValidation.{all_leaves, has_unique_signature_key, member_rule, LeavesAreValid}
 use Rattle.mls_check.specs.Signatures.{VerifyFn}
+use Rattle.mls_msgs.specs.Rules.{plain_rules}
 use Rattle.mls_msgs.specs.declared.group_info.GroupInfo.{GroupInfo}
 use Rattle.mls_nodes.specs.declared.required_capabilities.RequiredCapabilities.{RequiredCapabilities}
 use Rattle.mls_signatures.proofs.DistinctStarts.{start_signatures_are_distinct}
@@ -45,11 +46,11 @@ unfolding member_rule
 own_keys G suite group_id required t h = h.rules 4
 
 -- the leaves are valid, so none is a duplicate
-pub start-has : (profile : Profile) (info : GroupInfo) (supplied : Option RatchetTree) (s : State) (signatures : List SignatureToVerify) → IsStart profile all_good info supplied s
+pub start-has : (profile : Profile) (info : GroupInfo) (supplied : Option RatchetTree) (s : State) (signatures : List SignatureToVerify) → IsStart plain_rules profile all_good info supplied s
     → AreInfoSignatures info supplied signatures → StartHasSignatures profile info supplied s (signatures ++ state_signatures s)
 start-has profile info supplied s signatures start of_info =
     let members = start.has_signer.has_members in
-    let first : State = initial_state profile info start.tree start.interim in
+    let first : State = initial_state plain_rules profile info start.tree start.interim in
     let whole : start_signatures info first.tree ≡ info_signatures info (leaf_at 0 start.tree.tree info.signer) ++ state_signatures first =
     start_signatures_are_distinct info start.tree.tree (own_keys all_good info.context.cipher_suite info.context.group_id start.has_signer.required start.tree.tree members.members)
     ∙ all_if (is_supported_info info) (info_signatures info (leaf_at 0 start.tree.tree info.signer) ++ state_signatures first) (passes_context info.context members.valid_tree.readable.has_tree.supported) in

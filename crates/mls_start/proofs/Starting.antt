@@ -9,6 +9,7 @@ use Rattle.mls_nodes.specs.declared.fault.NodeFault.TheVariants as nodes
 use Rattle.mls_tree.specs.RatchetTree.{RatchetTree}
 use Rattle.mls_check.specs.Signatures.{VerifyFn}
 use Rattle.mls_msgs.specs.Profile.{message_in}
+use Rattle.mls_msgs.specs.Rules.{plain_rules}
 use Rattle.mls_msgs.specs.declared.group_info.GroupInfo.{GroupInfo}
 use Rattle.mls_msgs.specs.declared.message.Message.{Message}
 use Rattle.mls_msgs.specs.declared.message.Message.TheVariants as messages
@@ -49,13 +50,13 @@ module _ (profile : Profile) (info_bytes : List ℕ) (tree_bytes : Option (List 
 
 module _ (profile : Profile) (info_bytes : List ℕ) (tree_bytes : Option (List ℕ)) (info : GroupInfo) (supplied : Option RatchetTree)
     (is_read : IsReadAs profile info_bytes tree_bytes info supplied) where
-  pub is_started : (G : VerifyFn) (s : State) → IsStart profile G info supplied s → IsStarted profile G info_bytes tree_bytes s
+  pub is_started : (G : VerifyFn) (s : State) → IsStart plain_rules profile G info supplied s → IsStarted profile G info_bytes tree_bytes s
   is_started G s start = record { info = info; supplied = supplied; is_read = is_read; start = start }
 
   pub starts_with : (s : State) (ws : List SignatureToVerify) → StartHasSignatures profile info supplied s ws → StartsWithSignatures profile info_bytes tree_bytes s ws
   starts_with s ws has = record { info = info; supplied = supplied; is_read = is_read; has_signatures = has }
 
-  pub says_declines : (G : VerifyFn) (fault : StartFault) → IsStartFault G info supplied fault → (failure : StartFailure)
+  pub says_declines : (G : VerifyFn) (fault : StartFault) → IsStartFault plain_rules G info supplied fault → (failure : StartFailure)
       → Says (λ finding. (fault ≢ starts.OutOfMemory) × (finding ≡ StartRefused fault)) failure → Says (Declines G (OfInfo profile info_bytes tree_bytes)) failure
   says_declines G fault fails (Found finding) h =
       subst (Declines G (OfInfo profile info_bytes tree_bytes)) (sym h.1) (record { found = (info, supplied, is_read, h.0, fails); not_valid = refl })

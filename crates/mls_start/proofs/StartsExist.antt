@@ -24,15 +24,17 @@ use Rattle.mls_msgs.specs.Message.{message, header}
 use Rattle.mls_msgs.specs.declared.group_info.GroupInfo.{GroupInfo}
 use Rattle.mls_msgs.specs.declared.message.Message.TheVariants as messages
 use Rattle.mls_msgs.specs.declared.profile.Profile.{Profile}
+use Rattle.mls_msgs.specs.declared.rules.Rules.{Rules}
 use Rattle.mls_follow.specs.Start.{UsesTree, UsesNoTree, IsTreeIn, HasSigner, IsStart, IsStartFault, is_info_signed, info_interim, initial_state}
 use Rattle.mls_follow.specs.StartInternal.{start_fault_of}
 use Rattle.mls_follow.specs.State.{State}
 use Rattle.mls_apply.specs.Transcript.{interim_hash}
 use Rattle.mls_follow.specs.declared.start_fault.StartFault.{StartFault}
-use Rattle.mls_follow.specs.declared.start_fault.StartFault.TheVariants.{UnsupportedVersion, UnsupportedSuite, NoTree, SignerNotMember, InfoSignature, OutOfMemory}
+use Rattle.mls_follow.specs.declared.start_fault.StartFault.TheVariants.{UnsupportedVersion, UnsupportedSuite, NoTree, SignerNotMember, InfoSignature, Strict, OutOfMemory}
 use Rattle.mls_hash.proofs.Suites.{supported_or_not}
 use Rattle.mls_follow.proofs.Readings.{tree_or_not, same_or_not}
 use Rattle.mls_follow.proofs.Starting.{tree_fails}
+use Rattle.mls_start.proofs.StrictStarts.{strict_or_fails}
 
 -- ---- the interim transcript hash
 
@@ -68,9 +70,9 @@ own_fault (groups.Tree fault) own = λ e. cc
 own_fault (groups.Member fault) own = λ e. cc
 own_fault groups.OutOfMemory own = absurd (own refl)
 
-module _ (profile : Profile) (G : VerifyFn) (info : GroupInfo) (supplied : Option RatchetTree) (interim : List ℕ) (hashed : info_interim info ≡ Some interim) where
+module _ (asked : Rules) (profile : Profile) (G : VerifyFn) (info : GroupInfo) (supplied : Option RatchetTree) (interim : List ℕ) (hashed : info_interim info ≡ Some interim) where
   abbrev pub StartsOrNot : Type 0
-  StartsOrNot = ((s : State) × IsStart profile G info supplied s) ⊎ ((fault : StartFault) × (fault ≢ OutOfMemory) × IsStartFault G info supplied fault)
+  StartsOrNot = ((s : State) × IsStart asked profile G info supplied s) ⊎ ((fault : StartFault) × (fault ≢ OutOfMemory) × IsStartFault asked G info supplied fault)
 
   uses_or_not : (o : Option RatchetTree) → ((t : RatchetTree) × UsesTree o info.extensions t) ⊎ UsesNoTree o info.extensions
   uses_or_not None = in_extension (extension_of 2 info.extensions)
@@ -78,7 +80,24 @@ module _ (profile : Profile) (G : VerifyFn) (info : GroupInfo) (supplied : Optio
 
   by_signature : (t : RatchetTree) (signer : LeafNode) → HasSigner G info supplied t signer → (b : Bool) → is_info_signed G info signer ≡ b → StartsOrNot
   by_signature t signer h true e =
-      inl (initial_state profile info t interim, record { tree = t; signer = signer; has_signer = h; signed = e; interim = interim; hashed = hashed; state = refl })
+      elim (strict_or_fails asked info t) [
+        | inl meets ↦
+            inl (
+              initial_state asked profile info t interim,
+              record {
+                tree = t;
+                signer = signer;
+                has_signer = h;
+                signed = e;
+                strict_info = meets.of_info;
+                strict = meets.of_tree;
+                interim = interim;
+                hashed = hashed;
+                state = refl;
+              },
+            )
+        | inr f ↦ inr (Strict f.0, λ own. cc, record { tree = t; signer = signer; has_signer = h; signed = e; fails = f.1 })
+      ]
   by_signature t signer h false e = inr (InfoSignature, λ own. cc, record { tree = t; signer = signer; has_signer = h; unsigned = e })
 
   by_signer : (t : RatchetTree) (required : RequiredCapabilities) → HasMembers G info.context (UsesTree supplied info.extensions) t required → (o : Option LeafNode) → leaf_at 0 t.tree info.signer ≡ o → StartsOrNot
@@ -92,7 +111,7 @@ module _ (profile : Profile) (G : VerifyFn) (info : GroupInfo) (supplied : Optio
         | inl m ↦
             (let too = λ (u : RatchetTree) (e : u ≡ t). subst (UsesTree supplied info.extensions) (sym e) uses in
             by_signer t m.0 (members_too G info.context (λ u. u ≡ t) (UsesTree supplied info.extensions) too t m.0 m.1) (leaf_at 0 t.tree info.signer) refl)
-        | inr f ↦ inr (start_fault_of f.0, own_fault f.0 f.1, tree_fails G info t f.0 f.2 supplied uses)
+        | inr f ↦ inr (start_fault_of f.0, own_fault f.0 f.1, tree_fails asked G info t f.0 f.2 supplied uses)
       ]
 
   by_use : IsSupportedContext info.context → StartsOrNot
@@ -107,10 +126,10 @@ module _ (profile : Profile) (G : VerifyFn) (info : GroupInfo) (supplied : Optio
   by_suite version (inr none) = inr (UnsupportedSuite, λ own. cc, record { version = version; unsupported = none })
 
 -- a follower starts, or there is a fault
-pub starts_or_not : (profile : Profile) (G : VerifyFn) (info : GroupInfo) (supplied : Option RatchetTree) (interim : List ℕ) → info_interim info ≡ Some interim
-    → ((s : State) × IsStart profile G info supplied s) ⊎ ((fault : StartFault) × (fault ≢ OutOfMemory) × IsStartFault G info supplied fault)
-starts_or_not profile G info supplied interim hashed =
+pub starts_or_not : (asked : Rules) (profile : Profile) (G : VerifyFn) (info : GroupInfo) (supplied : Option RatchetTree) (interim : List ℕ) → info_interim info ≡ Some interim
+    → ((s : State) × IsStart asked profile G info supplied s) ⊎ ((fault : StartFault) × (fault ≢ OutOfMemory) × IsStartFault asked G info supplied fault)
+starts_or_not asked profile G info supplied interim hashed =
     elim (same_or_not info.context.version 1) [
-      | inl version ↦ by_suite profile G info supplied interim hashed version (supported_or_not info.context.cipher_suite)
+      | inl version ↦ by_suite asked profile G info supplied interim hashed version (supported_or_not info.context.cipher_suite)
       | inr other ↦ inr (UnsupportedVersion, λ own. cc, other)
     ]

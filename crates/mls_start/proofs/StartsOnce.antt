@@ -1,5 +1,5 @@
--- Where a follower starts, if it does, is determined: of the eight conditions each is met by what comes to a later one, and by
--- nothing for which it fails.
+-- Where a follower starts, if it does, is determined: of the eight conditions and the strict rules after them each is met by
+-- what comes to a later one, and by nothing for which it fails.
 use Rattle.std.proofs.Common.{◌≡◌, ◌≢◌, ◌∙◌, ℕ, ◌<◌, List, true, Option, Some, None, refl, sym, ap, subst, arith, below_none, below_more}
 use Rattle.std.proofs.lemmas.Bool.{false≢true}
 use Rattle.std.proofs.lemmas.Option.{none-some, same_Some}
@@ -26,11 +26,13 @@ use Rattle.mls_check.specs.ValidTree.{Valid, IsFirstTreeFault}
 use Rattle.mls_check.specs.declared.members.MemberFault.{MemberFault}
 use Rattle.mls_check.specs.declared.members.MemberFault.TheVariants as members
 use Rattle.mls_msgs.specs.declared.group_info.GroupInfo.{GroupInfo}
+use Rattle.mls_msgs.specs.declared.rules.Rules.{Rules}
 use Rattle.mls_follow.specs.State.{State}
-use Rattle.mls_follow.specs.Start.{UsesTree, IsTreeIn, HasSigner, is_info_signed, initial_state, IsStart, IsStartFault}
+use Rattle.mls_follow.specs.Start.{UsesTree, IsTreeIn, HasSigner, is_info_signed, initial_state, IsStart, IsStartFault, IsStrictStartFault}
 use Rattle.mls_follow.specs.declared.start_fault.StartFault.{StartFault}
-use Rattle.mls_follow.specs.declared.start_fault.StartFault.TheVariants.{UnsupportedVersion, UnsupportedSuite, NoTree, RequirementsUnreadable, Tree, Member, SignerNotMember, InfoSignature, OutOfMemory}
+use Rattle.mls_follow.specs.declared.start_fault.StartFault.TheVariants.{UnsupportedVersion, UnsupportedSuite, NoTree, RequirementsUnreadable, Tree, Member, SignerNotMember, InfoSignature, Strict, OutOfMemory}
 use Rattle.mls_start.proofs.InOrder.{first_then, no_more, MetBefore, one_position, other_place}
+use Rattle.mls_start.proofs.StrictStarts.{MeetsStrict, no_strict_fails, one_strict_fails}
 use Rattle.mls_msgs.specs.declared.profile.Profile.{Profile}
 
 -- ---- what is read is one
@@ -65,7 +67,7 @@ no_members_fault G c d r s t u f ec er et of a m =
     ∙ (λ i. member_fault G (sym ec i).cipher_suite (sym ec i).group_id (sym er i) (sym et i).tree)
     ∙ (fault-first G c.cipher_suite c.group_id r t.tree f of).0 a)
 
--- ---- the eight conditions
+-- ---- the conditions
 
 abbrev position : StartFault → ℕ
 position UnsupportedVersion = 0
@@ -76,9 +78,10 @@ position (Tree fault) = 4
 position (Member fault) = 5
 position SignerNotMember = 6
 position InfoSignature = 7
-position OutOfMemory = 8
+position (Strict fault) = 8
+position OutOfMemory = 9
 
-module _ (G : VerifyFn) (info : GroupInfo) (supplied : Option RatchetTree) where
+module _ (asked : Rules) (G : VerifyFn) (info : GroupInfo) (supplied : Option RatchetTree) where
   abbrev H : List ℕ → List ℕ
   H = hash_of info.context.cipher_suite
 
@@ -90,7 +93,7 @@ module _ (G : VerifyFn) (info : GroupInfo) (supplied : Option RatchetTree) where
 
   -- this fails first, for no want of memory
   abbrev Refuses : StartFault → Type 0
-  Refuses f = (f ≢ OutOfMemory) × IsStartFault G info supplied f
+  Refuses f = (f ≢ OutOfMemory) × IsStartFault asked G info supplied f
 
   same_tree : (t u : RatchetTree) → Uses t → Uses u → t ≡ u
   same_tree t u a b = one_tree supplied info.extensions t u a b
@@ -109,7 +112,8 @@ module _ (G : VerifyFn) (info : GroupInfo) (supplied : Option RatchetTree) where
       (first_then ((t : RatchetTree) × (r : RequiredCapabilities) × Uses t × Requires info.context r × LeavesAreValid G info.context.cipher_suite info.context.group_id r t.tree)
       (first_then ((t : RatchetTree) × (x : LeafNode) × Uses t × HasLeaf t x)
       (first_then ((t : RatchetTree) × (x : LeafNode) × Uses t × HasLeaf t x × (is_info_signed G info x ≡ true))
-      no_more)))))))
+      (first_then ((t : RatchetTree) × Uses t × MeetsStrict asked info t)
+      no_more))))))))
 
   -- a condition that fails is not met
   fails : (f : StartFault) → Refuses f → Met (position f) → ⊥
@@ -129,6 +133,9 @@ module _ (G : VerifyFn) (info : GroupInfo) (supplied : Option RatchetTree) where
   fails InfoSignature (own, a) m =
       let e = same_leaf a.tree m.0 a.signer m.1 a.has_signer.has_members.valid_tree.readable.has_tree.uses m.2 a.has_signer.set m.3 in
       false≢true (sym a.unsigned ∙ ap (is_info_signed G info) e ∙ m.4)
+  fails (Strict f) (own, a) m =
+      let e = same_tree a.tree m.0 a.has_signer.has_members.valid_tree.readable.has_tree.uses m.1 in
+      no_strict_fails asked info m.0 f m.2 (subst (λ (v : RatchetTree). IsStrictStartFault asked info v f) e a.fails)
   fails OutOfMemory (own, a) m = own refl
 
   -- what comes to a condition meets those before it
@@ -156,11 +163,15 @@ module _ (G : VerifyFn) (info : GroupInfo) (supplied : Option RatchetTree) where
   met_signer t x h =
       below_more Met 6 (met_members t h.required h.has_members) (t, x, h.has_members.valid_tree.readable.has_tree.uses, h.set)
 
+  met_signed : (t : RatchetTree) (x : LeafNode) → HasSigner G info supplied t x → is_info_signed G info x ≡ true → MetBefore Met 8
+  met_signed t x h signed =
+      below_more Met 7 (met_signer t x h) (t, x, h.has_members.valid_tree.readable.has_tree.uses, h.set, signed)
+
   -- where a follower starts, all are met
-  met_start : (profile : Profile) (s : State) → IsStart profile G info supplied s → MetBefore Met 8
+  met_start : (profile : Profile) (s : State) → IsStart asked profile G info supplied s → MetBefore Met 9
   met_start profile s a =
-      below_more Met 7 (met_signer a.tree a.signer a.has_signer)
-      (a.tree, a.signer, a.has_signer.has_members.valid_tree.readable.has_tree.uses, a.has_signer.set, a.signed)
+      below_more Met 8 (met_signed a.tree a.signer a.has_signer a.signed)
+      (a.tree, a.has_signer.has_members.valid_tree.readable.has_tree.uses, record { of_info = a.strict_info; of_tree = a.strict })
 
   met_before : (f : StartFault) → Refuses f → MetBefore Met (position f)
   met_before UnsupportedVersion (own, a) = below_none Met
@@ -171,13 +182,14 @@ module _ (G : VerifyFn) (info : GroupInfo) (supplied : Option RatchetTree) where
   met_before (Member x) (own, a) = met_valid a.tree a.required a.valid_tree
   met_before SignerNotMember (own, a) = met_members a.tree a.required a.has_members
   met_before InfoSignature (own, a) = met_signer a.tree a.signer a.has_signer
+  met_before (Strict x) (own, a) = met_signed a.tree a.signer a.has_signer a.signed
   met_before OutOfMemory (own, a) = absurd (own refl)
 
-  own_position : (f : StartFault) → f ≢ OutOfMemory → position f < 8
+  own_position : (f : StartFault) → f ≢ OutOfMemory → position f < 9
   own_position OutOfMemory own = absurd (own refl)
   own_position _ own = omega arith
 
-  no_fault : (profile : Profile) (s : State) (f : StartFault) → Refuses f → IsStart profile G info supplied s → ⊥
+  no_fault : (profile : Profile) (s : State) (f : StartFault) → Refuses f → IsStart asked profile G info supplied s → ⊥
   no_fault profile s f a start = fails f a (met_start profile s start (position f) (own_position f a.0))
 
   -- two faults of one condition
@@ -195,25 +207,30 @@ module _ (G : VerifyFn) (info : GroupInfo) (supplied : Option RatchetTree) where
       (same_tree a.tree b.tree a.valid_tree.readable.has_tree.uses b.valid_tree.readable.has_tree.uses) a.not_out_of_memory b.not_out_of_memory a.first b.first)
   same_fault SignerNotMember SignerNotMember e a b = refl
   same_fault InfoSignature InfoSignature e a b = refl
+  same_fault (Strict x) (Strict y) e (_, a) (_, b) =
+      ap Strict (one_strict_fails asked info a.tree x y a.fails
+      (subst (λ (v : RatchetTree). IsStrictStartFault asked info v y)
+      (same_tree b.tree a.tree b.has_signer.has_members.valid_tree.readable.has_tree.uses a.has_signer.has_members.valid_tree.readable.has_tree.uses) b.fails))
   same_fault OutOfMemory OutOfMemory e a b = refl
   same_fault f g e a b = absurd (other_place (position f) (position g) refl e)
 
   one_fault : (f g : StartFault) → Refuses f → Refuses g → f ≡ g
   one_fault f g a b = same_fault f g (one_position position Met Refuses met_before fails f g a b) a b
 
-  one_state : (profile : Profile) (s u : State) → IsStart profile G info supplied s → IsStart profile G info supplied u → s ≡ u
+  one_state : (profile : Profile) (s u : State) → IsStart asked profile G info supplied s → IsStart asked profile G info supplied u → s ≡ u
   one_state profile s u a b =
       let et = same_tree a.tree b.tree a.has_signer.has_members.valid_tree.readable.has_tree.uses b.has_signer.has_members.valid_tree.readable.has_tree.uses in
       let ei = same_Some a.interim b.interim (sym a.hashed ∙ b.hashed) in
-      a.state ∙ (λ i. initial_state profile info (et i) (ei i)) ∙ sym b.state
+      a.state ∙ (λ i. initial_state asked profile info (et i) (ei i)) ∙ sym b.state
 
-pub one_start : (profile : Profile) (G : VerifyFn) (info : GroupInfo) (supplied : Option RatchetTree) (s u : State) → IsStart profile G info supplied s → IsStart profile G info supplied u → s ≡ u
-one_start profile G info supplied = one_state G info supplied profile
+pub one_start : (asked : Rules) (profile : Profile) (G : VerifyFn) (info : GroupInfo) (supplied : Option RatchetTree) (s u : State) → IsStart asked profile G info supplied s
+    → IsStart asked profile G info supplied u → s ≡ u
+one_start asked profile G info supplied = one_state asked G info supplied profile
 
-pub no_fault_of_start : (profile : Profile) (G : VerifyFn) (info : GroupInfo) (supplied : Option RatchetTree) (s : State) (fault : StartFault) → fault ≢ OutOfMemory → IsStart profile G info supplied s
-    → IsStartFault G info supplied fault → ⊥
-no_fault_of_start profile G info supplied s f own start fails = no_fault G info supplied profile s f (own, fails) start
+pub no_fault_of_start : (asked : Rules) (profile : Profile) (G : VerifyFn) (info : GroupInfo) (supplied : Option RatchetTree) (s : State) (fault : StartFault) → fault ≢ OutOfMemory
+    → IsStart asked profile G info supplied s → IsStartFault asked G info supplied fault → ⊥
+no_fault_of_start asked profile G info supplied s f own start fails = no_fault asked G info supplied profile s f (own, fails) start
 
-pub one_start_fault : (G : VerifyFn) (info : GroupInfo) (supplied : Option RatchetTree) (fault other : StartFault) → fault ≢ OutOfMemory → other ≢ OutOfMemory
-    → IsStartFault G info supplied fault → IsStartFault G info supplied other → fault ≡ other
-one_start_fault G info supplied f g own other a b = one_fault G info supplied f g (own, a) (other, b)
+pub one_start_fault : (asked : Rules) (G : VerifyFn) (info : GroupInfo) (supplied : Option RatchetTree) (fault other : StartFault) → fault ≢ OutOfMemory → other ≢ OutOfMemory
+    → IsStartFault asked G info supplied fault → IsStartFault asked G info supplied other → fault ≡ other
+one_start_fault asked G info supplied f g own other a b = one_fault asked G info supplied f g (own, a) (other, b)

@@ -7,6 +7,7 @@ use Rattle.mls_tree.specs.RatchetTree.{RatchetTree}
 use Rattle.mls_tree.specs.TreeDecoding.{IsTreeOf, IsNoTree}
 use Rattle.mls_tree.specs.Tree.{member_count}
 use Rattle.mls_check.specs.Signatures.{VerifyFn}
+use Rattle.mls_msgs.specs.Rules.{plain_rules}
 use Rattle.mls_msgs.specs.declared.group_info.GroupInfo.{GroupInfo}
 use Rattle.mls_msgs.specs.declared.message.Message.{Message}
 use Rattle.mls_msgs.specs.declared.message.Message.TheVariants as messages
@@ -57,14 +58,14 @@ pub record IsReadAs (profile : Profile) (info_bytes : List ℕ) (tree_bytes : Op
 
 -- ---- a follower
 
--- `IsStarted profile G info_bytes tree_bytes s`: a follower with this profile starts in this state from the bytes of a
--- GroupInfo, and of a tree if one is passed.
+-- `IsStarted profile G info_bytes tree_bytes s`: a follower with this profile, and without strict rules, starts in this state
+-- from the bytes of a GroupInfo, and of a tree if one is passed.
 pub record IsStarted (profile : Profile) (G : VerifyFn) (info_bytes : List ℕ) (tree_bytes : Option (List ℕ))
     (s : State) : Type 0 where
   pub info : GroupInfo
   pub supplied : Option RatchetTree
   pub is_read : IsReadAs profile info_bytes tree_bytes info supplied
-  pub start : IsStart profile G info supplied s
+  pub start : IsStart plain_rules profile G info supplied s
 
 -- `IsFirstState G i s`: a follower starts from the inputs in the state `s` (RFC 9420, 12.4.3), or resumes in it.
 abbrev pub IsFirstState : VerifyFn → Inputs → State → Type 0
@@ -89,7 +90,7 @@ IsStartFinding profile G info_bytes tree_bytes (TreeUnreadable fault) =
     (info : GroupInfo) × IsInfo profile info_bytes info × IsSuppliedUnread tree_bytes × (fault ≢ nodes.OutOfMemory)
 IsStartFinding profile G info_bytes tree_bytes (StartRefused fault) =
     (info : GroupInfo) × (supplied : Option RatchetTree) × IsReadAs profile info_bytes tree_bytes info supplied
-    × (fault ≢ starts.OutOfMemory) × IsStartFault G info supplied fault
+    × (fault ≢ starts.OutOfMemory) × IsStartFault plain_rules G info supplied fault
 IsStartFinding profile G info_bytes tree_bytes (Starts started) =
     (s : State) × IsStarted profile G info_bytes tree_bytes s × (started ≡ started_of s)
 IsStartFinding profile G info_bytes tree_bytes _ = ⊥

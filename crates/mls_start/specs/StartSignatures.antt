@@ -1,6 +1,7 @@
 -- The signatures of a start or a resumption. Used by contracts.
 use Rattle.std.specs.Prelude.{◌≡◌, ℕ, List, Option}
 use Rattle.mls_tree.specs.RatchetTree.{RatchetTree}
+use Rattle.mls_msgs.specs.Rules.{plain_rules}
 use Rattle.mls_msgs.specs.declared.group_info.GroupInfo.{GroupInfo}
 use Rattle.mls_msgs.specs.declared.profile.Profile.{Profile}
 use Rattle.mls_signatures.specs.SignaturesToVerify.{start_signatures, resumption_signatures}
@@ -12,11 +13,11 @@ use Rattle.mls_follow.specs.State.{State}
 use Rattle.mls_start.specs.Inputs.{Inputs, OfInfo, OfState}
 use Rattle.mls_start.specs.StartFindings.{IsReadAs}
 
--- `StartHasSignatures profile info supplied s signatures`: a follower starts from a GroupInfo and a tree in this state,
--- each signature being good, and the start has these signatures.
+-- `StartHasSignatures profile info supplied s signatures`: a follower without strict rules starts from a GroupInfo and a tree
+-- in this state, each signature being good, and the start has these signatures.
 pub record StartHasSignatures (profile : Profile) (info : GroupInfo) (supplied : Option RatchetTree)
     (s : State) (signatures : List SignatureToVerify) : Type 0 where
-  pub start : IsStart profile all_good info supplied s
+  pub start : IsStart plain_rules profile all_good info supplied s
   pub needed_is : signatures ≡ start_signatures info s.tree
 
 -- `StartsWithSignatures profile info_bytes tree_bytes s signatures`: a follower starts from the bytes of a GroupInfo, and of

@@ -3,6 +3,7 @@ use Rattle.std.specs.Prelude.{List, ℕ, Option, ◌≡◌, ◌≢◌}
 use Rattle.mls_tree.specs.RatchetTree.{RatchetTree}
 use Rattle.mls_tree.specs.Tree.{leaf_at}
 use Rattle.mls_check.specs.Signatures.{VerifyFn}
+use Rattle.mls_msgs.specs.Rules.{plain_rules}
 use Rattle.mls_msgs.specs.declared.group_info.GroupInfo.{GroupInfo}
 use Rattle.mls_msgs.specs.declared.profile.Profile.{Profile}
 use Rattle.mls_signatures.specs.SignaturesToVerify.{info_signatures}
@@ -24,7 +25,7 @@ pub record FailsStart (G : VerifyFn) (info : GroupInfo) (supplied : Option Ratch
     : Type 0 where
   pub fault : StartFault
   pub not_out_of_memory : fault ≢ starts.OutOfMemory
-  pub fails : IsStartFault G info supplied fault
+  pub fails : IsStartFault plain_rules G info supplied fault
   pub finding_is : finding ≡ StartRefused fault
 
 -- The list is the signature of the GroupInfo, by the tree that the start uses.

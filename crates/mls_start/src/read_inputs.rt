@@ -2,6 +2,7 @@
 
 ghost use Rattle.std.specs.Prelude.{◌≡◌, ◌≢◌, List, ℕ, Option, IfOk, IfErr, option_map};
 ghost use Rattle.mls_tree.specs.PublicTreeModel.{plain};
+ghost use Rattle.mls_msgs.specs.Rules.{plain_rules};
 ghost use Rattle.mls_follow.specs.FollowerModel.{checker_of, state_of};
 ghost use Rattle.mls_follow.specs.Start.{IsStart};
 ghost use Rattle.mls_start.specs.Inputs.{OfInfo};
@@ -108,7 +109,7 @@ pub(crate) fn start_failure(fault: StartFault) -> StartFailure
     }
 }
 
-/// Starts a follower with this profile from the decoded inputs.
+/// Starts a follower with this profile, and without strict rules, from the decoded inputs.
 #[tactic(auto, using(crate::proofs::Starting::says_declines))]
 pub(crate) fn start_decoded<C: SignatureCheck>(
     alloc: Global,
@@ -116,7 +117,7 @@ pub(crate) fn start_decoded<C: SignatureCheck>(
     inputs: ReadInputs,
     checker: C,
 ) -> Result<Follower<C>, StartFailure>
-    ensures started { IfOk result (λ f. IsStart profile (C.meaning checker) inputs.info
+    ensures started { IfOk result (λ f. IsStart plain_rules profile (C.meaning checker) inputs.info
         (option_map plain inputs.tree) (state_of f)) }
     ensures checker { IfOk result (λ f. C.meaning (checker_of f) ≡ C.meaning checker) }
     ensures refused { (info_bytes : List ℕ) (tree_bytes : Option (List ℕ))

@@ -9,5 +9,5 @@ pub returns-in-Ok-clause-started : goal.returns-in-Ok-clause-started
 returns-in-Ok-clause-started g c =
     let info = c.args.info.now in
     let supplied = Some (plain c.in-Some.tree) in
-    rw c.in-Some.is (λ profile. subst (λ (t : Tree). IsStart profile (g.C.SignatureCheck.meaning c.args.checker.now) info supplied (initial_state_of_tree profile info t c.in-Ok.found.1.interim))
+    rw c.in-Some.is (λ profile. subst (λ (t : Tree). IsStart c.args.rules.now.asked profile (g.C.SignatureCheck.meaning c.args.checker.now) info supplied (initial_state_of_tree c.args.rules.now.asked profile info t c.in-Ok.found.1.interim))
     (sym c.in-Ok.ensures.tree) (c.in-Ok.ensures.started profile supplied refl))

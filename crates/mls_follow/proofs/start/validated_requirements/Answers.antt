@@ -4,4 +4,4 @@ use Rattle.mls_follow.proofs.start.validated_requirements.Goals as goal
 
 pub returns-in-Err-clause-refused : goal.returns-in-Err-clause-refused
 returns-in-Err-clause-refused g c =
-    rw c.from.ensures (tree_fails _ c.args.info.now (plain c.group_requirements.new.tree) c.in-Err.fault c.in-Err.ensures.refused)
+    rw c.from.ensures (λ asked. tree_fails asked _ c.args.info.now (plain c.group_requirements.new.tree) c.in-Err.fault c.in-Err.ensures.refused)

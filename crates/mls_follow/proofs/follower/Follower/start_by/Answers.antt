@@ -1,22 +1,30 @@
 use Rattle.std.proofs.Common.{sym, subst}
 use Rattle.std.specs.Prelude.{option_map}
 use Rattle.mls_tree.specs.PublicTreeModel.{plain}
+use Rattle.mls_msgs.specs.declared.rules.Rules.{Rules}
+use Rattle.mls_follow.specs.CommitTree.{initial_state_of_tree}
 use Rattle.mls_follow.specs.FollowerInvariant.{HasUniqueKeysAndValidLeaves}
 use Rattle.mls_follow.proofs.InvariantLemmas.{start_checked}
 use Rattle.mls_follow.proofs.Starting.{version_followed, suite_followed}
-use Rattle.mls_follow.proofs.follower.Follower.start_in.Goals as goal
+use Rattle.mls_follow.proofs.follower.Follower.start_by.Goals as goal
 
 pub returns-in-Err-check_start-clause-unsupported_version : goal.returns-in-Err-check_start-clause-unsupported_version
 returns-in-Err-check_start-clause-unsupported_version g c =
-    version_followed _ c.args.info (option_map plain c.args.tree) c.in-Err-check_start.fault c.in-Ok.ensures.supported c.in-Err-check_start.ensures.refused
+    version_followed c.args.asked _ c.args.info (option_map plain c.args.tree) c.in-Err-check_start.fault c.in-Ok.ensures.supported c.in-Err-check_start.ensures.refused
 
 pub returns-in-Err-check_start-clause-unsupported_suite : goal.returns-in-Err-check_start-clause-unsupported_suite
 returns-in-Err-check_start-clause-unsupported_suite g c =
-    suite_followed _ c.args.info (option_map plain c.args.tree) c.in-Err-check_start.fault c.in-Ok.ensures.supported c.in-Err-check_start.ensures.refused
+    suite_followed c.args.asked _ c.args.info (option_map plain c.args.tree) c.in-Err-check_start.fault c.in-Ok.ensures.supported c.in-Err-check_start.ensures.refused
 
 -- the group's tree was judged
 pub invariant_of-result : goal.invariant_of-result
 invariant_of-result g c =
+    let G = g.C.SignatureCheck.meaning c.args.checker in
+    let found = c.in-Ok-check_start.checked in
+    let tree = c.in-Ok-check_start.tree.tree in
+    let started = start_checked c.args.asked c.args.profile G c.args.info (option_map plain c.args.tree) (initial_state_of_tree c.args.asked c.args.profile c.args.info tree found.interim)
+    (c.in-Ok-check_start.ensures.started c.args.profile) in
     record {
-      checked = subst (HasUniqueKeysAndValidLeaves (g.C.SignatureCheck.meaning c.args.checker)) (sym c.initial_group.ensures) (start_checked c.args.profile _ c.args.info (option_map plain c.args.tree) _ (c.in-Ok-check_start.ensures.started c.args.profile));
+      checked = subst (HasUniqueKeysAndValidLeaves G) (sym c.initial_group.ensures)
+          (subst (λ (asked : Rules). HasUniqueKeysAndValidLeaves G (initial_state_of_tree asked c.args.profile c.args.info tree found.interim)) (sym c.in-Ok-check_start.ensures.asked) started);
     }

@@ -26,4 +26,5 @@ returns-in-Public g c =
     let group = c.args.self.now in
     let encodes = subst (λ m. EncodesMessage group.profile m c.args.bytes.now) c.in-Public.is c.requires.input in
     frame_taken _ (group_state group) group.required group.requires_these c.in-Public.public c.new-frame.result c.new-frame.ensures
+    c.unmet_rule-strict.result c.unmet_rule-strict.ensures
     c.take_frame.result (group_state c.take_frame.new.self) c.take_frame.ensures c.args.bytes.now encodes

@@ -1,12 +1,15 @@
 //! Worked examples that are no rows of `mls_rows`: a crate of tests alone, with nothing public and no program.
 //!
-//! The libraries have no tests of their own, since a crate with tests is proved twice. A proof covers what contracts say; docs/TESTING.md
-//! says what is tested, and how. Here are the examples whose arguments or results have no bytes: devices that fail, journals, cached
-//! hashes, indexes, and inputs at the limits.
+//! The libraries have no tests of their own, since a crate with tests is proved twice. A proof covers what contracts
+//! say; docs/TESTING.md says what is tested, and how. Here are the examples whose arguments or results have no bytes:
+//! devices that fail, journals, cached hashes, indexes, and inputs at the limits. Here are also those of the strict
+//! rules.
 //!
 //! Expected values are worked out by hand from the RFC's text, and are never what the libraries returned.
 #![tactic(auto)]
 
+#[cfg(test)]
+mod added_rules;
 #[cfg(test)]
 mod devices;
 #[cfg(test)]
@@ -22,6 +25,8 @@ mod large_inputs;
 #[cfg(test)]
 mod limits;
 #[cfg(test)]
+mod notation;
+#[cfg(test)]
 mod replay_devices;
 #[cfg(test)]
 mod report_devices;
@@ -32,7 +37,21 @@ mod stored_states;
 #[cfg(test)]
 mod stored_values;
 #[cfg(test)]
+mod strict_commits;
+#[cfg(test)]
+mod strict_extensions;
+#[cfg(test)]
+mod strict_external;
+#[cfg(test)]
+mod strict_group;
+#[cfg(test)]
 mod strict_keys;
+#[cfg(test)]
+mod strict_proposals;
+#[cfg(test)]
+mod strict_starts;
+#[cfg(test)]
+mod strict_suites;
 #[cfg(test)]
 mod strict_trees;
 #[cfg(test)]

@@ -39,3 +39,15 @@ fn unions_have_the_rules_of_both(rt: HostRuntime) {
         _ => assert!(rt; false),
     }
 }
+
+#[test]
+fn differences_have_the_rules_of_the_first_alone(rt: HostRuntime) {
+    match (Rules::from_bits(0x1011), Rules::from_bits(0x1f7f)) {
+        (Some(first), Some(second)) => {
+            assert_eq!(rt; Rules::strict().difference(first).bits(), 0x0fee);
+            assert_eq!(rt; Rules::strict().difference(second).bits(), 0x0080);
+            assert_eq!(rt; first.difference(Rules::strict()).bits(), 0);
+        }
+        _ => assert!(rt; false),
+    }
+}

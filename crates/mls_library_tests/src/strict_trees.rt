@@ -58,7 +58,7 @@ const CASES: &[(&str, &str, &str)] = &[
         01010000000000000000ffffffffffffffff0001c0",
         "43",
     ),
-    // An application_id with a byte after it.
+    // An application_id that is cut.
     (
         "00",
         "406c010120a0a0a0a0a0a0a0a0a0a0a0a0a0a0a0a0a0a0a0a0a0a0a0a0a0a0a0a0a0a0a0a020b0b0b0b0\

@@ -87,6 +87,8 @@ def reinit_not_alone(maker, state, draft):
 @fault(17)
 @of_member
 def path_left_out(maker, state, draft):
+    if has_reinit(state, draft):
+        return None
     kind, commit = draft.content
     entries = commit.proposals
     if not commit.path:
@@ -104,6 +106,10 @@ def proposals_of(state, draft):
     return [pending[entry] if tag == BY_REFERENCE else (draft.sender, entry) for tag, entry in draft.content[1].proposals]
 
 
+def has_reinit(state, draft):
+    return any(proposal[0] == REINIT for _, proposal in proposals_of(state, draft))
+
+
 def targets_of(state, draft):
     items = proposals_of(state, draft)
     return ({body for _, (kind, body) in items if kind == REMOVE}
@@ -119,7 +125,7 @@ def needs_path(state, draft):
 @of_member
 def member_added_twice(maker, state, draft):
     """An Add whose leaf has a key of another member, or is not valid in this group."""
-    if draft.content[1].path or any(proposal[0] == REINIT for _, proposal in proposals_of(state, draft)):
+    if draft.content[1].path or has_reinit(state, draft):
         return None
     old = trees.leaf(draft.tree, maker.chosen.choice(trees.members(draft.tree)))
     leaf = maker.chosen.choice([{"encryption_key": old.encryption_key}, {"signature_key": old.signature_key},

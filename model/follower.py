@@ -6,9 +6,10 @@ again.
 """
 import collections
 
+import strict
 import tree as trees
 from layouts import (ADD, APPLICATION_USE, BY_REFERENCE, BYTES, COMMIT, CREDENTIAL, EXTENSIONS_CHANGE, EXTERNAL,
-                     EXTERNAL_INIT, EXTERNAL_SENDERS, FramedContent, GroupContext, GroupInfo, IS_APPLICATION,
+                     EXTERNAL_INIT, EXTERNAL_SENDERS, first_of, FramedContent, GroupContext, GroupInfo, IS_APPLICATION,
                      IS_COMMIT, IS_PROPOSAL, KEY_PACKAGE, KeyPackage, LeafNode, MEMBER, Message, NEW_COMMITTER,
                      NEW_PROPOSER, PSK, PUBLIC, REINIT, REMOVE, REPLACE, Requirements, RESUMPTION_PSK, U16, U32,
                      Unreadable, UPDATE, whole)
@@ -40,6 +41,16 @@ class Refused(Exception):
         self.rule = rule
         self.member = member
         self.leaf = leaf
+
+
+class StrictRefused(Exception):
+    """A start is refused, or rules that are added: by the number of a strict rule, and the node index or None. If a
+    pending proposal does not meet the rules, by None and its position."""
+
+    def __init__(self, rule, place):
+        super().__init__(rule, place)
+        self.rule = rule
+        self.place = place
 
 
 def check(rule, holds):
@@ -96,10 +107,6 @@ def confirmed_hash(suite, interim, message):
 
 
 # ---- extensions of the GroupContext (11.1, 12.1.8.1)
-
-def first_of(kind, extensions):
-    return next((extension.data for extension in extensions if extension.kind == kind), None)
-
 
 def requirements_of(extensions):
     data = first_of(3, extensions)
@@ -176,11 +183,29 @@ def is_join_list(entries):
 
 
 class Follower:
-    """The rules. `good` says whether a signature over a content is good under a key."""
+    """The rules. `good` says whether a signature over a content is good under a key. `rules` are the strict rules."""
 
-    def __init__(self, good, full=True):
+    def __init__(self, good, full=True, rules=frozenset()):
         self.good = good
         self.full = full
+        self.rules = rules
+
+    def start_from(self, info, tree):
+        """The state that a GroupInfo leads to. Of the conditions of a start only the ninth is checked: the strict
+        rules."""
+        for fault in strict.start_faults(self.rules, info, tree):
+            raise StrictRefused(*fault)
+        return self.start(info.context, tree, info.confirmation_tag)
+
+    def made_strict(self, state, rules):
+        """The follower with more strict rules, which the state has to meet."""
+        new = rules - self.rules
+        for fault in strict.group_faults(new, state.context, state.tree):
+            raise StrictRefused(*fault)
+        for position, pending in enumerate(state.pending):
+            if new & strict.unmet_by_proposals(state.context, [pending.proposal]):
+                raise StrictRefused(None, position)
+        return Follower(self.good, self.full, self.rules | rules)
 
     def start(self, context, tree, confirmation_tag):
         interim = interim_hash(context.suite, context.confirmed, confirmation_tag)
@@ -188,6 +213,20 @@ class Follower:
 
     def take(self, state, data):
         message = self.read(data)
+        after = self.taken(state, message)
+        if self.rules:
+            self.check_strictly(state.context, message, after)
+        return after
+
+    def check_strictly(self, context, message, after):
+        """The strict rules, of a message that the rules of the profile accept."""
+        for rule in sorted(self.rules & strict.unmet(context, message)):
+            raise Refused(rule)
+        if message.framed.content[0] == IS_COMMIT and 51 in self.rules:
+            check(51, strict.are_supported(after.context, after.tree))
+
+    def taken(self, state, message):
+        """The state after a message, by the rules of the profile."""
         self.check_sender(state, message)
         kind, body = message.framed.content
         if kind == IS_PROPOSAL:
@@ -389,9 +428,13 @@ def line_of(former, state):
     return told + (" ended" if state.ended else "")
 
 
+def name_of(rule):
+    return strict.NAMES[rule] if rule in strict.NAMES else NAMES[rule - 1]
+
+
 def refusal_line(refused):
     """What `gate` answers to a message that is refused."""
-    words = f"refused {refused.rule} {NAMES[refused.rule - 1]}"
+    words = f"refused {refused.rule} {name_of(refused.rule)}"
     if refused.member is None:
         return words
     return f"{words} {refused.member} {MEMBER_NAMES[refused.member - 1]} {refused.leaf}"

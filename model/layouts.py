@@ -225,6 +225,11 @@ BODIES = Choice(2, _1=PublicMessage, _2=Rest(), _3=Rest(), _4=GroupInfo, _5=KeyP
 Message = Record("Message", version=Number(2, (1,)), body=BODIES)
 
 
+def first_of(kind, extensions):
+    """The data of the first extension of a type, or None."""
+    return next((extension.data for extension in extensions if extension.kind == kind), None)
+
+
 def whole(layout, data):
     """The value whose encoding the bytes are."""
     reader = Reader(data)

@@ -5,13 +5,15 @@ import random
 # These two put their faults into FAULTS.
 import commit_faults
 import message_faults
+import strict
 import tree as trees
 from faults import FAULTS
 from layouts import (ADD, BY_VALUE, EXTENSIONS_CHANGE, EXTERNAL, EXTERNAL_INIT, GroupContext, IS_COMMIT, IS_PROPOSAL,
                      MEMBER, Message, NEW_COMMITTER, NEW_PROPOSER, PSK, PUBLIC, REINIT, REMOVE, REPLACE, Unreadable,
                      whole)
-from follower import Follower, Item, Refused, line_of, reference_of, refusal_line
+from follower import Follower, Item, Refused, StrictRefused, line_of, reference_of, refusal_line
 from random_messages import Maker
+from strict_messages import StrictMaker
 
 SENDERS = {MEMBER: "member", EXTERNAL: "external sender", NEW_PROPOSER: "new member", NEW_COMMITTER: "joining client"}
 KINDS = {ADD: "Add", REPLACE: "Update", REMOVE: "Remove", PSK: "PreSharedKey", REINIT: "ReInit",
@@ -27,18 +29,18 @@ UNFIT = (AssertionError, AttributeError, IndexError, KeyError, StopIteration)
 Step = collections.namedtuple("Step", "message before after answer")
 
 # A group: its maker and follower, the state at the start, the message of its GroupInfo, its ratchet_tree if that is a file of
-# its own, and its log.
-Case = collections.namedtuple("Case", "maker follower state info tree steps")
+# its own, and its log. `rules` are strict rules, of which the follower has those that the start meets.
+Case = collections.namedtuple("Case", "maker follower state info tree steps rules")
 
 
 class Mismatch(Exception):
     pass
 
 
-def new_group(chosen, full):
+def new_group(chosen, full, make):
     """A group whose members have joined and committed by the rules."""
     suite = chosen.choice([1, 1, 1, 2, 3, 4, 5, 6, 7])
-    maker = Maker(chosen, suite, chosen.random() < 0.5)
+    maker = make(chosen, suite, chosen.random() < 0.5)
     follower = Follower(maker.good, full)
     tree = (maker.leaf(),)
     state = follower.start(context_of(maker, tree, 1, ()), tree, b"")
@@ -198,11 +200,16 @@ def next_messages(maker, follower, state, former):
     return [right] if found is None else [found] + [right] * (chosen.random() < 0.6)
 
 
-def make_case(seed, number, count):
+def make_case(seed, number, count, is_strict=False):
     """A group, its log, and what the model makes of it."""
     chosen = random.Random(f"{seed} {number}")
-    maker, follower, state = new_group(chosen, chosen.random() < 7 / 8)
-    first, info, tree = started(maker, follower, state)
+    maker, plain, state = new_group(chosen, chosen.random() < 7 / 8, StrictMaker if is_strict else Maker)
+    if is_strict:
+        maker.odds = 0.02
+    first, info, tree = started(maker, plain, state)
+    rules, follower = plain.rules, plain
+    if is_strict:
+        rules, follower = strictly(maker, plain, whole(Message, info).body[1], first.tree)
     state, steps = first, []
     while len(steps) < count:
         for message in next_messages(maker, follower, state, steps):
@@ -212,5 +219,38 @@ def make_case(seed, number, count):
                 maker.sent[reference_of(maker.suite, whole(Message, message).body[1])] = message
             elif after is not state and not trees.is_valid(maker.suite, after.tree):
                 raise Mismatch("the model's tree is not valid")
+            if follower.rules:
+                check_step(plain, follower, steps[-1])
             state = after
-    return Case(maker, follower, first, info, tree, steps)
+    return Case(maker, follower, first, info, tree, steps, rules)
+
+
+# ---- strict rules
+
+def strictly(maker, plain, info, tree):
+    """Strict rules by chance, and a follower with those of them that the start meets."""
+    share = maker.chosen.choice([0.3, 0.6, 1])
+    rules = frozenset(rule for rule in sorted(strict.CHECKED) if maker.chosen.random() < share)
+    unmet = {rule for rule, _ in strict.start_faults(rules, info, tree)}
+    return rules, Follower(plain.good, plain.full, rules - unmet)
+
+
+def check_step(plain, follower, step):
+    """What the plain rules refuse is refused by the same rule. What they accept is refused by the first rule of the set
+    by which a follower with this rule alone refuses it. If there is none, it leads to the plain state, and that meets
+    the rules."""
+    after, line = wanted = answer(plain, step.before, step.message)
+    if line.startswith("accepted"):
+        for rule in sorted(follower.rules):
+            found = answer(Follower(plain.good, plain.full, frozenset([rule])), step.before, step.message)
+            if found != (after, line):
+                wanted = step.before, f"refused {rule} {strict.NAMES[rule]}"
+                if found != wanted:
+                    raise Mismatch(f"a follower with {rule} alone answers {found[1]}, a plain one {line}")
+                break
+    if wanted != (step.after, step.answer):
+        raise Mismatch(f"a strict follower answers {step.answer}, by the plain one and single rules it is {wanted[1]}")
+    try:
+        plain.made_strict(step.after, follower.rules)
+    except StrictRefused as fault:
+        raise Mismatch(f"after {step.answer} the state does not meet {fault.rule} at {fault.place}") from fault

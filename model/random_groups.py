@@ -1,7 +1,7 @@
 #!/usr/bin/env python3
 """Follows random groups by the program and by a model of the rules, and compares them line by line.
 
-    random_groups.py [PROGRAM] [--groups N] [--seed S] [--first K] [--messages M] [--jobs J] [--model-only]
+    random_groups.py [PROGRAM] [--groups N] [--seed S] [--first K] [--messages M] [--jobs J] [--model-only] [--strict]
 
 PROGRAM is `./mlscheck` if it isn't named, N is 1,000, S 1, M 12. The groups have the numbers K (0) to K + N - 1. S and
 its number determine a group. `--model-only` runs no program: it compares the model with the rules that the faults are
@@ -13,12 +13,17 @@ signature, the others have receipts of the good ones. A log has messages of memb
 propose to join, and clients that join, or come back, with a commit. Many of the messages are made wrong in one
 way or in two (faults.py), or in one bit.
 
+`--strict` makes other groups, whose keys, tags and lists mostly meet the strict rules. Each is followed with a set of
+these rules, by chance, without those that its start does not meet. The model's follower with the set must give what
+follows from its followers without strict rules and with each rule alone.
+
 For each group the program must print what follower.py and signatures.py give:
 
 - `replay`, also of the log in two parts, the second from the state that the first stores
 - `gate`, which is sent the receipts of the good signatures that it lists, message by message
 - `signatures`
-- `validate`, on the model's GroupInfo and tree of each epoch that a commit begins
+- `validate`, on the model's GroupInfo and tree of each epoch that a commit begins, and on a start that does not meet
+  the strict rules
 
 The script ends with 1 if a group differs, and keeps the folder of that group.
 """
@@ -33,6 +38,7 @@ import sys
 import tempfile
 
 import signatures
+import strict
 import tree as trees
 from layouts import BYTES, Message, U16, whole
 from follower import Follower, Refused, short
@@ -62,9 +68,10 @@ class Runs:
         self.folder = folder
         self.case = case
         self.profile = ["--profile", "full" if case.follower.full else "members"]
-        self.start = ["--info", write(folder, "info", case.info), *self.profile]
+        self.files = ["--info", write(folder, "info", case.info), *self.profile]
         if case.tree:
-            self.start += ["--tree", write(folder, "tree", case.tree)]
+            self.files += ["--tree", write(folder, "tree", case.tree)]
+        self.start = self.files + strict_words(case.follower.rules)
 
     def trust(self):
         if self.case.maker.trusting:
@@ -81,11 +88,20 @@ class Runs:
             wanted, found = pairs[0] if pairs else (f"{len(wanted)} lines", f"{len(found)} lines, {found[-1:]}")
             raise Mismatch(f"{words[0]}: wanted {wanted[:300]}, found {found[:300]} (in {self.folder})")
 
+    def starts(self):
+        """The start with all the strict rules of the case, if it does not meet them."""
+        case = self.case
+        if case.rules != case.follower.rules:
+            line = start_line(case.rules, whole(Message, case.info).body[1], case.state.tree)
+            self.compare([line], "validate", *self.files, *strict_words(case.rules), *self.trust())
+
     def replays(self):
-        """The whole log, then its two parts."""
+        """The whole log, then its two parts. A follower with strict rules has no state file."""
         steps, trust = self.case.steps, self.trust()
         log = write(self.folder, "log", log_of(steps))
         self.compare(replay_lines(steps), "replay", *self.start, "--log", log, *trust)
+        if self.case.follower.rules:
+            return
         cut = len(steps) // 2
         first = write(self.folder, "first", log_of(steps[:cut]))
         second = write(self.folder, "second", log_of(steps[cut:]))
@@ -123,7 +139,7 @@ class Runs:
         case, suite = self.case, self.case.maker.suite
         start = signatures.of_start(whole(Message, case.info).body[1], case.state.tree)
         lines = [signature_line(suite, each) for each in start]
-        follower, state = Follower(lambda *_: True, case.follower.full), case.state
+        follower, state = Follower(lambda *_: True, case.follower.full, case.follower.rules), case.state
         for number, step in enumerate(case.steps, 1):
             listed = signatures_of(state, follower.full, step.message)
             lines += [f"{number} refused 1"] if listed is None else [signature_line(suite, each) for each in listed]
@@ -132,17 +148,29 @@ class Runs:
 
     def epochs(self):
         """The GroupInfo and the tree of each epoch that a commit begins."""
-        maker = self.case.maker
+        maker, rules = self.case.maker, self.case.follower.rules
         for step in self.case.steps:
             context, tree = step.after.context, step.after.tree
             if context == step.before.context:
                 continue
-            _, message = maker.signed_info(context, tree, False)
-            info = write(self.folder, "epoch-info", message)
-            tree_file = write(self.folder, "epoch-tree", trees.encode(tree))
-            members = len(trees.members(tree))
-            line = f"valid epoch {context.epoch} members {members} tree {context.tree_hash.hex()}"
-            self.compare([line], "validate", "--info", info, "--tree", tree_file, *self.profile, *self.trust())
+            info, message = maker.signed_info(context, tree, False)
+            files = ["--info", write(self.folder, "epoch-info", message),
+                     "--tree", write(self.folder, "epoch-tree", trees.encode(tree))]
+            line = start_line(rules, info, tree)
+            self.compare([line], "validate", *files, *self.profile, *strict_words(rules), *self.trust())
+
+
+def strict_words(rules):
+    """The options of a command that checks these strict rules."""
+    return ["--strict", "--allow", ",".join(str(rule) for rule in sorted(strict.ALL - rules))] if rules else []
+
+
+def start_line(rules, info, tree):
+    """What `validate` prints of a start that meets all other conditions."""
+    for rule, place in strict.start_faults(rules, info, tree):
+        return f"start refused 9 Strict {rule} {strict.NAMES[rule]}" + ("" if place is None else f" {place}")
+    context, members = info.context, len(trees.members(tree))
+    return f"valid epoch {context.epoch} members {members} tree {context.tree_hash.hex()}"
 
 
 def replay_lines(steps):
@@ -169,19 +197,19 @@ def signature_line(suite, signature):
     return " ".join([receipt(suite, signature), str(suite), *columns])
 
 
-def run(program, seed, number, count):
+def run(program, seed, number, count, is_strict):
     """Makes a group and compares the program with the model. It answers what differs, or None, and the counts."""
     folder = tempfile.mkdtemp(prefix=f"group-{seed}-{number}-")
     answers = collections.Counter()
     try:
-        case = make_case(seed, number, count)
+        case = make_case(seed, number, count, is_strict)
         for step in case.steps:
             words = step.answer.split()
             answers[kind_of(step.message), "accepted" if words[0] == "accepted" else int(words[1])] += 1
             answers["epochs"] += step.answer.startswith("accepted commit")
         if program:
             runs = Runs(program, folder, case)
-            for each in (runs.replays, runs.gate, runs.signatures, runs.epochs):
+            for each in (runs.starts, runs.replays, runs.gate, runs.signatures, runs.epochs):
                 each()
     except Mismatch as differs:
         return f"group {number}: {differs}", answers
@@ -207,12 +235,13 @@ def main():
     parser.add_argument("--messages", type=int, default=12)
     parser.add_argument("--jobs", type=int, default=2)
     parser.add_argument("--model-only", action="store_true")
+    parser.add_argument("--strict", action="store_true")
     args = parser.parse_args()
     program = None if args.model_only else args.program
     answers, differing = collections.Counter(), 0
     with concurrent.futures.ProcessPoolExecutor(args.jobs) as pool:
         numbers = range(args.first, args.first + args.groups)
-        runs = [pool.submit(run, program, args.seed, number, args.messages) for number in numbers]
+        runs = [pool.submit(run, program, args.seed, number, args.messages, args.strict) for number in numbers]
         for differs, counted in (each.result() for each in runs):
             answers.update(counted)
             differing += differs is not None

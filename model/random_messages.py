@@ -45,6 +45,20 @@ class Maker:
         self.made += 1
         return b"%s %d" % (what.encode(), self.made) + bytes(self.chosen.choice([0, 0, 24, 60]))
 
+    # ---- what a follower without strict rules does not look at
+
+    def info_extensions(self):
+        return [Extension(4, self.name("external_pub"))]
+
+    def tag(self):
+        return self.chosen.randbytes(8)
+
+    def kem_output(self):
+        return self.chosen.randbytes(4)
+
+    def ciphertext(self):
+        return Ciphertext(b"kem", self.chosen.randbytes(2))
+
     # ---- signatures
 
     def sign(self, key, content):
@@ -66,11 +80,11 @@ class Maker:
 
     def signed_info(self, context, tree, own_tree):
         """A GroupInfo in its message, perhaps without the tree."""
-        extensions = [Extension(4, self.name("external_pub"))]
+        extensions = self.info_extensions()
         if own_tree:
             extensions.append(Extension(2, trees.encode(tree)))
         signer = self.chosen.choice(trees.members(tree))
-        info = GroupInfo(context, tuple(extensions), self.chosen.randbytes(8), signer, b"")
+        info = GroupInfo(context, tuple(extensions), self.tag(), signer, b"")
         info = info._replace(signature=self.sign(trees.leaf(tree, signer).signature_key, info_content(info)))
         return info, Message.write(Message(1, (GROUP_INFO, info)))
 
@@ -82,8 +96,8 @@ class Maker:
         return self.enclosed(framed, signature)
 
     def enclosed(self, framed, signature):
-        confirmation_tag = self.chosen.randbytes(8) if framed.content[0] == IS_COMMIT else None
-        membership_tag = self.chosen.randbytes(8) if framed.sender[0] == MEMBER else None
+        confirmation_tag = self.tag() if framed.content[0] == IS_COMMIT else None
+        membership_tag = self.tag() if framed.sender[0] == MEMBER else None
         public = PublicMessage(framed, signature, confirmation_tag, membership_tag)
         return Message.write(Message(1, (PUBLIC, public)))
 
@@ -261,7 +275,7 @@ class Maker:
         nodes = []
         for _, other in trees.filtered(tree, index):
             count = len(set(trees.resolution(tree, other)) - {2 * new for new in added})
-            ciphertexts = tuple(Ciphertext(b"kem", self.chosen.randbytes(2)) for _ in range(count))
+            ciphertexts = tuple(self.ciphertext() for _ in range(count))
             nodes.append(PathNode(self.name("path"), ciphertexts))
         return self.leaf_on(tree, index, UpdatePath(leaf, tuple(nodes)))
 
@@ -273,7 +287,7 @@ class Maker:
 
     def external_commit(self, state):
         """A client joins, or rejoins: then it has the credential or the signature key of the leaf that it removes."""
-        proposals = [(EXTERNAL_INIT, self.chosen.randbytes(4))]
+        proposals = [(EXTERNAL_INIT, self.kem_output())]
         changes = {}
         if self.chosen.random() < 0.45:
             proposals.append((REMOVE, self.member(state)))

@@ -13,8 +13,8 @@ import re
 import sys
 
 import tree as trees
-from layouts import BYTES, GroupContext, Message, TREE, whole
-from follower import MEMBER_NAMES, NAMES, Follower, Refused, first_of
+from layouts import BYTES, first_of, GroupContext, Message, TREE, whole
+from follower import MEMBER_NAMES, NAMES, Follower, Refused
 
 DATA = os.path.join(os.path.dirname(os.path.abspath(__file__)), "..", "crates", "mls_rows", "data")
 WORDS = re.compile(r'\s*("[^"]*"|\'[^\']*\'|\$[A-Z0-9_]+|H384\(|H512\(|H\(|hex\(|x[0-9]+\(|[<>()]|[0-9a-f]{2})')

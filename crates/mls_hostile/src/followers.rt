@@ -5,11 +5,9 @@ use crate::output::{Output, Stop, have};
 use crate::signatures::{add_receipts, first_info};
 use mls_apply::KnownProposal;
 use mls_check::Trusting;
-use mls_follow::{
-    Follower, Refusal, SignatureListFault, StartFault, StartRefused, StrictRefused, Taken,
-};
+use mls_follow::{Follower, Refusal, SignatureListFault, StartFault, StartRefused, Taken};
 use mls_hash::{Suite, tree_hash};
-use mls_msgs::{Profile, Rules, Sender, encode_proposal};
+use mls_msgs::{Profile, Sender, encode_proposal};
 use mls_nodes::{GroupContext, encode_context, encode_ratchet_tree};
 use mls_tree::PublicTree;
 use mls_wire::bytes_of;
@@ -144,24 +142,18 @@ fn is_handed_back(
     Ok(is_memory && refused.tree.is_none() && input.get(4..) == Some(bytes.as_slice()))
 }
 
-/// Starts a follower with these strict rules and this profile on the group of member 0 alone. Returns also whether it ran out
-/// of memory. If so, the start must return what was passed, and is repeated with that.
-fn start(alloc: Global, rules: Rules, profile: Profile) -> Result<(TrustingFollower, bool), Stop> {
+/// Starts a follower of this profile on the group of member 0 alone. Returns also whether it ran out of memory. If so, the start must
+/// return what was passed, and is repeated with that.
+fn start(alloc: Global, profile: Profile) -> Result<(TrustingFollower, bool), Stop> {
     let input = have(hex::decode(alloc, GROUP_INFO))?;
     let info = first_info(alloc, input.as_slice())?;
-    match Follower::start_by(alloc, rules, profile, info, None, Trusting) {
+    match Follower::start_in(alloc, profile, info, None, Trusting) {
         Ok(follower) => Ok((follower, false)),
         Err(refused) => {
             if !is_handed_back(alloc, &refused, input.as_slice())? {
                 return Err(Stop::NotStarted);
             }
-            let StartRefused {
-                info,
-                tree,
-                checker,
-                ..
-            } = refused;
-            match Follower::start_by(alloc, rules, profile, info, tree, checker) {
+            match Follower::start_in(alloc, profile, refused.info, refused.tree, refused.checker) {
                 Ok(follower) => Ok((follower, true)),
                 Err(_) => Err(Stop::NotStarted),
             }
@@ -229,86 +221,27 @@ pub(crate) struct Followed {
     pub(crate) receipts: String,
 }
 
-/// Passes messages to a follower. Before each message its signatures are requested.
-fn pass(
-    alloc: Global,
-    follower: &mut TrustingFollower,
-    messages: &[Vec<u8>],
-) -> Result<Followed, Stop> {
-    let mut was_refused = false;
-    let mut answers = String::new(alloc);
-    let mut receipts = String::new(alloc);
-    for message in messages {
-        let message = message.as_slice();
-        let before = state_anew(alloc, follower)?;
-        let before = before.as_slice();
-        was_refused |= push_wanted(alloc, follower, message, before, &mut receipts)?;
-        was_refused |= hand_over(alloc, follower, message, before, &mut answers)?;
-    }
-    Ok(Followed {
-        was_refused,
-        answers,
-        receipts,
-    })
-}
-
 /// Passes messages to a follower of this profile that starts on the group of member 0 alone and accepts every
-/// signature.
+/// signature. Before each message its signatures are requested.
 pub(crate) fn follow(
     alloc: Global,
     profile: Profile,
     messages: &[Vec<u8>],
 ) -> Result<Followed, Stop> {
-    let (mut follower, was_refused) = start(alloc, Rules::plain(), profile)?;
-    let mut followed = pass(alloc, &mut follower, messages)?;
-    followed.was_refused |= was_refused;
-    Ok(followed)
-}
-
-/// Adds strict rules to those of a follower, and returns whether `make_strict` ran out of memory. The state must then be
-/// unchanged, and they are added again.
-fn add_rules(alloc: Global, follower: &mut TrustingFollower, rules: Rules) -> Result<bool, Stop> {
-    let before = state_anew(alloc, follower)?;
-    let mut answer = follower.make_strict(rules);
-    let was_refused = answer == Err(StrictRefused::OutOfMemory);
-    if was_refused {
-        if follower.rules() != Rules::plain()
-            || !is_unchanged(alloc, follower, before.as_slice())?
-        {
-            return Err(Stop::Changed);
-        }
-        answer = follower.make_strict(rules);
+    let (mut follower, mut was_refused) = start(alloc, profile)?;
+    let mut answers = String::new(alloc);
+    let mut receipts = String::new(alloc);
+    for message in messages {
+        let message = message.as_slice();
+        let before = state_anew(alloc, &follower)?;
+        let before = before.as_slice();
+        was_refused |= push_wanted(alloc, &mut follower, message, before, &mut receipts)?;
+        was_refused |= hand_over(alloc, &mut follower, message, before, &mut answers)?;
     }
-    match answer {
-        Ok(()) => Ok(was_refused),
-        Err(_) => Err(Stop::NotStarted),
-    }
-}
-
-/// Starts a follower with strict rule 51, and one to which the rule is added, and passes messages to this one.
-fn follow_strictly(alloc: Global, messages: &[Vec<u8>]) -> Result<Followed, Stop> {
-    let Some(rules) = Rules::from_bits(1 << 11) else {
-        return Err(Stop::NotStarted);
-    };
-    let (strict, was_refused) = start(alloc, rules, Profile::Members)?;
-    let (mut follower, was_refused_again) = start(alloc, Rules::plain(), Profile::Members)?;
-    let was_added_again = add_rules(alloc, &mut follower, rules)?;
-    if strict.rules() != follower.rules() {
-        return Err(Stop::Changed);
-    }
-    let mut followed = pass(alloc, &mut follower, messages)?;
-    followed.was_refused |= was_refused | was_refused_again | was_added_again;
-    Ok(followed)
-}
-
-/// Returns the answers of what was followed to messages, whose signatures must have these receipts.
-fn answers_of(followed: Followed, receipts: &str) -> Result<Output, Stop> {
-    if followed.receipts.as_str() != receipts {
-        return Err(Stop::OtherSignatures);
-    }
-    Ok(Output {
-        was_refused: followed.was_refused,
-        text: followed.answers,
+    Ok(Followed {
+        was_refused,
+        answers,
+        receipts,
     })
 }
 
@@ -320,17 +253,14 @@ pub(crate) fn write_answers(
     receipts: &str,
 ) -> Result<Output, Stop> {
     let messages = bytes_of_all(alloc, messages)?;
-    answers_of(follow(alloc, profile, messages.as_slice())?, receipts)
-}
-
-/// Returns the answers to messages of a follower with strict rule 51, as [`write_answers`] does.
-pub(crate) fn write_strict_answers(
-    alloc: Global,
-    messages: &[&str],
-    receipts: &str,
-) -> Result<Output, Stop> {
-    let messages = bytes_of_all(alloc, messages)?;
-    answers_of(follow_strictly(alloc, messages.as_slice())?, receipts)
+    let followed = follow(alloc, profile, messages.as_slice())?;
+    if followed.receipts.as_str() != receipts {
+        return Err(Stop::OtherSignatures);
+    }
+    Ok(Output {
+        was_refused: followed.was_refused,
+        text: followed.answers,
+    })
 }
 
 /// Returns the bytes of messages.

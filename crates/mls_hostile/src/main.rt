@@ -23,7 +23,7 @@ mod signatures;
 mod trees;
 
 use crate::changed::try_input;
-use crate::followers::{write_answers, write_strict_answers};
+use crate::followers::write_answers;
 use crate::group::{
     ADD_ANSWERS, ADD_COMMIT, ADD_RECEIPTS, COMMIT, EXTENSIONS_ANSWERS, EXTENSIONS_COMMIT,
     EXTENSIONS_RECEIPTS, FULL_COMMIT, GROUP_INFO, JOIN_ANSWERS, JOIN_COMMIT, JOIN_RECEIPTS,
@@ -51,7 +51,6 @@ enum Call {
     StartSignatures,
     Follow(&'static [&'static str], &'static str),
     FollowInFull(&'static [&'static str], &'static str),
-    FollowStrictly(&'static [&'static str], &'static str),
     Report(Report),
 }
 
@@ -115,11 +114,6 @@ const CALLS: &[(&str, Call, &str)] = &[
         Call::FollowInFull(&[JOIN_COMMIT, RESYNC_COMMIT], JOIN_RECEIPTS),
         JOIN_ANSWERS,
     ),
-    (
-        "Follower::start_by and make_strict, wanted and take, by strict rule 51, to a commit with a path",
-        Call::FollowStrictly(&[PROPOSAL, COMMIT, PATH_COMMIT], PATH_RECEIPTS),
-        PATH_ANSWERS,
-    ),
     ("replay", Call::Report(Report::Replay), "no, 294 bytes"),
     ("run_check", Call::Report(Report::Check), "yes, 35 bytes"),
     ("validate", Call::Report(Report::Validate), "yes, 94 bytes"),
@@ -169,9 +163,6 @@ fn make(alloc: Global, call: Call) -> Result<Output, Stop> {
         }
         Call::FollowInFull(messages, receipts) => {
             write_answers(alloc, Profile::Full, messages, receipts)
-        }
-        Call::FollowStrictly(messages, receipts) => {
-            write_strict_answers(alloc, messages, receipts)
         }
         Call::Report(report) => write_report(alloc, report),
     }

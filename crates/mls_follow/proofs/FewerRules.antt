@@ -48,7 +48,7 @@ use Rattle.mls_follow.specs.MessageRules.{CommitterTree, commit_rules, committer
 use Rattle.mls_follow.specs.NextState.{Transition, after_commit, after_content, after_join, after_outside, after_proposal, after_sender, after_tree, commit_tree, committed, next, with_list}
 use Rattle.mls_follow.specs.RisingRuns.{AcceptsAll}
 use Rattle.mls_follow.specs.State.{State, last_epoch}
-use Rattle.mls_follow.specs.StrictRules.{all_rules, message_strict_rules, strict_meets, strict_rule, strict_rules, support_rules, supports_after, supports_next}
+use Rattle.mls_follow.specs.StrictRules.{all_rules, last_strict_rules, message_strict_rules, strict_meets, strict_rule, strict_rules, support_rules, supports_after, supports_next}
 use Rattle.mls_follow.specs.StrictRuns.{FewerAccept, FewerAcceptAll, FewerRefuseAlike, FewerStepAlike, Includes, LeastFailedRefuses, MoreRefuse, NextKeepsRules, PlainRefusalsStay, StrictIsPlain, first_failed, is_strict, judged_strict_rules, public_meets, step_with_rules, with_rules}
 use Rattle.mls_follow.specs.declared.taken.Taken.{Taken}
 use Rattle.mls_follow.specs.declared.taken.Taken.TheVariants as takens
@@ -252,15 +252,17 @@ module _ (s : State) (asked : Rules) (p : PublicParts) where
   abbrev Unmet : List StrictRule → Option StrictRule
   Unmet rs = first_unmet asked (public_meets s p) rs
 
-  support_last : first_failing (support_rules asked (supports_next (next (with_rules s asked) (messages.Public p))))
-      ≡ option_map refusals.Strict (Unmet (rules.GroupExtensionUnsupported ∷ []))
-  support_last =
-      ap (λ (b : Bool). first_failing (support_rules asked b)) (ap supports_next (next_keeps s asked (messages.Public p)) ∙ support_same asked (next s (messages.Public p)))
+  -- 51, and what comes after it
+  support_first : (qs : List (Rule Refusal)) (ws : List StrictRule) → first_failing qs ≡ option_map refusals.Strict (Unmet ws)
+      → first_failing (support_rules asked (supports_next (next (with_rules s asked) (messages.Public p))) ++ qs)
+      ≡ option_map refusals.Strict (Unmet (rules.GroupExtensionUnsupported ∷ ws))
+  support_first qs ws last =
+      ap (λ (b : Bool). first_failing (support_rules asked b ++ qs)) (ap supports_next (next_keeps s asked (messages.Public p)) ∙ support_same asked (next s (messages.Public p)))
       ∙ go (not (has_rule asked (strict_number rules.GroupExtensionUnsupported)) || supports_next (next s (messages.Public p)))
     where
-      go : (b : Bool) → first_failing (rule (refusals.Strict rules.GroupExtensionUnsupported) b ∷ [])
-          ≡ option_map refusals.Strict (if b then None else Some rules.GroupExtensionUnsupported)
-      go true = refl
+      go : (b : Bool) → first_failing (rule (refusals.Strict rules.GroupExtensionUnsupported) b ∷ qs)
+          ≡ option_map refusals.Strict (if b then Unmet ws else Some rules.GroupExtensionUnsupported)
+      go true = last
       go false = refl
 
   -- the rules of a list that are about the message by itself
@@ -298,8 +300,9 @@ module _ (s : State) (asked : Rules) (p : PublicParts) where
 
   strict_alike : first_failing (strict_rules (with_rules s asked) (messages.Public p)) ≡ option_map refusals.Strict (first_failed asked s (messages.Public p))
   strict_alike =
-      by_list message_strict_rules (support_rules asked (supports_next (next (with_rules s asked) (messages.Public p))))
-      (rules.GroupExtensionUnsupported ∷ []) refl support_last
+      let last = map (strict_rule (with_rules s asked) p) last_strict_rules in
+      by_list message_strict_rules (support_rules asked (supports_next (next (with_rules s asked) (messages.Public p))) ++ last)
+      (rules.GroupExtensionUnsupported ∷ last_strict_rules) refl (support_first last last_strict_rules (by_list last_strict_rules [] [] refl refl))
 
 strict_failed : (s : State) (asked : Rules) (m : Message)
     → first_failing (strict_rules (with_rules s asked) m) ≡ option_map refusals.Strict (first_failed asked s m)

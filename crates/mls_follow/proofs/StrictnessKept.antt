@@ -39,9 +39,9 @@ use Rattle.mls_msgs.specs.declared.public_message.PublicParts.{PublicParts}
 use Rattle.mls_msgs.specs.declared.rules.Rules.{Rules}
 use Rattle.mls_msgs.specs.declared.strict_rule.StrictRule.{StrictRule}
 use Rattle.mls_msgs.specs.declared.strict_rule.StrictRule.TheVariants as rules
-use Rattle.mls_strict.specs.ContentForms.{content_meets, content_refusal, content_rules, entry_meets, extensions_meet, first_unmet, node_meets, package_meets, path_meets, proposal_meets, proposal_refusal}
+use Rattle.mls_strict.specs.ContentForms.{ciphertext_meets, content_meets, content_refusal, content_rules, entry_meets, extensions_meet, first_unmet, node_meets, package_meets, path_meets, proposal_meets, proposal_refusal}
 use Rattle.mls_strict.specs.ExtensionLists.{has_each_once}
-use Rattle.mls_strict.specs.KeyForms.{is_hpke_key}
+use Rattle.mls_strict.specs.KeyForms.{is_hpke_key, is_suite_point}
 use Rattle.mls_strict.specs.LeafForms.{leaf_meets, supports_all}
 use Rattle.mls_strict.specs.StrictTrees.{IsStrict, Meets, tree_node_meets}
 use Rattle.mls_apply.specs.AppliedList.{outcome}
@@ -62,8 +62,8 @@ use Rattle.mls_follow.specs.NextState.{Transition, after_commit, after_content, 
 use Rattle.mls_follow.specs.Runs.{Call, IsRun, IsTransition}
 use Rattle.mls_follow.proofs.Stepping.{taken}
 use Rattle.mls_follow.specs.State.{State}
-use Rattle.mls_follow.specs.StrictRules.{all_rules, supports_after, supports_extensions, supports_next, tag_meets}
-use Rattle.mls_follow.specs.StrictRulesInternal.{support_refusal, unmet_rule}
+use Rattle.mls_follow.specs.StrictRules.{all_rules, support_rules, supports_after, supports_extensions, supports_next, tag_meets}
+use Rattle.mls_follow.specs.StrictRulesInternal.{or_then, support_refusal, unmet_rule}
 use Rattle.mls_follow.specs.StrictnessKept.{IsStrictState, StartsAreStrict, RunsKeepStrictness, RunsKeepRules, FollowersAreStrict, AddedRulesKeepStrictness}
 use Rattle.mls_follow.specs.declared.taken.Taken.{Taken}
 use Rattle.mls_follow.proofs.Answering.{one_message}
@@ -113,6 +113,8 @@ IsOfNodes rules.KeyForm = Unit {0}
 IsOfNodes rules.GroupUnlisted = Unit {0}
 IsOfNodes rules.DefaultListed = Unit {0}
 IsOfNodes rules.LifetimeEmpty = Unit {0}
+IsOfNodes rules.CertificateKey = Unit {0}
+IsOfNodes rules.PointOffCurve = Unit {0}
 IsOfNodes r = ⊥
 
 met_of : (asked : Rules) (meets : StrictRule → Bool) → first_unmet asked meets content_rules ≡ None → (r : StrictRule) → IsOfNodes r
@@ -127,11 +129,14 @@ met_of asked meets none r of = go r of (each_met asked meets content_rules none)
     go rules.GroupUnlisted of all = all.1.1.1.1.1.0
     go rules.DefaultListed of all = all.1.1.1.1.1.1.0
     go rules.LifetimeEmpty of all = all.1.1.1.1.1.1.1.0
+    go rules.CertificateKey of all = all.1.1.1.1.1.1.1.1.0
+    go rules.PointOffCurve of all = all.1.1.1.1.1.1.1.1.1.1.0
     go r of all = absurd of
 
 -- what is demanded of a key of a parent
 abbrev key_meets : ℕ → StrictRule → List ℕ → Bool
 key_meets suite rules.KeyForm key = is_hpke_key suite key
+key_meets suite rules.PointOffCurve key = is_suite_point suite key
 key_meets suite r key = true
 
 leaf_alike : (context : GroupContext) (r : StrictRule) (x : LeafNode) → IsOfNodes r
@@ -141,16 +146,21 @@ leaf_alike context r x of = refl
 
 parent_alike : (context : GroupContext) (r : StrictRule) (p : ParentNode) → tree_node_meets context r (parent_node p) ≡ key_meets context.cipher_suite r p.encryption_key
 parent_alike context rules.KeyForm p = refl
+parent_alike context rules.PointOffCurve p = refl
 parent_alike context r p = refl
 
-key_alike : (suite : ℕ) (r : StrictRule) (n : PathNode) → IsOfNodes r → node_meets suite r n ≡ key_meets suite r n.encryption_key
-key_alike suite rules.KeyForm n of = refl
-key_alike suite rules.CiphertextForm n of = absurd of
-key_alike suite r n of = refl
+-- a path node that meets the rule has such a key
+key_met : (suite : ℕ) (r : StrictRule) (n : PathNode) → IsOfNodes r → node_meets suite r n ≡ true → key_meets suite r n.encryption_key ≡ true
+key_met suite rules.KeyForm n of h = h
+key_met suite rules.CiphertextForm n of h = absurd of
+key_met suite rules.PointOffCurve n of h =
+    and-left (is_suite_point suite n.encryption_key) (list_all (ciphertext_meets suite rules.PointOffCurve) n.ciphertexts) h
+key_met suite r n of h = refl
 
 package_leaf : (version suite : ℕ) (r : StrictRule) (k : KeyPackage) → package_meets version suite r k ≡ true → leaf_meets version suite r k.leaf_node ≡ true
 package_leaf version suite rules.ExtensionRepeated k h = and-right (has_each_once k.extensions) (leaf_meets version suite rules.ExtensionRepeated k.leaf_node) h
 package_leaf version suite rules.KeyForm k h = and-right (is_hpke_key suite k.init_key) (leaf_meets version suite rules.KeyForm k.leaf_node) h
+package_leaf version suite rules.PointOffCurve k h = and-right (is_suite_point suite k.init_key) (leaf_meets version suite rules.PointOffCurve k.leaf_node) h
 package_leaf version suite r k h = h
 
 -- of one of these rules, in a group with this version and suite
@@ -273,7 +283,7 @@ module _ (context : GroupContext) (r : StrictRule) (of : IsOfNodes r) where
   keys_met [] h = All-nil OfKey
   keys_met (n ∷ ns) h =
       All-cons OfKey n.encryption_key (map (λ (m : PathNode). m.encryption_key) ns)
-      (sym (key_alike context.cipher_suite r n of) ∙ and-left (node_meets context.cipher_suite r n) (list_all (node_meets context.cipher_suite r) ns) h)
+      (key_met context.cipher_suite r n of (and-left (node_meets context.cipher_suite r n) (list_all (node_meets context.cipher_suite r) ns) h))
       (keys_met ns (and-right (node_meets context.cipher_suite r n) (list_all (node_meets context.cipher_suite r) ns) h))
 
   path_met : (path : Option UpdatePath) → path_meets context r path ≡ true → IsGoodPath OfLeafNode OfKey path
@@ -302,9 +312,7 @@ known_push asked context (x ∷ xs) k h none = (h.0, known_push asked context xs
 abbrev IsIdle : StrictRule → Type 0
 IsIdle rules.TagLength = Unit {0}
 IsIdle rules.CiphertextForm = Unit {0}
-IsIdle rules.CertificateKey = Unit {0}
 IsIdle rules.PskAhead = Unit {0}
-IsIdle rules.PointOffCurve = Unit {0}
 IsIdle r = ⊥
 
 idle_node : (context : GroupContext) (r : StrictRule) → IsIdle r → (n : NodeValue) → tree_node_meets context r n ≡ true
@@ -312,12 +320,8 @@ idle_node context rules.TagLength idle (leaf_node x) = refl
 idle_node context rules.TagLength idle (parent_node p) = refl
 idle_node context rules.CiphertextForm idle (leaf_node x) = refl
 idle_node context rules.CiphertextForm idle (parent_node p) = refl
-idle_node context rules.CertificateKey idle (leaf_node x) = refl
-idle_node context rules.CertificateKey idle (parent_node p) = refl
 idle_node context rules.PskAhead idle (leaf_node x) = refl
 idle_node context rules.PskAhead idle (parent_node p) = refl
-idle_node context rules.PointOffCurve idle (leaf_node x) = refl
-idle_node context rules.PointOffCurve idle (parent_node p) = refl
 idle_node context r idle n = absurd idle
 
 idle_extensions : (r : StrictRule) (es : List Extension) → IsIdle r → extensions_meet r es ≡ true
@@ -415,10 +419,10 @@ module _ (s : State) (strict : IsStrictState s) where
         group rules.GroupUnlisted has = new_nodes hash confirmed interim rules.GroupUnlisted tt has
         group rules.DefaultListed has = new_nodes hash confirmed interim rules.DefaultListed tt has
         group rules.LifetimeEmpty has = new_nodes hash confirmed interim rules.LifetimeEmpty tt has
-        group rules.CertificateKey has = idle_meets (After hash confirmed interim).state.context t rules.CertificateKey tt
+        group rules.CertificateKey has = new_nodes hash confirmed interim rules.CertificateKey tt has
         group rules.PskAhead has = idle_meets (After hash confirmed interim).state.context t rules.PskAhead tt
         group rules.GroupExtensionUnsupported has = support_meets (After hash confirmed interim).state.context t (supported has)
-        group rules.PointOffCurve has = idle_meets (After hash confirmed interim).state.context t rules.PointOffCurve tt
+        group rules.PointOffCurve has = new_nodes hash confirmed interim rules.PointOffCurve tt has
 
     by_tree : (step : Transition) → (has_rule s.rules 51 ≡ true → supports_after step.taken step.state ≡ true)
         → after_tree (with_list s (Some items)) a t ≡ Some step → IsStrictState step.state
@@ -500,6 +504,11 @@ module _ (s : State) (strict : IsStrictState s) where
 
 none_refuses : (asked : Rules) (o : Option StrictRule) (b : Bool) → support_refusal asked o b ≡ None → o ≡ None
 none_refuses asked None b e = refl
+none_refuses asked (Some rules.PointOffCurve) b e = absurd (some_refuses (first_failing (support_rules asked b)) e)
+  where
+    some_refuses : (o : Option Refusal) → or_then o (Some (Strict rules.PointOffCurve)) ≡ None → ⊥
+    some_refuses None e = none-some (Strict rules.PointOffCurve) (sym e)
+    some_refuses (Some f) e = none-some f (sym e)
 none_refuses asked (Some r) b e = absurd (none-some (Strict r) (sym e))
 
 module _ (s : State) (p : PublicParts) where

@@ -1,5 +1,5 @@
 -- The leaf nodes of a follower with strict rule 51 support the types of the context's extensions.
-use Rattle.std.proofs.Common.{◌≡◌, ◌∙◌, ◌*◌, ℕ, ◌+◌, List, Bool, true, false, is_none, is_some, Option, Some, None, refl, sym, ap, subst}
+use Rattle.std.proofs.Common.{◌≡◌, ◌∙◌, ◌*◌, ℕ, ◌+◌, List, ◌++◌, Bool, true, false, is_none, is_some, Option, Some, None, refl, sym, ap, subst}
 use Rattle.std.specs.Prelude.{map, ◌&&◌, ◌||◌, not}
 use Rattle.std.proofs.lemmas.Bool.{false≢true}
 use Rattle.std.proofs.lemmas.Option.{none-some}
@@ -26,7 +26,7 @@ use Rattle.mls_apply.specs.RuleLists.{first_failing}
 use Rattle.mls_apply.proofs.RuleLists.{AreKept, passed_both, passed}
 use Rattle.mls_follow.specs.State.{State}
 use Rattle.mls_follow.specs.NextState.{Transition, next}
-use Rattle.mls_follow.specs.StrictRules.{all_rules, message_strict_rules, strict_rule, support_rules, supports_after, supports_extensions, supports_next}
+use Rattle.mls_follow.specs.StrictRules.{all_rules, last_strict_rules, message_strict_rules, strict_rule, support_rules, supports_after, supports_extensions, supports_next}
 use Rattle.mls_follow.specs.Acceptance.{IsAcceptable, IsNext}
 use Rattle.mls_follow.proofs.Answering.{one_message}
 use Rattle.mls_follow.proofs.StrictLists.{strict_kept}
@@ -91,9 +91,11 @@ module _ (G : VerifyFn) (s : State) (has : has_rule s.rules 51 ≡ true) where
       → supports_after step.taken step.state ≡ true
   next_supports required (messages.Public p) step kept e =
       subst (λ (o : Option Transition). supports_next o ≡ true) e
-      (rule_supports s.rules (supports_next (next s (messages.Public p))) has
-      (passed_both (map (strict_rule s p) message_strict_rules) (support_rules s.rules (supports_next (next s (messages.Public p))))
-      (record { none = strict_kept G s required (messages.Public p) kept })).1)
+      (let support = support_rules s.rules (supports_next (next s (messages.Public p))) in
+      let last = map (strict_rule s p) last_strict_rules in
+      let later = (passed_both (map (strict_rule s p) message_strict_rules) (support ++ last)
+      (record { none = strict_kept G s required (messages.Public p) kept })).1 in
+      rule_supports s.rules (supports_next (next s (messages.Public p))) has (passed_both support last later).0)
   next_supports required (messages.Unread w b) step kept e = absurd (none-some step e)
   next_supports required (messages.GroupInfo g) step kept e = absurd (none-some step e)
   next_supports required (messages.KeyPackage k) step kept e = absurd (none-some step e)

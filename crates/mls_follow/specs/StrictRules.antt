@@ -1,5 +1,5 @@
--- The strict rules for a message (own rule), which come after those of the profile. The rules 40 to 50 are for the message by
--- itself, in a group with this GroupContext; 51 is for the state after it. `s` is the state. Used by contracts.
+-- The strict rules for a message (own rule), which come after those of the profile. The rules 40 to 50 and 52 are for the
+-- message by itself, in a group with this GroupContext; 51 is for the state after it. `s` is the state. Used by contracts.
 use Rattle.std.specs.Prelude.{ℕ, ◌==◌, Bool, true, ◌&&◌, ◌||◌, not, List, [], ◌∷◌, ◌++◌, length, map, Option, Some, None}
 use Rattle.mls_nodes.specs.declared.extension.Extension.{Extension}
 use Rattle.mls_nodes.specs.declared.required_capabilities.RequiredCapabilities.{RequiredCapabilities}
@@ -32,12 +32,11 @@ tag_meets suite None = true
 tag_meets suite (Some tag) = length tag == hash_length suite
 
 -- `strict_meets s r m`: the PublicMessage by itself meets the strict rule: its confirmation tag and its membership tag do (40),
--- or its content does (41 to 50).
+-- or its content does (41 to 50 and 52).
 abbrev pub strict_meets : State → StrictRule → PublicParts → Bool
 strict_meets s rules.TagLength m =
     tag_meets s.context.cipher_suite m.auth.confirmation_tag && tag_meets s.context.cipher_suite m.membership_tag
 strict_meets s rules.GroupExtensionUnsupported m = true
-strict_meets s rules.PointOffCurve m = true
 strict_meets s r m = content_meets s.context r m.auth.content.content
 
 -- `supports_extensions es t`: each non-blank leaf of the tree supports the types of the extensions (RFC 9420, 13.4).
@@ -62,6 +61,10 @@ message_strict_rules =
     ∷ rules.CiphertextForm ∷ rules.GroupUnlisted ∷ rules.DefaultListed ∷ rules.LifetimeEmpty ∷ rules.CertificateKey
     ∷ rules.PskAhead ∷ []
 
+-- `last_strict_rules` are those that come after 51.
+abbrev pub last_strict_rules : List StrictRule
+last_strict_rules = rules.PointOffCurve ∷ []
+
 -- `strict_rule s m r` is the rule that the PublicMessage by itself meets the strict rule, if the state has it.
 abbrev pub strict_rule : State → PublicParts → StrictRule → Rule Refusal
 strict_rule s m r = rule (Strict r) (not (has_rule s.rules (strict_number r)) || strict_meets s r m)
@@ -72,11 +75,12 @@ support_rules asked supported =
     rule (Strict rules.GroupExtensionUnsupported)
     (not (has_rule asked (strict_number rules.GroupExtensionUnsupported)) || supported) ∷ []
 
--- `strict_rules s m` is the strict rules for a message, by number: 40 to 50, and then 51 for the next state. No other rule is
--- left for a message that is no PublicMessage.
+-- `strict_rules s m` is the strict rules for a message, by number: 40 to 50, then 51 for the next state, and 52. No other rule
+-- is left for a message that is no PublicMessage.
 abbrev pub strict_rules : State → Message → List (Rule Refusal)
 strict_rules s (messages.Public m) =
-    map (strict_rule s m) message_strict_rules ++ support_rules s.rules (supports_next (next s (messages.Public m)))
+    map (strict_rule s m) message_strict_rules
+    ++ (support_rules s.rules (supports_next (next s (messages.Public m))) ++ map (strict_rule s m) last_strict_rules)
 strict_rules s (messages.Unread _ _) = []
 strict_rules s (messages.GroupInfo _) = []
 strict_rules s (messages.KeyPackage _) = []

@@ -21,7 +21,7 @@ use Rattle.mls_follow.specs.MessageRules.{message_rules}
 use Rattle.mls_follow.specs.NextState.{Transition, next}
 use Rattle.mls_follow.specs.RisingRuns.{AcceptsAll}
 use Rattle.mls_follow.specs.State.{State}
-use Rattle.mls_follow.specs.StrictRules.{all_rules, message_strict_rules, strict_meets, supports_next}
+use Rattle.mls_follow.specs.StrictRules.{all_rules, last_strict_rules, message_strict_rules, strict_meets, supports_next}
 
 -- `with_rules s asked` is the state `s` with these strict rules.
 abbrev pub with_rules : State → Rules → State
@@ -42,7 +42,7 @@ public_meets s p r = strict_meets s r p
 
 -- `judged_strict_rules` are the strict rules for a message, by number.
 abbrev pub judged_strict_rules : List StrictRule
-judged_strict_rules = message_strict_rules ++ rules.GroupExtensionUnsupported ∷ []
+judged_strict_rules = message_strict_rules ++ (rules.GroupExtensionUnsupported ∷ last_strict_rules)
 
 -- `first_failed asked s m` is the first rule of the set that the message does not meet.
 abbrev pub first_failed : Rules → State → Message → Option StrictRule

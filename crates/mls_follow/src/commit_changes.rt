@@ -32,7 +32,7 @@ use crate::group::{Group, StagedContext};
 use crate::next_extensions::copy_of_proposed;
 use crate::proposals_by_value::check_inline;
 use crate::resolved::{ReceivedCommit, ResolvedCommit};
-use crate::strict_rules::check_support;
+use crate::strict_rules::check_strict_commit;
 use mls_apply::{
     CommitterPath, EpochState, Leaves, ListItem, Refusal, StagedTree, check_join, check_list,
     have_distinct_added_keys, join_items, resolve_list,
@@ -330,10 +330,7 @@ pub(crate) fn stage_strict_commit<C: SignatureCheck>(
 {
     let staged = stage_commit(alloc, rules, checker, tree, commit)?;
     let extensions = extensions_after(rules.context, &staged);
-    let answer = match commit.strict {
-        Some(rule) => Err(Refusal::Strict(rule)),
-        None => check_support(alloc, rules, checker, tree, extensions),
-    };
+    let answer = check_strict_commit(alloc, rules, checker, tree, commit.strict, extensions);
     if let Err(refusal) = answer {
         drop(staged);
         return Err(refusal);

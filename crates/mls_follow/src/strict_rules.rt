@@ -6,7 +6,7 @@ ghost use Rattle.mls_apply.specs.RuleLists.{first_failing};
 ghost use Rattle.mls_follow.specs.GroupModel.{group_state};
 ghost use Rattle.mls_follow.specs.StrictRules.{support_rules, supports_extensions, tag_meets};
 ghost use Rattle.mls_follow.specs.AcceptanceInternal.{FailsWithRule};
-ghost use Rattle.mls_follow.specs.StrictRulesInternal.{unmet_rule};
+ghost use Rattle.mls_follow.specs.StrictRulesInternal.{commit_strict_refusal, unmet_rule};
 
 use crate::changed_tree_check::TreeRules;
 use crate::group::Group;
@@ -30,7 +30,8 @@ fn tag_meets(suite: Suite, tag: Option<&Opaque>) -> bool
     }
 }
 
-/// Returns the first strict rule of the group's set from 40 to 50 that a PublicMessage does not meet. Allocates nothing.
+/// Returns the first strict rule of the group's set, but for 51, that a PublicMessage does not meet by itself. Allocates
+/// nothing.
 #[tactic(auto, using(crate::proofs::StrictLists::tags_unmet, crate::proofs::StrictLists::content_unmet))]
 pub(crate) fn unmet_rule(group: &Group, public: &PublicMessage) -> Option<StrictRule>
     ensures { result ≡ unmet_rule (group_state group.now) public.now }
@@ -77,7 +78,7 @@ fn supports_extensions<C: SignatureCheck>(
 
 /// Checks that each leaf of the tree after a commit supports the types of these extensions, if the follower has strict rule 51
 /// (RFC 9420, 12.1.7 and 13.4).
-pub(crate) fn check_support<C: SignatureCheck>(
+fn check_support<C: SignatureCheck>(
     alloc: Global,
     rules: &TreeRules<'_>,
     checker: &C,
@@ -96,4 +97,32 @@ pub(crate) fn check_support<C: SignatureCheck>(
         return Err(Refusal::Strict(StrictRule::GroupExtensionUnsupported));
     }
     Ok(())
+}
+
+/// Checks that a commit meets the strict rules: those for its message by itself, of which `unmet` is the first that it does
+/// not meet, and 51, for the tree after it. Of those for the message only `PointOffCurve` (52) comes after 51.
+#[tactic(auto, using(crate::proofs::StrictLists::other_first, crate::proofs::StrictLists::point_last, crate::proofs::StrictLists::point_later))]
+pub(crate) fn check_strict_commit<C: SignatureCheck>(
+    alloc: Global,
+    rules: &TreeRules<'_>,
+    checker: &C,
+    tree: &StagedTree,
+    unmet: Option<StrictRule>,
+    extensions: &Extensions,
+) -> Result<(), Refusal>
+    requires is_index_of_tree { tree.now.indexed ≡ true }
+    requires supported { has_rule rules.now.asked 51 ≡ true
+        → supports_extensions rules.now.context.now.extensions tree.now.base ≡ true }
+    ensures rules_hold { OnOk result (commit_strict_refusal rules.now.asked unmet extensions.now tree.now.tree ≡ None) }
+    ensures refused { IfErr result (FailsWithRule (commit_strict_refusal rules.now.asked unmet extensions.now
+        tree.now.tree)) }
+{
+    match unmet {
+        None => check_support(alloc, rules, checker, tree, extensions),
+        Some(StrictRule::PointOffCurve) => {
+            check_support(alloc, rules, checker, tree, extensions)?;
+            Err(Refusal::Strict(StrictRule::PointOffCurve))
+        }
+        Some(rule) => Err(Refusal::Strict(rule)),
+    }
 }

@@ -10,9 +10,11 @@ use Rattle.mls_msgs.specs.declared.rules.Rules.{Rules}
 use Rattle.mls_msgs.specs.declared.strict_rule.StrictRule.{StrictRule}
 use Rattle.mls_msgs.specs.declared.strict_rule.StrictRule.TheVariants.{TagLength, ExtensionRepeated, ExtensionMisplaced, ExtensionUnreadable, KeyForm, CiphertextForm, GroupUnlisted, DefaultListed, LifetimeEmpty, CertificateKey, PskAhead, GroupExtensionUnsupported, PointOffCurve}
 use Rattle.mls_strict.specs.ContentForms.{extensions_meet}
-use Rattle.mls_strict.specs.StrictTrees.{FailsAt, IsStrict, IsStrictFault, Meets, NoFaultOfStrict, StrictFaultIsUnique, tree_node_meets}
-use Rattle.mls_strict.specs.StrictTreesInternal.{FindsFailingNode, HoldsBelow}
+use Rattle.mls_strict.specs.StrictTrees.{FailsAt, IsStrict, IsStrictFault, Meets, NoFaultOfStrict, StrictFaultIsUnique, IsStrictTreeFault, tree_node_meets}
+use Rattle.mls_strict.specs.StrictTreesInternal.{FindsFailingNode, HoldsBelow, IsFaultOf}
 use Rattle.mls_strict.specs.declared.strict_fault.StrictFault.{StrictFault}
+use Rattle.mls_strict.specs.declared.strict_fault.StrictTreeFault.{StrictTreeFault}
+use Rattle.mls_strict.specs.declared.strict_fault.StrictTreeFault.TheVariants.{Strict, OutOfMemory}
 use Rattle.mls_strict.specs.declared.strict_tree.TheConstants.{STRICT_RULES}
 use Rattle.mls_strict.proofs.TreeNodes.{HoldsBelow-blank, HoldsBelow-node, HoldsBelow-whole}
 
@@ -193,3 +195,18 @@ fault_is_unique asked context t one other h k =
       | inr (inl less) ↦ absurd (fails_nowhere context t one.rule one.place (k.earlier one.rule less h.is_asked) h.fails)
       | inr (inr more) ↦ absurd (fails_nowhere context t other.rule other.place (h.earlier other.rule more k.is_asked) k.fails)
     ]
+
+-- ---- the fault of one rule, after those before it
+
+module _ (asked : Rules) (context : GroupContext) (t : Tree) where
+  pub fault-named : (k : ℕ) (s : StrictRule) (e : StrictTreeFault) → strict_number s ≡ 40 + k → has_rule asked (strict_number s) ≡ true
+      → ((r : StrictRule) → strict_number r < 40 + k → has_rule asked (strict_number r) ≡ true → Meets context t r)
+      → IsFaultOf context t s e → IsStrictTreeFault asked context t e
+  fault-named k s OutOfMemory number is_asked below fails = tt
+  fault-named k s (Strict fault) number is_asked below fails =
+      let same : fault.rule ≡ s = fails.0 in
+      record {
+        is_asked = rw same is_asked;
+        fails = rw same fails.1;
+        earlier = λ r low a. below r (omega (arith, ap strict_number same)) a;
+      }

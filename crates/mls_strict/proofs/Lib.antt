@@ -6,3 +6,5 @@ pub mod Senders
 pub mod CiphertextLists
 pub mod TreeNodes
 pub mod FirstFaults
+pub mod DerElements
+pub mod CertificateChains

@@ -26,16 +26,18 @@ use Rattle.mls_msgs.specs.declared.rules.Rules.{Rules}
 use Rattle.mls_msgs.specs.declared.strict_rule.StrictRule.{StrictRule}
 use Rattle.mls_msgs.specs.declared.strict_rule.StrictRule.TheVariants as rules
 use Rattle.mls_strict.specs.ExtensionLists.{has_each_once, has_readable_senders}
-use Rattle.mls_strict.specs.KeyForms.{is_hpke_key}
+use Rattle.mls_strict.specs.KeyForms.{is_hpke_key, is_suite_point}
 use Rattle.mls_strict.specs.LeafForms.{leaf_meets}
 
 -- `package_meets version suite r kp`: the KeyPackage meets the strict rule: its leaf node does, its list of extensions has
--- each type once, and its init key has the form of the suite (RFC 9420, 10).
+-- each type once, and its init key has the form of the suite and is a point of its curve (RFC 9420, 10).
 abbrev pub package_meets : ℕ → ℕ → StrictRule → KeyPackage → Bool
 package_meets version suite rules.ExtensionRepeated kp =
     has_each_once kp.extensions && leaf_meets version suite rules.ExtensionRepeated kp.leaf_node
 package_meets version suite rules.KeyForm kp =
     is_hpke_key suite kp.init_key && leaf_meets version suite rules.KeyForm kp.leaf_node
+package_meets version suite rules.PointOffCurve kp =
+    is_suite_point suite kp.init_key && leaf_meets version suite rules.PointOffCurve kp.leaf_node
 package_meets version suite r kp = leaf_meets version suite r kp.leaf_node
 
 -- `is_held context k`: a resumption PSK of usage application is not of this group in a later epoch than the current one
@@ -64,6 +66,8 @@ proposal_meets context r (proposals.PreSharedKey id) = true
 proposal_meets context rules.ExtensionRepeated (proposals.ReInit reinit) = has_each_once reinit.extensions
 proposal_meets context r (proposals.ReInit reinit) = true
 proposal_meets context rules.CiphertextForm (proposals.ExternalInit kem_output) = is_hpke_key context.cipher_suite kem_output
+proposal_meets context rules.PointOffCurve (proposals.ExternalInit kem_output) =
+    is_suite_point context.cipher_suite kem_output
 proposal_meets context r (proposals.ExternalInit kem_output) = true
 
 -- `is_ciphertext suite c`: its kem_output has the form of the suite's KEM, and it encrypts a path secret, of the length of
@@ -71,10 +75,18 @@ proposal_meets context r (proposals.ExternalInit kem_output) = true
 unfoldable pub is_ciphertext : ℕ → Ciphertext → Bool
 is_ciphertext suite c = is_hpke_key suite c.kem_output && (length c.ciphertext == hash_length suite + 16)
 
+-- `ciphertext_meets suite r c`: the ciphertext meets the strict rule (RFC 9420, 7.6).
+abbrev pub ciphertext_meets : ℕ → StrictRule → Ciphertext → Bool
+ciphertext_meets suite rules.CiphertextForm c = is_ciphertext suite c
+ciphertext_meets suite rules.PointOffCurve c = is_suite_point suite c.kem_output
+ciphertext_meets suite r c = true
+
 -- `node_meets suite r n`: the path node meets the strict rule (RFC 9420, 7.6).
 abbrev pub node_meets : ℕ → StrictRule → PathNode → Bool
 node_meets suite rules.KeyForm n = is_hpke_key suite n.encryption_key
-node_meets suite rules.CiphertextForm n = list_all (is_ciphertext suite) n.ciphertexts
+node_meets suite rules.CiphertextForm n = list_all (ciphertext_meets suite rules.CiphertextForm) n.ciphertexts
+node_meets suite rules.PointOffCurve n =
+    is_suite_point suite n.encryption_key && list_all (ciphertext_meets suite rules.PointOffCurve) n.ciphertexts
 node_meets suite r n = true
 
 -- `path_meets context r path`: the path, if there is one, meets the strict rule.
@@ -100,7 +112,8 @@ content_meets context r (contents.Commit c) =
 abbrev pub content_rules : List StrictRule
 content_rules =
     rules.ExtensionRepeated ∷ rules.ExtensionMisplaced ∷ rules.ExtensionUnreadable ∷ rules.KeyForm ∷ rules.CiphertextForm
-    ∷ rules.GroupUnlisted ∷ rules.DefaultListed ∷ rules.LifetimeEmpty ∷ rules.PskAhead ∷ []
+    ∷ rules.GroupUnlisted ∷ rules.DefaultListed ∷ rules.LifetimeEmpty ∷ rules.CertificateKey ∷ rules.PskAhead
+    ∷ rules.PointOffCurve ∷ []
 
 -- `first_unmet asked meets rs` is the first of these rules that the set has and that is not met.
 abbrev pub first_unmet : Rules → (StrictRule → Bool) → List StrictRule → Option StrictRule

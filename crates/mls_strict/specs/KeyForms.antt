@@ -1,6 +1,9 @@
 -- The forms of keys (RFC 9420, 5.1.1). A key is a list of bytes. Used by contracts.
-use Rattle.std.specs.Prelude.{ℕ, ◌+◌, ◌-◌, ◌*◌, ◌%◌, ◌^◌, ◌==◌, nat_le, nat_lt, Bool, false, ◌&&◌, ◌||◌, not, if◌then◌else◌, List, [], ◌∷◌, length}
+use Rattle.std.specs.Prelude.{ℕ, ◌+◌, ◌-◌, ◌*◌, ◌%◌, ◌^◌, ◌==◌, nat_le, nat_lt, Bool, true, false, ◌&&◌, ◌||◌, not, if◌then◌else◌, List, [], ◌∷◌, length, Option, Some, None}
 use Rattle.std.specs.List.{list_any}
+use Rattle.mls_curve.specs.Curves.{is_on_curve}
+use Rattle.mls_curve.specs.declared.curve.Curve.{Curve}
+use Rattle.mls_curve.specs.declared.curve.Curve.TheVariants.{P256, P384, P521}
 use Rattle.mls_hash.specs.Suites.{hpke_key_length, signature_key_length}
 
 -- `has_curve25519 suite`: the suite has X25519 and Ed25519 (RFC 9420, 17.1).
@@ -64,3 +67,18 @@ is_signature_key suite b =
     (length b == signature_key_length suite)
     && (if has_curve25519 suite then is_canonical 255 prime_25519 (le_number b)
     else (if has_curve448 suite then is_canonical 455 prime_448 (le_number b) else begins_with 4 b))
+
+-- `curve_of suite` is the curve of the suite's KEM, if it is one of P-256, P-384 and P-521 (RFC 9420, 17.1).
+unfoldable pub curve_of : ℕ → Option Curve
+curve_of suite =
+    if suite == 2 then Some P256 else (if suite == 5 then Some P521 else (if suite == 7 then Some P384 else None))
+
+-- `is_on_curve_if_any curve b`: the bytes are an uncompressed point of the curve, if there is one.
+abbrev pub is_on_curve_if_any : Option Curve → List ℕ → Bool
+is_on_curve_if_any None b = true
+is_on_curve_if_any (Some curve) b = is_on_curve curve b
+
+-- `is_suite_point suite b`: the bytes are a point of the curve of the suite's KEM, which a public key and a `kem_output` are
+-- (RFC 9420, 5.1.1; RFC 9180, 7.1.4). Of X25519 and X448, where each coordinate is that of a point, nothing is demanded.
+unfoldable pub is_suite_point : ℕ → List ℕ → Bool
+is_suite_point suite b = is_on_curve_if_any (curve_of suite) b

@@ -11,7 +11,8 @@ use Rattle.mls_check.specs.LeafValidation.{contains_code, is_default_extension, 
 use Rattle.mls_msgs.specs.declared.strict_rule.StrictRule.{StrictRule}
 use Rattle.mls_msgs.specs.declared.strict_rule.StrictRule.TheVariants as rules
 use Rattle.mls_strict.specs.ExtensionLists.{has_each_once, has_no_group_type, has_readable_id}
-use Rattle.mls_strict.specs.KeyForms.{is_hpke_key, is_signature_key}
+use Rattle.mls_strict.specs.Certificates.{certifies}
+use Rattle.mls_strict.specs.KeyForms.{is_hpke_key, is_signature_key, is_suite_point}
 
 -- `has_key_forms suite x`: its two keys have the forms of the suite (RFC 9420, 5.1.1).
 unfoldable pub has_key_forms : ℕ → LeafNode → Bool
@@ -53,7 +54,7 @@ leaf_meets version suite rules.DefaultListed x = lists_no_default x
 leaf_meets version suite rules.LifetimeEmpty x = has_lifetime x.source
 leaf_meets version suite rules.TagLength x = true
 leaf_meets version suite rules.CiphertextForm x = true
-leaf_meets version suite rules.CertificateKey x = true
+leaf_meets version suite rules.CertificateKey x = certifies x.signature_key x.credential
 leaf_meets version suite rules.PskAhead x = true
 leaf_meets version suite rules.GroupExtensionUnsupported x = true
-leaf_meets version suite rules.PointOffCurve x = true
+leaf_meets version suite rules.PointOffCurve x = is_suite_point suite x.encryption_key

@@ -1,4 +1,5 @@
 pub mod KeyForms
+pub mod Certificates
 pub mod ExtensionLists
 pub mod ExternalSendersInternal
 pub mod LeafForms

@@ -8,7 +8,7 @@ use Rattle.mls_msgs.specs.StrictRules.{strict_number}
 use Rattle.mls_msgs.specs.declared.rules.Rules.{Rules}
 use Rattle.mls_msgs.specs.declared.strict_rule.StrictRule.{StrictRule}
 use Rattle.mls_msgs.specs.declared.strict_rule.StrictRule.TheVariants as rules
-use Rattle.mls_strict.specs.KeyForms.{is_hpke_key}
+use Rattle.mls_strict.specs.KeyForms.{is_hpke_key, is_suite_point}
 use Rattle.mls_strict.specs.LeafForms.{leaf_meets, supports_all}
 use Rattle.mls_strict.specs.ContentForms.{extensions_meet}
 use Rattle.mls_strict.specs.declared.strict_fault.StrictFault.{StrictFault}
@@ -21,6 +21,7 @@ abbrev pub tree_node_meets : GroupContext → StrictRule → NodeValue → Bool
 tree_node_meets context rules.GroupExtensionUnsupported (leaf_node x) = supports_all context.extensions x
 tree_node_meets context r (leaf_node x) = leaf_meets context.version context.cipher_suite r x
 tree_node_meets context rules.KeyForm (parent_node p) = is_hpke_key context.cipher_suite p.encryption_key
+tree_node_meets context rules.PointOffCurve (parent_node p) = is_suite_point context.cipher_suite p.encryption_key
 tree_node_meets context r (parent_node p) = true
 
 -- `NodesMeet context t r`: each non-blank node of the tree meets the strict rule.

@@ -2,10 +2,10 @@
 
 ghost use Rattle.std.specs.Prelude.{◌≡◌};
 ghost use Rattle.std.specs.List.{list_all};
-ghost use Rattle.mls_strict.specs.ContentForms.{content_meets, content_refusal, proposal_refusal, entry_meets, extensions_meet, first_unmet, is_ciphertext, is_held, node_meets, package_meets, path_meets, proposal_meets};
+ghost use Rattle.mls_strict.specs.ContentForms.{ciphertext_meets, content_meets, content_refusal, proposal_refusal, entry_meets, extensions_meet, first_unmet, is_ciphertext, is_held, node_meets, package_meets, path_meets, proposal_meets};
 
 use crate::extension_lists::{has_each_once, has_readable_senders};
-use crate::key_forms::is_hpke_key;
+use crate::key_forms::{is_hpke_key, is_suite_point};
 use crate::leaf_forms::leaf_meets;
 use mls_hash::Suite;
 use mls_msgs::{
@@ -19,7 +19,7 @@ use mls_wire::OpaqueRef;
 const TAG_LENGTH: usize = 16;
 
 /// The strict rules for a content, in the order of their numbers.
-const CONTENT_RULES: [StrictRule; 9] = [
+const CONTENT_RULES: [StrictRule; 11] = [
     StrictRule::ExtensionRepeated,
     StrictRule::ExtensionMisplaced,
     StrictRule::ExtensionUnreadable,
@@ -28,7 +28,9 @@ const CONTENT_RULES: [StrictRule; 9] = [
     StrictRule::GroupUnlisted,
     StrictRule::DefaultListed,
     StrictRule::LifetimeEmpty,
+    StrictRule::CertificateKey,
     StrictRule::PskAhead,
+    StrictRule::PointOffCurve,
 ];
 
 /// Returns whether a KeyPackage meets a strict rule (RFC 9420, 10).
@@ -38,6 +40,7 @@ fn package_meets(suite: Suite, version: u16, rule: StrictRule, key_package: &Key
     let meets = match rule {
         StrictRule::ExtensionRepeated => has_each_once(&key_package.extensions),
         StrictRule::KeyForm => is_hpke_key(suite, key_package.init_key.as_slice()),
+        StrictRule::PointOffCurve => is_suite_point(suite, key_package.init_key.as_slice()),
         _ => true,
     };
     meets && leaf_meets(suite, version, rule, &key_package.leaf_node)
@@ -92,6 +95,9 @@ fn proposal_meets(
         (Proposal::ExternalInit(kem_output), StrictRule::CiphertextForm) => {
             is_hpke_key(suite, kem_output.as_slice())
         }
+        (Proposal::ExternalInit(kem_output), StrictRule::PointOffCurve) => {
+            is_suite_point(suite, kem_output.as_slice())
+        }
         _ => true,
     }
 }
@@ -106,9 +112,21 @@ fn is_ciphertext(suite: Suite, kem_output: &[u8], ciphertext: &[u8]) -> bool
         && ciphertext.len() == usize::from(suite.hash_length()) + TAG_LENGTH
 }
 
-/// Returns whether each ciphertext of a path node is one of the suite. Nothing is copied.
-fn are_ciphertexts(suite: Suite, ciphertexts: &Ciphertexts) -> bool
-    ensures { result ≡ list_all (is_ciphertext suite) ciphertexts.now }
+/// Returns whether a ciphertext meets a strict rule (RFC 9420, 7.6).
+fn ciphertext_meets(suite: Suite, rule: StrictRule, kem_output: &[u8], ciphertext: &[u8]) -> bool
+    ensures { result ≡ ciphertext_meets suite rule
+        (record { kem_output = kem_output.now; ciphertext = ciphertext.now }) }
+{
+    match rule {
+        StrictRule::CiphertextForm => is_ciphertext(suite, kem_output, ciphertext),
+        StrictRule::PointOffCurve => is_suite_point(suite, kem_output),
+        _ => true,
+    }
+}
+
+/// Returns whether each ciphertext of a path node meets a strict rule. Nothing is copied.
+fn are_ciphertexts(suite: Suite, rule: StrictRule, ciphertexts: &Ciphertexts) -> bool
+    ensures { result ≡ list_all (ciphertext_meets suite rule) ciphertexts.now }
 {
     let mut left = ciphertexts.reader();
     while !left.at_end() {
@@ -118,7 +136,7 @@ fn are_ciphertexts(suite: Suite, ciphertexts: &Ciphertexts) -> bool
         let Ok(ciphertext) = OpaqueRef::parse(&mut left) else {
             unreachable!();
         };
-        if !is_ciphertext(suite, kem_output.as_slice(), ciphertext.as_slice()) {
+        if !ciphertext_meets(suite, rule, kem_output.as_slice(), ciphertext.as_slice()) {
             return false;
         }
     }
@@ -131,7 +149,11 @@ fn node_meets(suite: Suite, rule: StrictRule, node: &PathNode) -> bool
 {
     match rule {
         StrictRule::KeyForm => is_hpke_key(suite, node.encryption_key.as_slice()),
-        StrictRule::CiphertextForm => are_ciphertexts(suite, &node.ciphertexts),
+        StrictRule::CiphertextForm => are_ciphertexts(suite, rule, &node.ciphertexts),
+        StrictRule::PointOffCurve => {
+            is_suite_point(suite, node.encryption_key.as_slice())
+                && are_ciphertexts(suite, rule, &node.ciphertexts)
+        }
         _ => true,
     }
 }
@@ -236,9 +258,9 @@ fn first_unmet(
 }
 
 /// Returns the first strict rule of the set, by number, that a content does not meet in a group with this GroupContext:
-/// one of 41 to 48 and 50. Of a proposal its own parts are checked, of a commit its inline proposals and its path. What a commit
-/// names by reference is not checked again. 40 looks at tags and 51 at a tree, so they are not checked here. No rule takes
-/// longer than the content's size. Allocates nothing.
+/// one of 41 to 50 and 52. Of a proposal its own parts are checked, of a commit its inline proposals and its path. What a
+/// commit names by reference is not checked again. 40 looks at tags and 51 at a tree, so they are not checked here. No rule
+/// takes longer than the content's size. Allocates nothing.
 #[tactic(auto, unfolding(crate::specs::ContentForms::content_refusal))]
 pub fn content_refusal(
     asked: Rules,

@@ -4,8 +4,9 @@ ghost use Rattle.std.specs.Prelude.{◌≡◌, ◌&&◌, nat_le, nat_lt};
 ghost use Rattle.std.specs.List.{list_any};
 ghost use Rattle.mls_strict.specs.LeafForms.{has_key_forms, has_lifetime, leaf_meets, lists_group, lists_no_default};
 
+use crate::certificates::certifies;
 use crate::extension_lists::{has_each_type_once, has_no_group_type, has_readable_id};
-use crate::key_forms::{is_hpke_key, is_signature_key};
+use crate::key_forms::{is_hpke_key, is_signature_key, is_suite_point};
 use mls_hash::Suite;
 use mls_msgs::StrictRule;
 use mls_nodes::{EncodedLeaf, LeafSource, lists_code, next_code};
@@ -81,11 +82,11 @@ pub(crate) fn leaf_meets(suite: Suite, version: u16, rule: StrictRule, leaf: &En
         StrictRule::GroupUnlisted => lists_group(suite, version, leaf),
         StrictRule::DefaultListed => lists_no_default(leaf),
         StrictRule::LifetimeEmpty => has_lifetime(leaf),
+        StrictRule::CertificateKey => certifies(leaf.signature_key(), &leaf.credential()),
+        StrictRule::PointOffCurve => is_suite_point(suite, leaf.encryption_key()),
         StrictRule::TagLength
         | StrictRule::CiphertextForm
-        | StrictRule::CertificateKey
         | StrictRule::PskAhead
-        | StrictRule::GroupExtensionUnsupported
-        | StrictRule::PointOffCurve => true,
+        | StrictRule::GroupExtensionUnsupported => true,
     }
 }

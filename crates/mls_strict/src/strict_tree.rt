@@ -10,7 +10,7 @@ ghost use Rattle.mls_strict.specs.StrictTreesInternal.{FindsFailingNode, IsFault
 ghost use Rattle.mls_strict.specs.LeafForms.{requires_types};
 
 use crate::content_forms::extensions_meet;
-use crate::key_forms::is_hpke_key;
+use crate::key_forms::{is_hpke_key, is_suite_point};
 use crate::leaf_forms::leaf_meets;
 use crate::strict_fault::{StrictFault, StrictTreeFault};
 use mls_check::{OutOfMemory, SortedRequirements, supports_required};
@@ -20,7 +20,7 @@ use mls_nodes::{Codes, Extensions, ExtensionsLeft, GroupContext, Node, RequiredC
 use mls_tree::PublicTree;
 use std::alloc::{AllocError, Global};
 
-/// The strict rules, in order of their numbers. Of a GroupContext and a tree 40, 45, 49, 50 and 52 demand nothing.
+/// The strict rules, in order of their numbers. Of a GroupContext and a tree 40, 45 and 50 demand nothing.
 const STRICT_RULES: [StrictRule; 13] = [
     StrictRule::TagLength,
     StrictRule::ExtensionRepeated,
@@ -54,6 +54,9 @@ fn node_meets(suite: Suite, context: &GroupContext, rule: StrictRule, node: &Nod
         (Node::Leaf(leaf), _) => leaf_meets(suite, context.version, rule, leaf),
         (Node::Parent(parent), StrictRule::KeyForm) => {
             is_hpke_key(suite, parent.encryption_key.as_slice())
+        }
+        (Node::Parent(parent), StrictRule::PointOffCurve) => {
+            is_suite_point(suite, parent.encryption_key.as_slice())
         }
         (Node::Parent(_), _) => true,
     }
@@ -196,7 +199,7 @@ fn check_rule(
 }
 
 /// Validates a GroupContext and a ratchet tree by the strict rules of a set: the extensions of the context by 41 and 43, each
-/// node by 41 to 44, 46 to 48, and each leaf node by 51.
+/// leaf node by 41 to 44, 46 to 49, 51 and 52, and each parent node by 44 and 52. Of both 40, 45 and 50 demand nothing.
 ///
 /// # Errors
 ///

@@ -1,0 +1,5 @@
+pub mod LimbLemmas
+pub mod ByteLemmas
+pub mod ResidueLemmas
+pub mod CurveLemmas
+pub mod PointLemmas

@@ -1,0 +1,4 @@
+pub mod Curves
+pub mod CurvesInternal
+pub mod Limbs
+pub mod Residues

@@ -1,0 +1,11 @@
+-- Numbers as limbs of 64 bits, the lowest first. Internal: no public contract uses this.
+use Rattle.std.specs.Prelude.{ℕ, zero, suc, ◌+◌, ◌*◌, ◌^◌, List, slice_index}
+
+-- `limb_weight i` is the value of a 1 in limb i. It is also the least number that i limbs don't hold.
+unfoldable pub limb_weight : ℕ → ℕ
+limb_weight i = (2 ^ 64) ^ i
+
+-- `value_below limbs n` is the number that the first n limbs hold.
+unfoldable pub value_below : List ℕ → ℕ → ℕ
+value_below limbs zero = 0
+value_below limbs (suc i) = value_below limbs i + slice_index limbs i * limb_weight i

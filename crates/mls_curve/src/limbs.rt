@@ -1,0 +1,82 @@
+//! Numbers of up to nine limbs of 64 bits, the lowest first. Of each array the first `len` limbs count.
+
+ghost use Rattle.std.specs.Prelude.{◌≡◌, ◌+◌, ◌*◌, ◌^◌, ◌<◌, ◌≤◌, ◌↔◌, IsTrue, length};
+ghost use Rattle.mls_curve.specs.Curves.{big_endian};
+ghost use Rattle.mls_curve.specs.Limbs.{limb_weight, value_below};
+
+/// The length of the arrays: the number of limbs of the longest numbers, those of P-521.
+pub(crate) const LIMBS: usize = 9;
+
+/// Replaces the number by `by` times the number plus `add`, and returns the carry.
+pub(crate) fn multiply(limbs: &mut [u64; LIMBS], len: usize, by: u64, add: u64) -> u64
+    requires { len ≤ 9 }
+    ensures { value_below limbs.new len + result * limb_weight len
+        ≡ value_below limbs.old len * by + add }
+{
+    let mut carry = add;
+    for i in 0..len {
+        let wide = limbs[i] as u128 * by as u128 + carry as u128;
+        limbs[i] = (wide & 0xffff_ffff_ffff_ffff) as u64;
+        carry = (wide >> 64) as u64;
+    }
+    carry
+}
+
+/// Adds `by` times `limbs` to `sum`, and returns the carry.
+pub(crate) fn add_product(sum: &mut [u64; LIMBS], limbs: &[u64; LIMBS], by: u64, len: usize) -> u64
+    requires { len ≤ 9 }
+    ensures value { value_below sum.new len + result * limb_weight len
+        ≡ value_below sum.old len + value_below limbs.now len * by }
+    ensures limit { value_below sum.new len < limb_weight len }
+{
+    let mut carry = 0;
+    for i in 0..len {
+        let wide = limbs[i] as u128 * by as u128 + sum[i] as u128 + carry as u128;
+        sum[i] = (wide & 0xffff_ffff_ffff_ffff) as u64;
+        carry = (wide >> 64) as u64;
+    }
+    carry
+}
+
+/// Moves each limb up by one place, and returns the carry: the limb that was the highest.
+pub(crate) fn shift_up(limbs: &mut [u64; LIMBS], len: usize) -> u64
+    requires { len ≤ 9 }
+    ensures { value_below limbs.new len + result * limb_weight len
+        ≡ value_below limbs.old len * 2 ^ 64 }
+{
+    let mut carry = 0;
+    for i in 0..len {
+        let limb = limbs[i];
+        limbs[i] = carry;
+        carry = limb;
+    }
+    carry
+}
+
+/// Returns the number that the bytes encode, the highest byte first. It must fit: `bytes` has at most 8 * `len` bytes.
+pub(crate) fn from_bytes(bytes: &[u8], len: usize) -> [u64; LIMBS]
+    requires limbs { len ≤ 9 }
+    requires bytes { length bytes.now ≤ 8 * len }
+    ensures { value_below result len ≡ big_endian 0 bytes.now }
+{
+    let mut limbs = [0; LIMBS];
+    for byte in bytes {
+        multiply(&mut limbs, len, 256, u64::from(*byte));
+    }
+    limbs
+}
+
+/// Returns whether `a` and `b` are equal.
+pub(crate) fn are_equal(a: &[u64; LIMBS], b: &[u64; LIMBS], len: usize) -> bool
+    requires { len ≤ 9 }
+    ensures { IsTrue result ↔ (value_below a.now len ≡ value_below b.now len) }
+{
+    let mut i = len;
+    while i > 0 {
+        i -= 1;
+        if a[i] != b[i] {
+            return false;
+        }
+    }
+    true
+}

@@ -57,12 +57,14 @@ enum mls_number {
     MLS_NO_FOLLOWER = 102,          /* the handle has no follower */
     MLS_UNSUPPORTED_PROFILE = 103,  /* the profile is no mls_profile */
     MLS_BAD_RECEIPTS = 104,         /* the length of the receipts is no multiple of 32 */
-    MLS_TOO_LONG = 105,             /* the state has no file: it would have more than 268,435,456 bytes */
+    MLS_TOO_LONG = 105,             /* the state has no file: it would have more than 268,435,456 bytes, or the follower has
+                                       strict rules */
     MLS_INFO_UNREADABLE = 106,      /* the GroupInfo is no message: inner is an mls_decode_fault, place the offset */
     MLS_NOT_GROUP_INFO = 107,       /* the message is no GroupInfo */
     MLS_TREE_UNREADABLE = 108,      /* the tree is no ratchet_tree: inner is an mls_decode_fault, place the offset or index */
     MLS_CONTEXT_UNREADABLE = 109,   /* the context is no GroupContext: inner is an mls_decode_fault, place the offset */
-    MLS_OTHER_PROFILE = 110         /* the state is of another profile */
+    MLS_OTHER_PROFILE = 110,        /* the state is of another profile */
+    MLS_UNSUPPORTED_RULES = 114     /* the strict rules have a bit above bit 12 */
 };
 
 /* Profiles: in which handshakes a group is followed. */
@@ -71,6 +73,15 @@ enum mls_profile {
     MLS_PROFILE_FULL = 2            /* also PreSharedKey and ReInit, proposals from outside and external commits (RFC 9420,
                                        12.1.8, 12.4.3.2) */
 };
+
+/*
+ * Sets of strict rules: the refusals 40 to 52, which a follower checks after the rules of its profile. A set is a uint16_t:
+ * rule n is bit n - 40, and the bits above bit 12 are 0. A service should follow its groups by MLS_RULES_STRICT. If its own
+ * clients break a rule, it leaves out this one: MLS_RULES_STRICT & ~MLS_RULE(47) is all but 47.
+ */
+#define MLS_RULES_PLAIN 0               /* no strict rule */
+#define MLS_RULES_STRICT 0x1fff         /* all of them, 40 to 52 */
+#define MLS_RULE(n) (1u << ((n) - 40))  /* the rule n alone, which is from 40 to 52 */
 
 /* Why bytes cannot be decoded (RFC 9420, 2.1; from 9 on 12.4.3.3). */
 enum mls_decode_fault {
@@ -98,12 +109,15 @@ enum mls_start_fault {
     MLS_START_MEMBER = 6,                   /* inner is an mls_member_fault, place the leaf index */
     MLS_START_SIGNER_NOT_MEMBER = 7,        /* the signer's leaf is blank */
     MLS_START_INFO_SIGNATURE = 8,           /* the GroupInfo's signature has no receipt */
-    MLS_START_STRICT = 9                    /* a strict rule is not met: inner is an mls_refusal from 40 on, place the
-                                               node index, or 2^64 - 1 if it is no node that does not meet it. No call
-                                               of this library checks strict rules yet */
+    MLS_START_STRICT = 9                    /* a strict rule of the set is not met, the first by number: inner is an
+                                               mls_refusal from 40 on, place the node index, or 2^64 - 1 if it is no
+                                               node that does not meet it */
 };
 
-/* Why no follower resumes from a state: the first that applies. */
+/*
+ * Why no follower resumes from a state: the first that applies. From 10 on: why strict rules cannot be added to those of a
+ * follower (mls_follower_make_strict).
+ */
 enum mls_resume_fault {
     MLS_RESUME_UNREADABLE = 1,              /* inner is an mls_decode_fault, place the offset or index */
     MLS_RESUME_CHECKSUM_DIFFERS = 2,
@@ -113,7 +127,12 @@ enum mls_resume_fault {
     MLS_RESUME_TREE = 6,                    /* inner is an mls_tree_fault, place the node index */
     MLS_RESUME_MEMBER = 7,                  /* inner is an mls_member_fault, place the leaf index */
     MLS_RESUME_INTERIM_LENGTH = 8,          /* the interim transcript hash has not the length of the suite's hashes (8.2) */
-    MLS_RESUME_KNOWN_INVALID = 9            /* place is the number of the pending proposal, from 0 on */
+    MLS_RESUME_KNOWN_INVALID = 9,           /* place is the number of the pending proposal, from 0 on */
+    MLS_RESUME_STRICT = 10,                 /* the GroupContext or the tree does not meet one: inner is the first of them,
+                                               an mls_refusal from 40 on, place the node index, or 2^64 - 1 if it is no
+                                               node that does not meet it */
+    MLS_RESUME_KNOWN_STRICT = 11            /* a pending proposal does not meet one: place is the number of the first
+                                               such proposal, from 0 on */
 };
 
 /* Why a tree is not valid (RFC 9420, 7.8, 7.9.2 and 12.4.3.1). */
@@ -134,7 +153,10 @@ enum mls_member_fault {
     MLS_MEMBER_LEAF_SIGNATURE = 5           /* the leaf's signature has no receipt */
 };
 
-/* Why a message is refused: the first rule that it fails (RFC 9420, 6, 12.1 to 12.4; docs/FORMATS.md). */
+/*
+ * Why a message is refused: the first rule that it fails (RFC 9420, 6, 12.1 to 12.4; docs/FORMATS.md). The strict rules,
+ * from 40 on, come after all others, in both profiles.
+ */
 enum mls_refusal {
     MLS_REFUSED_MALFORMED = 1,
     MLS_REFUSED_NOT_PUBLIC = 2,
@@ -173,7 +195,7 @@ enum mls_refusal {
     MLS_REFUSED_REINIT_NOT_ALONE = 35,
     MLS_REFUSED_JOIN_LIST = 36,
     MLS_REFUSED_RESYNC_INVALID = 37,
-    MLS_REFUSED_TAG_LENGTH = 40,            /* 40 to 52: strict rules; no call of this library checks them yet */
+    MLS_REFUSED_TAG_LENGTH = 40,            /* 40 to 52: strict rules, which are checked if the follower's set has them */
     MLS_REFUSED_EXTENSION_REPEATED = 41,
     MLS_REFUSED_EXTENSION_MISPLACED = 42,
     MLS_REFUSED_EXTENSION_UNREADABLE = 43,
@@ -240,10 +262,23 @@ mls_verdict mls_validate_tree(const uint8_t *context, size_t context_len, const 
                               size_t *needed);
 
 /*
+ * Checks a ratchet tree as mls_validate_tree does, which is the case of MLS_RULES_PLAIN, and then that the GroupContext and
+ * the tree meet the strict rules of the set `rules`.
+ *
+ * Returns 0, or an mls_start_fault of 1, 2, 4, 5, 6 or 9, or MLS_UNSUPPORTED_RULES, MLS_BAD_RECEIPTS,
+ * MLS_CONTEXT_UNREADABLE, MLS_TREE_UNREADABLE, MLS_BUFFER_TOO_SMALL, MLS_OUT_OF_MEMORY. The rules are checked before the
+ * receipts.
+ */
+mls_verdict mls_validate_tree_strict(const uint8_t *context, size_t context_len, const uint8_t *tree, size_t tree_len,
+                                     const uint8_t *receipts, size_t receipts_len, uint16_t rules, uint8_t *tree_hash,
+                                     size_t tree_hash_len, size_t *needed);
+
+/*
  * Lists the signatures of a start (RFC 9420, 12.4.3.1) that have no receipt: that of the GroupInfo and of each leaf node.
  * They are listed if a follower starts once each of them is good. Otherwise the verdict is that of such a start in the
  * members' profile: an MLSMessage without a GroupInfo that the full profile alone can read is MLS_INFO_UNREADABLE here and
- * MLS_NOT_GROUP_INFO for a start in the full profile. All else of a start is the same in each profile.
+ * MLS_NOT_GROUP_INFO for a start in the full profile. All else of a start is the same in each profile. Strict rules are not
+ * checked here, and no signature is listed for them.
  *
  * `tree` of length 0 is none: the tree is then the one in the GroupInfo. Before the first query there are no receipts:
  * MLS_EMPTY.
@@ -252,8 +287,8 @@ mls_verdict mls_validate_tree(const uint8_t *context, size_t context_len, const 
  * suite (uint16), and as vectors the public key, the SignContent (5.1.2) and the signature. The caller verifies the
  * signature over the SignContent under the public key.
  *
- * Returns 0, or an mls_start_fault, or MLS_INFO_UNREADABLE, MLS_NOT_GROUP_INFO, MLS_TREE_UNREADABLE, MLS_BAD_RECEIPTS,
- * MLS_BUFFER_TOO_SMALL, MLS_OUT_OF_MEMORY.
+ * Returns 0, or an mls_start_fault below 9, or MLS_INFO_UNREADABLE, MLS_NOT_GROUP_INFO, MLS_TREE_UNREADABLE,
+ * MLS_BAD_RECEIPTS, MLS_BUFFER_TOO_SMALL, MLS_OUT_OF_MEMORY.
  */
 mls_verdict mls_start_query(const uint8_t *info, size_t info_len, const uint8_t *tree, size_t tree_len,
                             const uint8_t *receipts, size_t receipts_len, uint8_t *records, size_t records_len,
@@ -267,20 +302,39 @@ mls_verdict mls_start_query(const uint8_t *info, size_t info_len, const uint8_t 
  * If the handle has a follower, the new one takes its place, and the old one is freed. If none starts, the handle is
  * unchanged.
  *
- * Returns 0, or an mls_start_fault, or MLS_UNSUPPORTED_PROFILE, MLS_BAD_RECEIPTS, MLS_INFO_UNREADABLE, MLS_NOT_GROUP_INFO,
- * MLS_TREE_UNREADABLE, MLS_OUT_OF_MEMORY.
+ * The follower has no strict rules: this is mls_follower_start_by with MLS_RULES_PLAIN.
+ *
+ * Returns 0, or an mls_start_fault below 9, or MLS_UNSUPPORTED_PROFILE, MLS_BAD_RECEIPTS, MLS_INFO_UNREADABLE,
+ * MLS_NOT_GROUP_INFO, MLS_TREE_UNREADABLE, MLS_OUT_OF_MEMORY.
  */
 mls_verdict mls_follower_start(const uint8_t *info, size_t info_len, const uint8_t *tree, size_t tree_len,
                                const uint8_t *receipts, size_t receipts_len, uint32_t profile, mls_follower *follower);
 
 /*
+ * Starts a follower as mls_follower_start does, with the strict rules of the set `rules`. A service should follow its groups
+ * by MLS_RULES_STRICT. The GroupInfo and the tree have to meet the strict rules too: this is the last condition of a start,
+ * and MLS_START_STRICT its fault. If none starts, the handle is unchanged.
+ *
+ * A follower with strict rules has no state file in this version (mls_follower_state).
+ *
+ * Returns 0, or an mls_start_fault, or MLS_UNSUPPORTED_PROFILE, MLS_UNSUPPORTED_RULES, MLS_BAD_RECEIPTS,
+ * MLS_INFO_UNREADABLE, MLS_NOT_GROUP_INFO, MLS_TREE_UNREADABLE, MLS_OUT_OF_MEMORY. The profile is checked before the rules,
+ * and the rules before the receipts.
+ */
+mls_verdict mls_follower_start_by(const uint8_t *info, size_t info_len, const uint8_t *tree, size_t tree_len,
+                                  const uint8_t *receipts, size_t receipts_len, uint32_t profile, uint16_t rules,
+                                  mls_follower *follower);
+
+/*
  * Resumes a follower from a state (mls_follower_state), by these receipts, and puts it into the handle, as
- * mls_follower_start does. A state names the profile of its follower: `profile` has to be this one.
+ * mls_follower_start does. A state names the profile of its follower: `profile` has to be this one. The follower has no
+ * strict rules; mls_follower_make_strict adds some.
  *
  * Whoever wrote the state, the follower's tree is valid and its pending proposals satisfy their rules. That the transcript
  * hash and the pending proposals are those of the group rests on who stored the state.
  *
- * Returns 0, or an mls_resume_fault, or MLS_UNSUPPORTED_PROFILE, MLS_OTHER_PROFILE, MLS_BAD_RECEIPTS, MLS_OUT_OF_MEMORY.
+ * Returns 0, or an mls_resume_fault below 10, or MLS_UNSUPPORTED_PROFILE, MLS_OTHER_PROFILE, MLS_BAD_RECEIPTS,
+ * MLS_OUT_OF_MEMORY.
  */
 mls_verdict mls_follower_resume(const uint8_t *state, size_t state_len, const uint8_t *receipts, size_t receipts_len,
                                 uint32_t profile, mls_follower *follower);
@@ -299,6 +353,19 @@ uint32_t mls_follower_members(mls_follower *follower, uint32_t *members);
  * later message of its last epoch is refused with MLS_REFUSED_GROUP_OVER. Returns 0 or MLS_NO_FOLLOWER.
  */
 uint32_t mls_follower_ended(mls_follower *follower, uint32_t *ended);
+
+/* Writes the follower's set of strict rules, which no message changes. Returns 0 or MLS_NO_FOLLOWER. */
+uint32_t mls_follower_rules(mls_follower *follower, uint16_t *rules);
+
+/*
+ * Adds the strict rules of the set `rules` to those of the follower. Only those that it lacks are checked, and none is taken
+ * away. The GroupContext and the tree have to meet them, and then each pending proposal. Otherwise the follower is
+ * unchanged. With strict rules it has no state file in this version (mls_follower_state).
+ *
+ * Returns 0, or MLS_RESUME_STRICT or MLS_RESUME_KNOWN_STRICT, or MLS_UNSUPPORTED_RULES, MLS_NO_FOLLOWER,
+ * MLS_OUT_OF_MEMORY. The rules are checked before the handle.
+ */
+mls_verdict mls_follower_make_strict(mls_follower *follower, uint16_t rules);
 
 /* Writes the tree hash (RFC 9420, 7.8, 8.1). Returns 0, MLS_NO_FOLLOWER or MLS_BUFFER_TOO_SMALL. */
 uint32_t mls_follower_tree_hash(mls_follower *follower, uint8_t *tree_hash, size_t tree_hash_len, size_t *needed);
@@ -327,8 +394,9 @@ uint32_t mls_follower_query(mls_follower *follower, const uint8_t *message, size
 uint32_t mls_follower_learn(mls_follower *follower, const uint8_t *receipts, size_t receipts_len);
 
 /*
- * Processes a message (RFC 9420, 6), and accepts it if and only if it satisfies every rule. A refused message changes
- * nothing. After a commit the calls above return the values of the new epoch.
+ * Processes a message (RFC 9420, 6), and accepts it if and only if it satisfies every rule of the profile, and every strict
+ * rule of the follower's set. A refused message changes nothing. After a commit the calls above return the values of the
+ * new epoch.
  *
  * The reference (5.2) of an accepted proposal is written to the front of the buffer `reference`, and has as many bytes as a
  * hash of the cipher suite (32, 48 or 64). The buffer must have MLS_REFERENCE_SIZE bytes, otherwise the number is
@@ -340,7 +408,8 @@ mls_judgement mls_follower_judge(mls_follower *follower, const uint8_t *message,
                                  size_t reference_len);
 
 /*
- * Writes the state as a file (docs/FORMATS.md), from which mls_follower_resume resumes. The receipts are no part of it.
+ * Writes the state as a file (docs/FORMATS.md), from which mls_follower_resume resumes. The receipts are no part of it. A
+ * follower with strict rules has no file in this version: the number is MLS_TOO_LONG, as for a state that is too long.
  *
  * Returns 0, or MLS_NO_FOLLOWER, MLS_TOO_LONG, MLS_BUFFER_TOO_SMALL, MLS_OUT_OF_MEMORY.
  */

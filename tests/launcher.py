@@ -63,6 +63,36 @@ validate-tree --tree there --trust
 validate-tree --tree there --context missing --trust
 validate-tree --tree there --context missing
 validate-tree --tree - --context - --trust
+validate-tree --tree there --context missing --trust --strict
+validate-tree --tree there --context missing --trust --strict --allow 47
+validate-tree --tree there --context missing --trust --strict --allow 40,41,42,43,44,45,46,47,48,49,50,51,52
+validate-tree --tree there --context there --trust --strict --strict
+validate-tree --tree there --context there --trust --allow 47
+validate-tree --tree there --context there --trust --strict --allow
+validate-tree --tree there --context there --trust --strict --allow  --trust
+validate-tree --tree there --context there --strict --allow  --trust
+validate-tree --tree there --context there --strict --allow= --trust
+validate-tree --tree there --context there --trust --strict --allow 39
+validate-tree --tree there --context there --trust --strict --allow 53
+validate-tree --tree there --context there --trust --strict --allow 47,47
+show tree there --strict
+show message there --strict --allow 47
+check transcript there --strict
+validate --info missing --trust --strict
+validate --state missing --trust --strict --allow 46,47
+validate --info there --trust --strict --allow 047
+validate --info there --trust --strict --allow 4x
+validate --info there --trust --strict --allow x4
+validate --info there --trust --strict --allow 4
+validate --info there --trust --strict --allow 47,
+validate --info there --trust --strict --allow ,47
+validate --info there --trust --strict --allow 47,,46
+validate --info there --trust --strict --allow 47;46
+validate --info there --trust --strict --allow -
+validate --info there --trust --strict=47
+validate --info there --trust --stric
+validate --info there --state there --trust --allow 47
+validate --state there --trust --profile full --strict --allow 60
 replay
 replay --log
 replay --log --info there
@@ -74,6 +104,10 @@ signatures --info missing --receipts -
 gate --info - --trust
 gate --info missing
 gate --log missing
+gate --info there --strict --allow 47 --allow 48
+gate --state there --allow 47
+replay --log there --info there --trust --save - --strict --allow 40,41,40
+signatures --info there --strict --allow 50,
 gate -h
 gate --info there --help
 gate --info --help
@@ -82,7 +116,8 @@ gate --info --help
 WORDS = ["show", "check", "validate", "validate-tree", "replay", "signatures", "gate", "help", "tree", "info", "message",
          "tree-math", "transcript", "members", "full", "--info", "--tree", "--state", "--profile", "--log", "--save",
          "--trust", "--receipts", "--context", "--help", "-h", "-V", "--version", "--inf", "--stat", "--trust=1", "--info=x",
-         "--log=missing", "--profile=full", "-", "--", "-x", "--nope", "there", "missing", "good", "", "sohw", "é"]
+         "--log=missing", "--profile=full", "-", "--", "-x", "--nope", "there", "missing", "good", "", "sohw", "é",
+         "--strict", "--allow", "--allow=47", "--strict=1", "--stricter", "47", "47,48", "47,47", "39", "53", "4x"]
 
 
 def by_chance(number):
@@ -90,7 +125,8 @@ def by_chance(number):
     words = [chance.choice(list(answers.COMMANDS))] if chance.random() < 0.85 else []
     for _ in range(chance.randrange(8)):
         words += chance.choice([[chance.choice(WORDS)], ["--info", chance.choice(["there", "missing", "-"])], ["--trust"],
-                                ["--log", chance.choice(["there", "missing"])], ["--receipts", "good"]])
+                                ["--log", chance.choice(["there", "missing"])], ["--receipts", "good"], ["--strict"],
+                                ["--allow", chance.choice(["47", "46,52", "47,47", "39", "53", "047", "4x", "47,", ""])]])
     return words
 
 

@@ -5,8 +5,8 @@
                           has another version than the file VERSION
 
 The launcher prints these answers before the program is built. Help is in tools/help, one file for each command. The texts
-of usage faults are those of the crate clap, and of crates/mls_commands/src/parse_order.rt; those of a file that isn't there
-are those of crates/mls_program/src. Any other command line, also one of a kind that is not foreseen here, has no answer
+of usage faults are those of the crate clap, and of crates/mls_commands/src; those of a file that isn't there are those of
+crates/mls_program/src. Any other command line, also one of a kind that is not foreseen here, has no answer
 here: then the program is built, and answers. So it does if one of these sources has changed. tests/launcher.py compares
 these answers with those of the proved program.
 """
@@ -30,13 +30,14 @@ COMPARED = os.path.join(HELP, "compared")
 # The file that has the version which the program prints.
 VERSIONED = os.path.join("crates", "mls_commands", "src", "clap_command.rt")
 
-GROUP = {"info": "FILE", "tree": "FILE", "state": "FILE", "profile": "PROFILE"}
+RULES = {"strict": None, "allow": "NUMBERS"}
+GROUP = {"info": "FILE", "tree": "FILE", "state": "FILE", "profile": "PROFILE", **RULES}
 CHECKER = {"trust": None, "receipts": "FILE"}
 
 # Of each command: its positional words, its options with what each takes, and the options that have to be given.
 COMMANDS = {
     "show": (["KIND", "FILE"], {"profile": "PROFILE"}, []),
-    "validate-tree": ([], {"context": "FILE", "tree": "FILE", **CHECKER}, ["context", "tree"]),
+    "validate-tree": ([], {"context": "FILE", "tree": "FILE", **RULES, **CHECKER}, ["context", "tree"]),
     "validate": ([], {**GROUP, **CHECKER}, []),
     "replay": ([], {**GROUP, "log": "FILE", "save": "FILE", **CHECKER}, ["log"]),
     "signatures": ([], {**GROUP, "log": "FILE", "receipts": "FILE"}, []),
@@ -48,6 +49,9 @@ KINDS = {
     "check": (["tree-math", "tree-validation", "tree-operations", "transcript"],
               "usage: KIND is tree-math, tree-validation, tree-operations or transcript\n"),
 }
+
+# The numbers of strict rules, with commas between.
+NUMBERS = re.compile(r"(?:4[0-9]|5[0-2])(?:,(?:4[0-9]|5[0-2]))*")
 
 NO_COMMAND = f"Usage: {PROGRAM} <COMMAND>"
 
@@ -222,6 +226,18 @@ class Parser:
 # ---- what the program says of the words of a command
 
 
+def rules_fault(given):
+    """The text of the fault of the options of the strict rules, if there is one."""
+    if "allow" not in given:
+        return None
+    if "strict" not in given:
+        return "usage: --allow is for --strict\n"
+    numbers = given["allow"].split(",")
+    if not NUMBERS.fullmatch(given["allow"]) or len(set(numbers)) < len(numbers):
+        return "usage: NUMBERS are rules from 40 to 52, with commas between, none twice\n"
+    return None
+
+
 def usage_fault(name, given):
     """The text of the first rule for a command's words that clap does not know, if one is broken."""
     inputs = [file for file in INPUTS if given.get(file) == "-"]
@@ -241,8 +257,9 @@ def usage_fault(name, given):
     chosen = len({"trust", "receipts"} & set(given))
     if name != "signatures" and (chosen == 2 or chosen == 0 and name != "gate"):
         return "usage: give one of --trust and --receipts\n"
-    if name == "validate-tree":
-        return None
+    fault = rules_fault(given)
+    if fault or name == "validate-tree":
+        return fault
     if ("info" in given) == ("state" in given) or "tree" in given and "state" in given:
         return "usage: give --info, with --tree or without it, or --state\n"
     if "state" in given and "profile" in given:

@@ -1,7 +1,8 @@
-// Package mlscheck follows MLS groups (RFC 9420) from outside, by the proved library libmls_check, which tools/library makes.
+// Package mlscheck follows MLS groups (RFC 9420) from outside, by the proved library libmls_check, which tools/library
+// makes.
 //
-// A service starts a Follower from a GroupInfo. For each message it calls Query, verifies the signatures that are listed, calls
-// Learn with the receipts of the good ones, and then Judge.
+// A service starts a Follower from a GroupInfo. For each message it calls Query, verifies the signatures that are listed,
+// calls Learn with the receipts of the good ones, and then Judge. A service should start by StartBy with Strict.
 //
 // The library is proved; this package is not. It meets the conditions of include/mls_check.h if a Follower is
 // used by one goroutine at a time.
@@ -28,7 +29,9 @@ type Signature struct {
 	Key, Content, Signature []byte
 }
 
-// Refused says why a call on a group's inputs has no result.
+// Refused says why a call on a group's inputs has no result. If Number is 9 of a start or a tree, or 10 of MakeStrict, a
+// strict rule is not met: Inner is its number, and Place the node index, or 2^64 - 1 if it is no node that does not meet it.
+// If Number is 11 of MakeStrict, Place is the number of the pending proposal that does not meet one, from 0 on.
 type Refused struct {
 	Number, Inner uint32
 	Place         uint64
@@ -146,7 +149,36 @@ func ValidateTree(context, tree []byte, receipts [][32]byte) ([]byte, error) {
 	})
 }
 
-// StartQuery returns the signatures of a start that have no receipt. A nil tree is the one in the GroupInfo.
+// Rules is a set of strict rules (docs/FORMATS.md): rule n, from 40 to 52, is bit n - 40. Strict &^ Rule(47) is all but 47.
+type Rules uint16
+
+const (
+	// Plain has no strict rule.
+	Plain Rules = C.MLS_RULES_PLAIN
+	// Strict has all of them, 40 to 52.
+	Strict Rules = C.MLS_RULES_STRICT
+)
+
+// Rule returns the set of the strict rule with this number alone. It panics if the number is none of 40 to 52.
+func Rule(number int) Rules {
+	if number < 40 || number > 52 {
+		panic(fmt.Sprintf("mlscheck: %d is no strict rule", number))
+	}
+	return 1 << (number - 40)
+}
+
+// ValidateTreeStrict checks a ratchet tree as ValidateTree does, and that the GroupContext and the tree meet these strict
+// rules.
+func ValidateTreeStrict(context, tree []byte, receipts [][32]byte, rules Rules) ([]byte, error) {
+	good := joined(receipts)
+	return filledOrRefused(func(hash []byte, needed *C.size_t) C.mls_verdict {
+		return C.mls_validate_tree_strict(at(context), size(context), at(tree), size(tree), at(good), size(good),
+			C.uint16_t(rules), at(hash), size(hash), needed)
+	})
+}
+
+// StartQuery returns the signatures of a start that have no receipt. A nil tree is the one in the GroupInfo. Strict rules
+// are not checked here.
 func StartQuery(info, tree []byte, receipts [][32]byte) ([]Signature, error) {
 	good := joined(receipts)
 	records, err := filledOrRefused(func(buffer []byte, needed *C.size_t) C.mls_verdict {
@@ -166,7 +198,7 @@ const (
 	Full Profile = C.MLS_PROFILE_FULL
 )
 
-// A Follower follows a group in a profile.
+// A Follower follows a group in a profile, and with a set of strict rules.
 type Follower struct {
 	handle C.mls_follower
 }
@@ -183,11 +215,19 @@ func Start(info, tree []byte, receipts [][32]byte) (*Follower, error) {
 	return StartIn(Members, info, tree, receipts)
 }
 
-// StartIn starts a follower with this profile from a GroupInfo (12.4.3) and a tree, by these receipts. Close frees it.
+// StartIn starts a follower with this profile from a GroupInfo (12.4.3) and a tree, by these receipts. It has no strict
+// rules. Close frees it.
 func StartIn(profile Profile, info, tree []byte, receipts [][32]byte) (*Follower, error) {
 	f, good := new(Follower), joined(receipts)
 	return begun(f, C.mls_follower_start(at(info), size(info), at(tree), size(tree), at(good), size(good),
 		C.uint32_t(profile), &f.handle))
+}
+
+// StartBy starts a follower as StartIn does, with these strict rules, which a service should have: Strict. Close frees it.
+func StartBy(rules Rules, profile Profile, info, tree []byte, receipts [][32]byte) (*Follower, error) {
+	f, good := new(Follower), joined(receipts)
+	return begun(f, C.mls_follower_start_by(at(info), size(info), at(tree), size(tree), at(good), size(good),
+		C.uint32_t(profile), C.uint16_t(rules), &f.handle))
 }
 
 // Resume resumes a follower of the handshakes of members: ResumeIn with Members.
@@ -195,7 +235,7 @@ func Resume(state []byte, receipts [][32]byte) (*Follower, error) {
 	return ResumeIn(Members, state, receipts)
 }
 
-// ResumeIn resumes a follower from a state of this profile, by these receipts. Close frees it.
+// ResumeIn resumes a follower from a state of this profile, by these receipts. It has no strict rules. Close frees it.
 func ResumeIn(profile Profile, state []byte, receipts [][32]byte) (*Follower, error) {
 	f, good := new(Follower), joined(receipts)
 	return begun(f, C.mls_follower_resume(at(state), size(state), at(good), size(good), C.uint32_t(profile), &f.handle))
@@ -225,6 +265,19 @@ func (f *Follower) Ended() bool {
 	return ended == 1
 }
 
+// Rules returns the set of strict rules. No message changes it.
+func (f *Follower) Rules() Rules {
+	var rules C.uint16_t
+	C.mls_follower_rules(&f.handle, &rules)
+	return Rules(rules)
+}
+
+// MakeStrict adds strict rules to those of the follower. Only those that it lacks are checked. If they cannot be added, the
+// error is a Refused, and nothing has changed.
+func (f *Follower) MakeStrict(rules Rules) error {
+	return refused(C.mls_follower_make_strict(&f.handle, C.uint16_t(rules)))
+}
+
 // TreeHash returns the tree hash (7.8, 8.1).
 func (f *Follower) TreeHash() ([]byte, error) {
 	return filled(func(hash []byte, needed *C.size_t) uint32 {
@@ -239,7 +292,8 @@ func (f *Follower) ConfirmedHash() ([]byte, error) {
 	})
 }
 
-// State returns the state as a file, from which Resume resumes.
+// State returns the state as a file, from which Resume resumes. A follower with strict rules has none: the error is a Fault
+// of 105.
 func (f *Follower) State() ([]byte, error) {
 	return filled(func(state []byte, needed *C.size_t) uint32 {
 		return uint32(C.mls_follower_state(&f.handle, at(state), size(state), needed))
@@ -266,8 +320,8 @@ func (f *Follower) Learn(receipts [][32]byte) error {
 	return nil
 }
 
-// Judge processes a message (6), and accepts it if and only if it satisfies every rule. The error is a Refusal if it does not,
-// and nothing has changed then.
+// Judge processes a message (6), and accepts it if and only if it satisfies every rule of the profile, and every strict rule
+// of the follower's set. The error is a Refusal if it does not, and nothing has changed then.
 func (f *Follower) Judge(message []byte) (Accepted, error) {
 	reference := make([]byte, C.MLS_REFERENCE_SIZE)
 	answer := C.mls_follower_judge(&f.handle, at(message), size(message), at(reference), size(reference))

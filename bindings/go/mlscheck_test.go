@@ -1,9 +1,11 @@
 package mlscheck
 
 import (
+	"bytes"
 	"crypto/ed25519"
 	"encoding/hex"
 	"fmt"
+	"math"
 	"os"
 	"strings"
 	"testing"
@@ -78,4 +80,133 @@ func TestRealGroup(t *testing.T) {
 	if _, err := Start(info, nil, nil); err != (Refused{6, 5, 0}) {
 		t.Fatal(err)
 	}
+}
+
+// replaced returns the bytes with those from at on, of which there are length, replaced.
+func replaced(data []byte, at, length int, by ...byte) []byte {
+	return bytes.Join([][]byte{data[:at], by, data[at+length:]}, nil)
+}
+
+// repeated is an extensions list with a type twice, which no leaf node of the group supports.
+var repeated = []byte{6, 0xf0, 0, 0, 0xf0, 0, 0}
+
+func messages(t *testing.T) (list [][]byte) {
+	for log := file(t, "real/handshakes.log"); len(log) > 0; {
+		var message []byte
+		message, log = TakeVector(log)
+		list = append(list, message)
+	}
+	return
+}
+
+// trusted returns the receipts of the signatures.
+func trusted(wanted []Signature) (receipts [][32]byte) {
+	for _, w := range wanted {
+		receipts = append(receipts, w.Receipt)
+	}
+	return
+}
+
+// trusting learns that each signature of the message is good, and has it checked.
+func trusting(t *testing.T, group *Follower, message []byte) error {
+	wanted, err := group.Query(message)
+	if err == nil {
+		err = group.Learn(trusted(wanted))
+	}
+	if err != nil {
+		t.Fatal(err)
+	}
+	_, err = group.Judge(message)
+	return err
+}
+
+func expect(t *testing.T, err, expected error) {
+	t.Helper()
+	if err != expected {
+		t.Fatalf("%v, and not %v", err, expected)
+	}
+}
+
+// Follows the group by all strict rules: each message, and before it the same with a byte less in its membership tag.
+func TestStrictRules(t *testing.T) {
+	info := file(t, "real/epoch-1.info")
+	wanted, _ := StartQuery(info, nil, nil)
+	group, err := StartBy(Strict, Members, info, nil, verified(wanted))
+	if err != nil {
+		t.Fatal(err)
+	}
+	defer group.Close()
+	for _, message := range messages(t) {
+		expect(t, trusting(t, group, replaced(message, len(message)-33, 2, 31)), Refusal{40, 0, 0})
+		expect(t, trusting(t, group, message), nil)
+	}
+	if group.Epoch() != 8 || group.Rules() != Strict {
+		t.Fatal(group.Epoch(), group.Rules())
+	}
+	_, err = group.State()
+	expect(t, err, Fault(105))
+	if Strict&^Rule(47) != 0x1f7f || Rule(40)|Rule(52) != 0x1001 {
+		t.Fatal("a rule has another bit")
+	}
+}
+
+// Adds strict rules to a follower with two pending proposals, of which the second has a type of extension twice.
+func TestAddedRules(t *testing.T) {
+	info := file(t, "real/epoch-1.info")
+	wanted, _ := StartQuery(info, nil, nil)
+	group, err := Start(info, nil, verified(wanted))
+	if err != nil {
+		t.Fatal(err)
+	}
+	defer group.Close()
+	all := messages(t)
+	for _, message := range all[:4] {
+		expect(t, trusting(t, group, message), nil)
+	}
+	// Its Remove proposal is replaced by a GroupContextExtensions proposal.
+	remove := all[3]
+	expect(t, trusting(t, group, replaced(remove, len(remove)-105, 6, append([]byte{0, 7}, repeated...)...)), nil)
+	expect(t, group.MakeStrict(Strict), Refused{11, 0, 1})
+	expect(t, group.MakeStrict(0x2000), Refused{114, 0, 0})
+	if group.Rules() != Plain {
+		t.Fatal(group.Rules())
+	}
+	expect(t, group.MakeStrict(Strict&^Rule(41)), nil)
+	expect(t, trusting(t, group, all[4]), nil)
+	expect(t, group.MakeStrict(Rule(41)), nil)
+	if group.Rules() != Strict {
+		t.Fatal(group.Rules())
+	}
+}
+
+// Refuses a GroupContext with a type of extension twice by the strict rules alone.
+func TestGroupsThatAreNotStrict(t *testing.T) {
+	info, context := file(t, "real/epoch-1.info"), file(t, "real/epoch-1.context")
+	info = replaced(info, 4+len(context)-1, 1, repeated...)
+	wanted, _ := StartQuery(info, nil, nil)
+	good := trusted(wanted)
+	group, err := StartIn(Full, info, nil, good)
+	if err != nil {
+		t.Fatal(err)
+	}
+	defer group.Close()
+	_, err = StartBy(Strict, Full, info, nil, good)
+	expect(t, err, Refused{9, 41, math.MaxUint64})
+	_, err = StartBy(Rule(51), Full, info, nil, good)
+	expect(t, err, Refused{9, 51, 0})
+	expect(t, group.MakeStrict(Strict), Refused{10, 41, math.MaxUint64})
+	context, tree := file(t, "real/epoch-8.context"), file(t, "real/epoch-8.tree")
+	var receipts [][32]byte
+	for _, line := range strings.Fields(string(file(t, "real/receipts.txt"))) {
+		var receipt [32]byte
+		hex.Decode(receipt[:], []byte(line))
+		receipts = append(receipts, receipt)
+	}
+	hash, err := ValidateTreeStrict(context, tree, receipts, Strict)
+	expect(t, err, nil)
+	if hex.EncodeToString(hash[:4]) != "72763a49" {
+		t.Fatal(hash)
+	}
+	_, err = ValidateTreeStrict(replaced(context, len(context)-1, 1, repeated...), tree, receipts, Strict)
+	expect(t, err, Refused{9, 41, math.MaxUint64})
 }

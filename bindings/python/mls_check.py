@@ -1,7 +1,8 @@
 """Follows MLS groups (RFC 9420) from outside, by the proved library libmls_check.
 
 A service starts a Follower from a GroupInfo. For each message it calls `query`, verifies the signatures that are listed, calls
-`learn` with the receipts of the good ones, and then `judge`. MLS_CHECK_LIB names libmls_check.so, which tools/library makes.
+`learn` with the receipts of the good ones, and then `judge`. A service should start with the strict rules, RULES_STRICT.
+MLS_CHECK_LIB names libmls_check.so, which tools/library makes.
 
 The library is proved; this module is not. It meets the conditions of include/mls_check.h as long as a Follower is
 used by one thread at a time.
@@ -17,6 +18,10 @@ BUFFER_TOO_SMALL = 101
 PROFILE_MEMBERS = 1
 PROFILE_FULL = 2
 MALFORMED = 1
+
+# Sets of strict rules (docs/FORMATS.md): rule n, from 40 to 52, is bit n - 40. RULES_STRICT & ~rule(47) is all but 47.
+RULES_PLAIN = 0
+RULES_STRICT = 0x1FFF
 
 NAMES = (
     "", "Malformed", "NotPublic", "WrongGroup", "WrongEpoch", "SenderNotMember", "NotHandshake", "BadSignature",
@@ -39,8 +44,27 @@ Accepted = namedtuple("Accepted", "reference epoch")
 Refusal = namedtuple("Refusal", "number name inner leaf")
 
 
+def rule(number):
+    """The set of the strict rule with this number alone, which is from 40 to 52."""
+    if not 40 <= number <= 52:
+        raise ValueError(f"{number} is no strict rule")
+    return 1 << number - 40
+
+
+def _bits(rules):
+    """The number of a set of strict rules. It fits a uint16, which ctypes does not check."""
+    if not 0 <= rules <= RULES_STRICT:
+        raise ValueError(f"{rules} is no set of strict rules")
+    return rules
+
+
 class Refused(Exception):
-    """Why a call on a group's inputs has no result: number, inner and place."""
+    """Why a call on a group's inputs has no result: number, inner and place.
+
+    If the number is 9 of a start or a tree, or 10 of make_strict, a strict rule is not met: `inner` is its number, and
+    `place` the node index, or 2**64 - 1 if it is no node that does not meet it. If it is 11 of make_strict, `place` is
+    the number of the pending proposal that does not meet one, from 0 on.
+    """
 
     def __init__(self, number, inner, place):
         super().__init__(f"{number} {inner} {place}")
@@ -74,16 +98,20 @@ def _load():
     library = ctypes.CDLL(os.environ.get("MLS_CHECK_LIB", os.path.join(here, "../../build/libmls_check.so")))
     sized = [ctypes.c_char_p, ctypes.c_size_t]
     handle, size = ctypes.POINTER(_Handle), ctypes.POINTER(ctypes.c_size_t)
-    number = ctypes.c_uint32
+    number, rules = ctypes.c_uint32, ctypes.c_uint16
     for name, result, words in (
         ("mls_validate_tree", _Verdict, sized * 4 + [size]),
+        ("mls_validate_tree_strict", _Verdict, sized * 3 + [rules] + sized + [size]),
         ("mls_start_query", _Verdict, sized * 4 + [size]),
         ("mls_follower_start", _Verdict, sized * 3 + [number, handle]),
+        ("mls_follower_start_by", _Verdict, sized * 3 + [number, rules, handle]),
         ("mls_follower_resume", _Verdict, sized * 2 + [number, handle]),
         ("mls_follower_free", None, [handle]),
         ("mls_follower_epoch", number, [handle, ctypes.POINTER(ctypes.c_uint64)]),
         ("mls_follower_members", number, [handle, ctypes.POINTER(ctypes.c_uint32)]),
         ("mls_follower_ended", number, [handle, ctypes.POINTER(ctypes.c_uint32)]),
+        ("mls_follower_rules", number, [handle, ctypes.POINTER(rules)]),
+        ("mls_follower_make_strict", _Verdict, [handle, rules]),
         ("mls_follower_tree_hash", number, [handle] + sized + [size]),
         ("mls_follower_confirmed_hash", number, [handle] + sized + [size]),
         ("mls_follower_query", number, [handle] + sized * 2 + [size]),
@@ -112,12 +140,15 @@ def _filled(call):
         length = needed.value
 
 
+def _check(verdict, *others):
+    if verdict.number not in (0, *others):
+        raise Refused(verdict.number, verdict.inner, verdict.place)
+    return verdict.number
+
+
 def _filled_or_refused(call, *words):
     def by(*buffer):
-        verdict = call(*words, *buffer)
-        if verdict.number not in (0, BUFFER_TOO_SMALL):
-            raise Refused(verdict.number, verdict.inner, verdict.place)
-        return verdict.number
+        return _check(call(*words, *buffer), BUFFER_TOO_SMALL)
 
     return _filled(by)
 
@@ -147,32 +178,48 @@ def validate_tree(context, tree, receipts=()):
     return _filled_or_refused(_library.mls_validate_tree, *words)
 
 
+def validate_tree_strict(context, tree, receipts=(), rules=RULES_STRICT):
+    """Checks a tree as validate_tree does, and that the GroupContext and the tree meet these strict rules."""
+    good = b"".join(receipts)
+    words = (context, len(context), tree, len(tree), good, len(good), _bits(rules))
+    return _filled_or_refused(_library.mls_validate_tree_strict, *words)
+
+
 def start_query(info, tree=b"", receipts=()):
-    """The signatures of a start that have no receipt. Raises Refused if no follower starts though each were good."""
+    """The signatures of a start that have no receipt. Raises Refused if no follower starts though each were good.
+
+    Strict rules are not checked here.
+    """
     good = b"".join(receipts)
     return _signatures(_filled_or_refused(_library.mls_start_query, info, len(info), tree, len(tree), good, len(good)))
 
 
 class Follower:
-    """A follower of a group, in a profile."""
+    """A follower of a group, in a profile and with a set of strict rules."""
 
     def __init__(self, info, tree=b"", receipts=(), profile=PROFILE_MEMBERS):
-        """Starts from a GroupInfo (12.4.3), by these receipts. Raises Refused."""
+        """Starts from a GroupInfo (12.4.3), by these receipts and without strict rules. Raises Refused."""
         good = b"".join(receipts)
         self._begin(_library.mls_follower_start, info, len(info), tree, len(tree), good, len(good), profile)
 
     @classmethod
+    def start_by(cls, rules, info, tree=b"", receipts=(), profile=PROFILE_MEMBERS):
+        """Starts with these strict rules, which a service should have: RULES_STRICT. Raises Refused."""
+        follower, good, bits = cls.__new__(cls), b"".join(receipts), _bits(rules)
+        words = (info, len(info), tree, len(tree), good, len(good), profile, bits)
+        follower._begin(_library.mls_follower_start_by, *words)
+        return follower
+
+    @classmethod
     def resume(cls, state, receipts=(), profile=PROFILE_MEMBERS):
-        """Resumes from a state of this profile, by these receipts. Raises Refused."""
+        """Resumes from a state of this profile, by these receipts and without strict rules. Raises Refused."""
         follower, good = cls.__new__(cls), b"".join(receipts)
         follower._begin(_library.mls_follower_resume, state, len(state), good, len(good), profile)
         return follower
 
     def _begin(self, call, *words):
         self._handle = _Handle()
-        verdict = call(*words, ctypes.byref(self._handle))
-        if verdict.number:
-            raise Refused(verdict.number, verdict.inner, verdict.place)
+        _check(call(*words, ctypes.byref(self._handle)))
 
     def close(self):
         """Frees the follower."""
@@ -212,6 +259,18 @@ class Follower:
         return self._number(_library.mls_follower_ended, ctypes.c_uint32) == 1
 
     @property
+    def rules(self):
+        """The set of strict rules. No message changes it."""
+        return self._number(_library.mls_follower_rules, ctypes.c_uint16)
+
+    def make_strict(self, rules=RULES_STRICT):
+        """Adds strict rules to those of the follower. Only those that it lacks are checked.
+
+        Raises Refused if they cannot be added; then nothing has changed.
+        """
+        _check(_library.mls_follower_make_strict(ctypes.byref(self._handle), _bits(rules)))
+
+    @property
     def tree_hash(self):
         return self._bytes(_library.mls_follower_tree_hash)
 
@@ -221,7 +280,7 @@ class Follower:
 
     @property
     def state(self):
-        """The state as a file, from which `resume` resumes."""
+        """The state as a file, from which `resume` resumes. A follower with strict rules has none: Fault 105."""
         return self._bytes(_library.mls_follower_state)
 
     def query(self, message):

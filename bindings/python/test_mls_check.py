@@ -52,6 +52,34 @@ def forged(group, message):
     return message.replace(own, own[:-1] + bytes([own[-1] ^ 1]))
 
 
+# An extensions list with a type twice, which no leaf node of the group supports.
+REPEATED = bytes.fromhex("06f00000f00000")
+NO_NODE = 2**64 - 1
+
+
+def repeated(data, at):
+    """The list of extensions at `at`, which is empty, replaced by REPEATED."""
+    assert data[at] == 0
+    return data[:at] + REPEATED + data[at + 1 :]
+
+
+def with_short_tag(message):
+    """The message with a byte less in its membership tag, which is at its end."""
+    assert message[-33] == 32
+    return message[:-33] + bytes([31]) + message[-31:]
+
+
+def with_repeated_extensions(message):
+    """Its Remove proposal replaced by a GroupContextExtensions proposal with a type twice. The signature and the tag
+    follow, which are 99 bytes."""
+    assert message[-105:-103] == b"\0\3"
+    return message[:-105] + b"\0\7" + REPEATED + message[-99:]
+
+
+def every(wanted):
+    return [w.receipt for w in wanted]
+
+
 class RealGroup(unittest.TestCase):
     def follow(self, good):
         with mls_check.Follower(INFO, receipts=good(mls_check.start_query(INFO))) as group:
@@ -93,6 +121,68 @@ class RealGroup(unittest.TestCase):
         self.assertEqual(mls_check.validate_tree(context, tree, RECEIPTS).hex()[:8], "72763a49")
         with self.assertRaises(mls_check.Refused):
             mls_check.validate_tree(context, tree)
+
+    def test_sets_of_rules(self):
+        self.assertEqual(mls_check.RULES_STRICT & ~mls_check.rule(47), 0x1F7F)
+        self.assertEqual(mls_check.rule(40) | mls_check.rule(52), 0x1001)
+        for number in (39, 53):
+            with self.assertRaises(ValueError):
+                mls_check.rule(number)
+        for rules in (0x2000, 0x10000, -1):
+            with self.assertRaises(ValueError):
+                mls_check.Follower.start_by(rules, INFO, receipts=RECEIPTS)
+
+    def refused(self, number, inner, place, call, *words, **more):
+        with self.assertRaises(mls_check.Refused) as refused:
+            call(*words, **more)
+        found = refused.exception
+        self.assertEqual((found.number, found.inner, found.place), (number, inner, place))
+
+    def test_strict_rules(self):
+        plain = mls_check.Follower(INFO, receipts=RECEIPTS)
+        group = mls_check.Follower.start_by(mls_check.RULES_STRICT, INFO, receipts=RECEIPTS)
+        self.assertEqual((plain.rules, group.rules), (mls_check.RULES_PLAIN, mls_check.RULES_STRICT))
+        for message in MESSAGES:
+            self.assertEqual(judged(group, with_short_tag(message), every), "refused 40 TagLength")
+            self.assertEqual(judged(group, message, every), judged(plain, message, every))
+        self.assertEqual(group.rules, mls_check.RULES_STRICT)
+        with self.assertRaises(mls_check.Fault) as fault:
+            group.state
+        self.assertEqual(fault.exception.args, (105,))
+        plain.make_strict()
+        self.assertEqual(plain.rules, mls_check.RULES_STRICT)
+
+    def test_added_rules(self):
+        no_tags, repeats = mls_check.RULES_STRICT & ~mls_check.rule(40), mls_check.rule(41)
+        group = mls_check.Follower(INFO, receipts=RECEIPTS)
+        for message in (*MESSAGES[:4], with_repeated_extensions(MESSAGES[3])):
+            self.assertEqual(judged(group, message, every)[:8], "accepted")
+        # The second pending proposal has a type twice.
+        self.refused(11, 0, 1, group.make_strict, no_tags)
+        self.assertEqual(group.rules, mls_check.RULES_PLAIN)
+        group.make_strict(no_tags & ~repeats)
+        self.refused(11, 0, 1, group.make_strict, repeats)
+        self.assertEqual(judged(group, MESSAGES[4], every)[:8], "accepted")
+        group.make_strict(repeats)
+        self.assertEqual(group.rules, no_tags)
+
+    def test_groups_that_are_not_strict(self):
+        info = repeated(INFO, 4 + len(file("real/epoch-1.context")) - 1)
+        good = every(mls_check.start_query(info))
+        group = mls_check.Follower(info, receipts=good)
+        for rules, inner, place in ((mls_check.RULES_STRICT, 41, NO_NODE), (mls_check.rule(51), 51, 0)):
+            self.refused(9, inner, place, mls_check.Follower.start_by, rules, info, receipts=good)
+            self.refused(10, inner, place, group.make_strict, rules)
+        group.make_strict(mls_check.RULES_STRICT & ~mls_check.rule(41) & ~mls_check.rule(51))
+
+    def test_strict_tree(self):
+        context, tree = file("real/epoch-8.context"), file("real/epoch-8.tree")
+        hash_of = mls_check.validate_tree_strict
+        self.assertEqual(hash_of(context, tree, RECEIPTS), mls_check.validate_tree(context, tree, RECEIPTS))
+        context = repeated(context, len(context) - 1)
+        self.refused(9, 41, NO_NODE, hash_of, context, tree, RECEIPTS)
+        self.refused(9, 51, 0, hash_of, context, tree, RECEIPTS, mls_check.rule(51))
+        self.assertEqual(hash_of(context, tree, RECEIPTS, mls_check.rule(44)).hex()[:8], "72763a49")
 
 
 if __name__ == "__main__":

@@ -4,8 +4,9 @@
  *     follow INFO LOG RECEIPTS     a signature is good if its receipt is in the file RECEIPTS
  *     follow INFO LOG              a signature is good if libcrypto verifies it; needs a build with -DMLS_WITH_CRYPTO
  *
- * INFO is a GroupInfo, LOG the messages of the group, each as a vector. With the word `forge` at the end, each message is
- * first checked with one bit of its signature changed, which has to be refused for that.
+ * The group is followed by all strict rules. INFO is a GroupInfo, LOG the messages of the group, each as a vector. With the
+ * word `forge` at the end, each message is first checked with one bit of its signature changed, which has to be refused for
+ * that.
  */
 #include "../../include/mls_check.h"
 #include "support.h"
@@ -108,16 +109,19 @@ static void start(mls_follower *group, struct bytes info) {
     uint8_t hash[64];
     uint64_t epoch;
     uint32_t members;
+    uint16_t rules;
     size_t needed;
     struct bytes good = verify(start_signatures(info));
-    mls_verdict verdict =
-        mls_follower_start(info.at, info.len, MLS_EMPTY, good.at, good.len, MLS_PROFILE_MEMBERS, group);
+    mls_verdict verdict = mls_follower_start_by(info.at, info.len, MLS_EMPTY, good.at, good.len, MLS_PROFILE_MEMBERS,
+                                                MLS_RULES_STRICT, group);
     free(good.at);
     if (verdict.number != MLS_OK)
         fail("start refused", verdict.number, verdict.inner, verdict.place);
     if (mls_follower_epoch(group, &epoch) || mls_follower_members(group, &members) ||
-        mls_follower_tree_hash(group, hash, sizeof hash, &needed))
+        mls_follower_rules(group, &rules) || mls_follower_tree_hash(group, hash, sizeof hash, &needed))
         die("no follower");
+    if (rules != MLS_RULES_STRICT)
+        die("a strict rule is missing");
     printf("ready epoch %llu members %u tree ", (unsigned long long)epoch, members);
     print_hex(hash, needed);
     printf("\n");

@@ -1,7 +1,8 @@
 /*
  * Calls the library as a hostile or careless program may, within the conditions of mls_check.h: empty and huge inputs, short
- * buffers, handles without a follower, forged and damaged bytes, and memory that is refused. It is linked with
- * -Wl,--wrap=malloc,--wrap=realloc,--wrap=free, so it counts the library's allocations.
+ * buffers, handles without a follower, forged and damaged bytes, and memory that is refused. It does so without strict rules,
+ * and then with all of them. It is linked with -Wl,--wrap=malloc,--wrap=realloc,--wrap=free, so it counts the library's
+ * allocations.
  *
  *     hostile INFO LOG RECEIPTS CONTEXT TREE
  */
@@ -72,8 +73,29 @@ static void expect(int holds, const char *fact, int line) {
 
 static struct bytes info, log_bytes, receipts, context, tree;
 
+static uint16_t rules; /* of the followers that are started: none or all of them */
+
+static int is_strict(void) {
+    return rules != MLS_RULES_PLAIN;
+}
+
+/* Starts a follower from any bytes, in a profile. Without strict rules it is mls_follower_start that is tried. */
+static mls_verdict start_from(mls_follower *group, struct bytes from, struct bytes good, uint32_t profile) {
+    if (is_strict())
+        return mls_follower_start_by(from.at, from.len, MLS_EMPTY, good.at, good.len, profile, rules, group);
+    return mls_follower_start(from.at, from.len, MLS_EMPTY, good.at, good.len, profile, group);
+}
+
 static mls_verdict start(mls_follower *group, struct bytes good) {
-    return mls_follower_start(info.at, info.len, MLS_EMPTY, good.at, good.len, MLS_PROFILE_MEMBERS, group);
+    return start_from(group, info, good, MLS_PROFILE_MEMBERS);
+}
+
+/* Validates a tree. Without strict rules it is mls_validate_tree that is tried. */
+static mls_verdict validate(struct bytes of, struct bytes by, struct bytes good, uint8_t *hash, size_t room,
+                            size_t *needed) {
+    if (is_strict())
+        return mls_validate_tree_strict(of.at, of.len, by.at, by.len, good.at, good.len, rules, hash, room, needed);
+    return mls_validate_tree(of.at, of.len, by.at, by.len, good.at, good.len, hash, room, needed);
 }
 
 static int is(mls_verdict verdict, uint32_t number, uint32_t inner, uint64_t place) {
@@ -92,7 +114,11 @@ static void expect_no_follower(mls_follower *group) {
     uint8_t out[64] = {7};
     uint64_t epoch = 7;
     uint32_t members = 7, ended = 7;
+    uint16_t found = 7;
     size_t needed = 7;
+    EXPECT(mls_follower_rules(group, &found) == MLS_NO_FOLLOWER && found == 7);
+    EXPECT(is(mls_follower_make_strict(group, MLS_RULES_STRICT), MLS_NO_FOLLOWER, 0, 0));
+    EXPECT(is(mls_follower_make_strict(group, 0x2000), MLS_UNSUPPORTED_RULES, 0, 0));
     EXPECT(mls_follower_epoch(group, &epoch) == MLS_NO_FOLLOWER && epoch == 7);
     EXPECT(mls_follower_members(group, &members) == MLS_NO_FOLLOWER && members == 7);
     EXPECT(mls_follower_ended(group, &ended) == MLS_NO_FOLLOWER && ended == 7);
@@ -114,23 +140,29 @@ static void refused_starts(void) {
     long before = blocks;
     uint8_t message[] = {0, 1, 0, 1, 0};
     struct bytes rest = log_bytes, handshake = take_vector(&rest);
+    struct bytes odd = {receipts.at, 31}, unread = {message, sizeof message};
     expect_no_follower(&group);
     EXPECT(is(start(&group, nothing), MLS_START_MEMBER, MLS_MEMBER_LEAF_SIGNATURE, 0));
     expect_no_follower(&group);
-    EXPECT(is(mls_follower_start(info.at, info.len, MLS_EMPTY, receipts.at, receipts.len, 3, &group),
-              MLS_UNSUPPORTED_PROFILE, 0, 0));
-    EXPECT(is(mls_follower_start(info.at, info.len, MLS_EMPTY, receipts.at, receipts.len, 0, &group),
-              MLS_UNSUPPORTED_PROFILE, 0, 0));
-    EXPECT(is(mls_follower_start(info.at, info.len, MLS_EMPTY, receipts.at, 31, MLS_PROFILE_MEMBERS, &group),
-              MLS_BAD_RECEIPTS, 0, 0));
-    EXPECT(is(mls_follower_start(MLS_EMPTY, MLS_EMPTY, MLS_EMPTY, MLS_PROFILE_MEMBERS, &group), MLS_INFO_UNREADABLE,
-              MLS_DECODE_TRUNCATED, 0));
-    EXPECT(mls_follower_start(message, sizeof message, MLS_EMPTY, MLS_EMPTY, MLS_PROFILE_MEMBERS, &group).number ==
-           MLS_INFO_UNREADABLE);
+    EXPECT(is(start_from(&group, info, receipts, 3), MLS_UNSUPPORTED_PROFILE, 0, 0));
+    EXPECT(is(start_from(&group, info, receipts, 0), MLS_UNSUPPORTED_PROFILE, 0, 0));
+    EXPECT(is(start(&group, odd), MLS_BAD_RECEIPTS, 0, 0));
+    EXPECT(is(start_from(&group, nothing, nothing, MLS_PROFILE_MEMBERS), MLS_INFO_UNREADABLE, MLS_DECODE_TRUNCATED, 0));
+    EXPECT(start_from(&group, unread, nothing, MLS_PROFILE_MEMBERS).number == MLS_INFO_UNREADABLE);
     EXPECT(mls_follower_start(info.at, info.len, message, sizeof message, MLS_EMPTY, MLS_PROFILE_MEMBERS, &group)
                .number == MLS_TREE_UNREADABLE);
-    EXPECT(is(mls_follower_start(handshake.at, handshake.len, MLS_EMPTY, MLS_EMPTY, MLS_PROFILE_MEMBERS, &group),
-              MLS_NOT_GROUP_INFO, 0, 0));
+    EXPECT(mls_follower_start_by(info.at, info.len, message, sizeof message, MLS_EMPTY, MLS_PROFILE_MEMBERS, rules,
+                                 &group)
+               .number == MLS_TREE_UNREADABLE);
+    EXPECT(is(start_from(&group, handshake, nothing, MLS_PROFILE_MEMBERS), MLS_NOT_GROUP_INFO, 0, 0));
+    /* the profile is checked before the rules, and these before the receipts */
+    for (uint16_t bit = 0x2000; bit != 0; bit = (uint16_t)(bit << 1)) {
+        EXPECT(is(mls_follower_start_by(info.at, info.len, MLS_EMPTY, odd.at, odd.len, 3, rules | bit, &group),
+                  MLS_UNSUPPORTED_PROFILE, 0, 0));
+        EXPECT(is(mls_follower_start_by(info.at, info.len, MLS_EMPTY, odd.at, odd.len, MLS_PROFILE_FULL, rules | bit,
+                                        &group),
+                  MLS_UNSUPPORTED_RULES, 0, 0));
+    }
     EXPECT(is(mls_follower_resume(MLS_EMPTY, MLS_EMPTY, MLS_PROFILE_MEMBERS, &group), MLS_RESUME_UNREADABLE,
               MLS_DECODE_TRUNCATED, 0));
     EXPECT(is(mls_follower_resume(info.at, info.len, MLS_EMPTY, 3, &group), MLS_UNSUPPORTED_PROFILE, 0, 0));
@@ -159,38 +191,64 @@ static void short_buffers(void) {
     memset(buffer, 0xaa, 1 << 16);
     EXPECT(mls_follower_tree_hash(&group, buffer, 31, &needed) == MLS_BUFFER_TOO_SMALL && needed == 32);
     EXPECT(mls_follower_confirmed_hash(&group, buffer, 31, &needed) == MLS_BUFFER_TOO_SMALL && needed == 32);
-    EXPECT(mls_follower_state(&group, buffer, 0, &size) == MLS_BUFFER_TOO_SMALL && size > 0);
-    EXPECT(mls_follower_state(&group, buffer, size - 1, &needed) == MLS_BUFFER_TOO_SMALL && needed == size);
+    if (is_strict()) {
+        EXPECT(mls_follower_state(&group, buffer, 1 << 16, &size) == MLS_TOO_LONG && size == 0);
+    } else {
+        EXPECT(mls_follower_state(&group, buffer, 0, &size) == MLS_BUFFER_TOO_SMALL && size > 0);
+        EXPECT(mls_follower_state(&group, buffer, size - 1, &needed) == MLS_BUFFER_TOO_SMALL && needed == size);
+    }
     EXPECT(is_judged(mls_follower_judge(&group, message.at, message.len, buffer, MLS_REFERENCE_SIZE - 1),
                      MLS_BUFFER_TOO_SMALL));
     for (size_t i = 0; i < 1 << 16; i++)
         if (buffer[i] != 0xaa)
             die("a buffer that is too small was written to");
-    EXPECT(mls_follower_state(&group, buffer, size, &needed) == MLS_OK && needed == size && buffer[size] == 0xaa);
+    if (!is_strict())
+        EXPECT(mls_follower_state(&group, buffer, size, &needed) == MLS_OK && needed == size && buffer[size] == 0xaa);
     EXPECT(mls_follower_judge(&group, message.at, message.len, reference, sizeof reference).number == MLS_OK);
     mls_follower_free(&group);
     free(buffer);
+}
+
+/* ---- the receipts of all signatures that are listed */
+
+/* Returns the receipts of all records, and frees these. */
+static struct bytes receipts_of(struct bytes records) {
+    struct bytes good = {allocate(records.len), 0};
+    for (struct bytes left = records; left.len > 0; good.len += MLS_RECEIPT_SIZE)
+        memcpy(good.at + good.len, take_vector(&left).at, MLS_RECEIPT_SIZE);
+    free(records.at);
+    return good;
+}
+
+static struct bytes receipts_of_start(struct bytes from) {
+    struct bytes records;
+    uint8_t none[1];
+    size_t needed;
+    EXPECT(is(mls_start_query(from.at, from.len, MLS_EMPTY, MLS_EMPTY, none, 0, &records.len), MLS_BUFFER_TOO_SMALL, 0,
+              0));
+    records.at = allocate(records.len);
+    EXPECT(is(mls_start_query(from.at, from.len, MLS_EMPTY, MLS_EMPTY, records.at, records.len, &needed), MLS_OK, 0, 0));
+    return receipts_of(records);
+}
+
+/* Learns that each signature of the message is good, and has it checked. */
+static uint32_t judge_trusting(mls_follower *group, struct bytes message) {
+    struct bytes records = {allocate(1 << 16), 0}, good;
+    uint8_t reference[MLS_REFERENCE_SIZE];
+    EXPECT(mls_follower_query(group, message.at, message.len, records.at, 1 << 16, &records.len) == MLS_OK);
+    good = receipts_of(records);
+    EXPECT(mls_follower_learn(group, good.at, good.len) == MLS_OK);
+    free(good.at);
+    return mls_follower_judge(group, message.at, message.len, reference, sizeof reference).number;
 }
 
 /* ---- the query of a message whose signatures have no receipts, with a buffer that is a byte too small */
 
 static void unknown_signatures(void) {
     mls_follower group = MLS_NO_FOLLOWER_YET;
-    struct bytes rest = log_bytes, message = take_vector(&rest), records, good;
+    struct bytes rest = log_bytes, message = take_vector(&rest), records, good = receipts_of_start(info);
     size_t size, needed;
     uint8_t reference[MLS_REFERENCE_SIZE];
-    /* the receipts of the start alone */
-    mls_verdict verdict = mls_start_query(info.at, info.len, MLS_EMPTY, MLS_EMPTY, reference, 0, &size);
-    EXPECT(verdict.number == MLS_BUFFER_TOO_SMALL);
-    records.at = allocate(size);
-    records.len = size;
-    verdict = mls_start_query(info.at, info.len, MLS_EMPTY, MLS_EMPTY, records.at, size, &needed);
-    EXPECT(verdict.number == MLS_OK);
-    good.at = allocate(size);
-    good.len = 0;
-    for (struct bytes left = records; left.len > 0; good.len += MLS_RECEIPT_SIZE)
-        memcpy(good.at + good.len, take_vector(&left).at, MLS_RECEIPT_SIZE);
-    free(records.at);
     EXPECT(is(start(&group, good), MLS_OK, 0, 0));
     free(good.at);
 
@@ -227,8 +285,7 @@ static void odd_messages(void) {
     EXPECT(mls_follower_query(&group, MLS_EMPTY, reference, 0, &needed) == MLS_REFUSED_MALFORMED && needed == 0);
     EXPECT(is_judged(mls_follower_judge(&group, zeros, huge, reference, sizeof reference), MLS_REFUSED_MALFORMED));
     EXPECT(mls_follower_query(&group, zeros, huge, reference, 0, &needed) == MLS_REFUSED_MALFORMED);
-    EXPECT(mls_follower_start(zeros, huge, MLS_EMPTY, MLS_EMPTY, MLS_PROFILE_MEMBERS, &group).number ==
-           MLS_INFO_UNREADABLE);
+    EXPECT(start_from(&group, (struct bytes){zeros, huge}, nothing, MLS_PROFILE_MEMBERS).number == MLS_INFO_UNREADABLE);
     EXPECT(mls_follower_resume(zeros, huge, MLS_EMPTY, MLS_PROFILE_MEMBERS, &group).number == MLS_RESUME_UNREADABLE);
     EXPECT(mls_follower_learn(&group, zeros, 32) == MLS_OK);
     munmap(zeros, huge);
@@ -244,8 +301,10 @@ static void odd_messages(void) {
         if (judgement.number == MLS_OK) {
             /* the membership tag is checked by no rule: begin again */
             EXPECT(is(start(&group, receipts), MLS_OK, 0, 0));
-        } else
-            EXPECT(judgement.number < MLS_REFUSED_GROUP_OVER || judgement.number > MLS_REFUSED_POINT_OFF_CURVE);
+        } else {
+            EXPECT(judgement.number < MLS_REFUSED_GROUP_OVER || judgement.number > MLS_REFUSED_RESYNC_INVALID);
+            EXPECT(is_strict() || judgement.number < MLS_REFUSED_TAG_LENGTH);
+        }
     }
     free(copy.at);
     EXPECT(mls_follower_judge(&group, message.at, message.len, reference, sizeof reference).number == MLS_OK);
@@ -262,6 +321,23 @@ static struct bytes state_of(mls_follower *group) {
     state.at = allocate(state.len);
     EXPECT(mls_follower_state(group, state.at, state.len, &needed) == MLS_OK && needed == state.len);
     return state;
+}
+
+/* The state as a file, or if the follower has strict rules, its epoch and both hashes. */
+static struct bytes picture_of(mls_follower *group) {
+    struct bytes picture;
+    size_t needed;
+    uint64_t epoch;
+    if (!is_strict())
+        return state_of(group);
+    picture.len = 8 + 2 * 64;
+    picture.at = allocate(picture.len);
+    memset(picture.at, 0, picture.len);
+    EXPECT(mls_follower_epoch(group, &epoch) == MLS_OK);
+    memcpy(picture.at, &epoch, 8);
+    EXPECT(mls_follower_tree_hash(group, picture.at + 8, 64, &needed) == MLS_OK);
+    EXPECT(mls_follower_confirmed_hash(group, picture.at + 8 + 64, 64, &needed) == MLS_OK);
+    return picture;
 }
 
 static void stored_states(void) {
@@ -307,23 +383,156 @@ static void stored_states(void) {
 /* ---- a tree */
 
 static void trees(void) {
+    struct bytes odd = {receipts.at, 1};
     uint8_t hash[64] = {7};
     size_t needed = 7;
-    EXPECT(is(mls_validate_tree(context.at, context.len, tree.at, tree.len, receipts.at, receipts.len, hash, 31, &needed),
-              MLS_BUFFER_TOO_SMALL, 0, 0));
+    EXPECT(is(validate(context, tree, receipts, hash, 31, &needed), MLS_BUFFER_TOO_SMALL, 0, 0));
     EXPECT(needed == 32 && hash[0] == 7);
-    EXPECT(is(mls_validate_tree(context.at, context.len, tree.at, tree.len, receipts.at, receipts.len, hash, sizeof hash,
-                                &needed),
-              MLS_OK, 0, 0));
+    EXPECT(is(validate(context, tree, receipts, hash, sizeof hash, &needed), MLS_OK, 0, 0));
     EXPECT(needed == 32 && hash[0] == 0x72 && hash[1] == 0x76 && hash[2] == 0x3a && hash[3] == 0x49);
-    EXPECT(is(mls_validate_tree(context.at, context.len, tree.at, tree.len, MLS_EMPTY, hash, sizeof hash, &needed),
-              MLS_START_MEMBER, MLS_MEMBER_LEAF_SIGNATURE, 0));
-    EXPECT(is(mls_validate_tree(context.at, context.len, MLS_EMPTY, MLS_EMPTY, hash, sizeof hash, &needed),
-              MLS_TREE_UNREADABLE, MLS_DECODE_TRUNCATED, 0));
-    EXPECT(is(mls_validate_tree(MLS_EMPTY, tree.at, tree.len, MLS_EMPTY, hash, sizeof hash, &needed),
-              MLS_CONTEXT_UNREADABLE, MLS_DECODE_TRUNCATED, 0));
-    EXPECT(is(mls_validate_tree(context.at, context.len, tree.at, tree.len, receipts.at, 1, hash, sizeof hash, &needed),
-              MLS_BAD_RECEIPTS, 0, 0));
+    EXPECT(is(validate(context, tree, nothing, hash, sizeof hash, &needed), MLS_START_MEMBER, MLS_MEMBER_LEAF_SIGNATURE,
+              0));
+    EXPECT(is(validate(context, nothing, nothing, hash, sizeof hash, &needed), MLS_TREE_UNREADABLE, MLS_DECODE_TRUNCATED,
+              0));
+    EXPECT(is(validate(nothing, tree, nothing, hash, sizeof hash, &needed), MLS_CONTEXT_UNREADABLE, MLS_DECODE_TRUNCATED,
+              0));
+    EXPECT(is(validate(context, tree, odd, hash, sizeof hash, &needed), MLS_BAD_RECEIPTS, 0, 0));
+    needed = 7;
+    EXPECT(is(mls_validate_tree_strict(context.at, context.len, tree.at, tree.len, odd.at, odd.len, rules | 0x2000, hash,
+                                       sizeof hash, &needed),
+              MLS_UNSUPPORTED_RULES, 0, 0));
+    EXPECT(needed == 0 && hash[0] == 0x72);
+}
+
+/* ---- what meets all rules but the strict ones */
+
+/* An extensions list with a type twice, which no leaf node of the group supports. */
+static const uint8_t repeated[] = {6, 0xf0, 0, 0, 0xf0, 0, 0};
+
+/* Returns a copy with the `len` bytes at `at` replaced. */
+static struct bytes replaced(struct bytes old, size_t at, size_t len, const uint8_t *by, size_t by_len) {
+    struct bytes copy = {allocate(old.len - len + by_len), old.len - len + by_len};
+    memcpy(copy.at, old.at, at);
+    memcpy(copy.at + at, by, by_len);
+    memcpy(copy.at + at + by_len, old.at + at + len, old.len - at - len);
+    return copy;
+}
+
+/* A message with a byte less in its membership tag, which is at its end. */
+static struct bytes with_short_tag(struct bytes message) {
+    static const uint8_t size[] = {31};
+    EXPECT(message.at[message.len - 33] == 32);
+    return replaced(message, message.len - 33, 2, size, 1);
+}
+
+/* A message whose Remove proposal is replaced by a GroupContextExtensions proposal with a type twice. After the proposal come
+   99 bytes: the signature and the membership tag. */
+static struct bytes with_repeated_extensions(struct bytes message) {
+    uint8_t proposal[2 + sizeof repeated] = {0, 7};
+    memcpy(proposal + 2, repeated, sizeof repeated);
+    EXPECT(message.at[message.len - 105] == 0 && message.at[message.len - 104] == 3);
+    return replaced(message, message.len - 105, 6, proposal, sizeof proposal);
+}
+
+static uint16_t rules_of(mls_follower *group) {
+    uint16_t found = 0;
+    EXPECT(mls_follower_rules(group, &found) == MLS_OK);
+    return found;
+}
+
+/* A tag that is too short is refused by rule 40 alone. */
+static void short_tags(void) {
+    mls_follower group = MLS_NO_FOLLOWER_YET;
+    EXPECT(is(start(&group, receipts), MLS_OK, 0, 0));
+    EXPECT(rules_of(&group) == rules);
+    for (struct bytes rest = log_bytes; rest.len > 0;) {
+        struct bytes message = take_vector(&rest), copy = with_short_tag(message);
+        if (is_strict())
+            EXPECT(judge_trusting(&group, copy) == MLS_REFUSED_TAG_LENGTH);
+        free(copy.at);
+        EXPECT(judge_trusting(&group, message) == MLS_OK);
+    }
+    EXPECT(rules_of(&group) == rules);
+    mls_follower_free(&group);
+    /* any follower accepts it if it lacks this rule */
+    EXPECT(is(mls_follower_start_by(info.at, info.len, MLS_EMPTY, receipts.at, receipts.len, MLS_PROFILE_MEMBERS,
+                                    rules & ~MLS_RULE(40), &group),
+              MLS_OK, 0, 0));
+    {
+        struct bytes rest = log_bytes, copy = with_short_tag(take_vector(&rest));
+        EXPECT(judge_trusting(&group, copy) == MLS_OK);
+        free(copy.at);
+    }
+    mls_follower_free(&group);
+}
+
+/* Adds strict rules to a follower with two pending proposals, of which the second has a type of extension twice. */
+static void added_rules(void) {
+    mls_follower group = MLS_NO_FOLLOWER_YET;
+    struct bytes rest = log_bytes, message, copy;
+    EXPECT(is(mls_follower_start(info.at, info.len, MLS_EMPTY, receipts.at, receipts.len, MLS_PROFILE_MEMBERS, &group),
+              MLS_OK, 0, 0));
+    EXPECT(is(mls_follower_make_strict(&group, MLS_RULES_PLAIN), MLS_OK, 0, 0) && rules_of(&group) == MLS_RULES_PLAIN);
+    for (int i = 0; i < 4; i++) {
+        message = take_vector(&rest);
+        EXPECT(judge_trusting(&group, message) == MLS_OK);
+    }
+    copy = with_repeated_extensions(message);
+    EXPECT(judge_trusting(&group, copy) == MLS_OK);
+    EXPECT(is(mls_follower_make_strict(&group, 0x2000), MLS_UNSUPPORTED_RULES, 0, 0));
+    EXPECT(is(mls_follower_make_strict(&group, MLS_RULES_STRICT), MLS_RESUME_KNOWN_STRICT, 0, 1));
+    EXPECT(rules_of(&group) == MLS_RULES_PLAIN);
+    EXPECT(is(mls_follower_make_strict(&group, MLS_RULES_STRICT & ~MLS_RULE(41)), MLS_OK, 0, 0));
+    EXPECT(is(mls_follower_make_strict(&group, MLS_RULE(41)), MLS_RESUME_KNOWN_STRICT, 0, 1));
+    EXPECT(rules_of(&group) == (MLS_RULES_STRICT & ~MLS_RULE(41)));
+    free(copy.at);
+    /* in the next epoch the proposal is no more pending */
+    message = take_vector(&rest);
+    EXPECT(judge_trusting(&group, message) == MLS_OK);
+    EXPECT(is(mls_follower_make_strict(&group, MLS_RULE(41)), MLS_OK, 0, 0) && rules_of(&group) == MLS_RULES_STRICT);
+    message = take_vector(&rest);
+    copy = with_repeated_extensions(message);
+    EXPECT(judge_trusting(&group, copy) == MLS_REFUSED_EXTENSION_REPEATED);
+    free(copy.at);
+    mls_follower_free(&group);
+}
+
+/* A GroupContext with a type of extension twice, of a group that is valid otherwise: the GroupContext breaks rule 41, and
+   each leaf node rule 51. */
+static void groups_that_are_not_strict(void) {
+    static const uint64_t no_node = UINT64_MAX;
+    mls_follower group = MLS_NO_FOLLOWER_YET;
+    struct bytes own = replaced(context, context.len - 1, 1, repeated, sizeof repeated), repeats, good;
+    uint8_t hash[64];
+    size_t needed, at = 4 + context.len - 1; /* the GroupContexts of the two epochs have one length */
+    EXPECT(mls_validate_tree(own.at, own.len, tree.at, tree.len, receipts.at, receipts.len, hash, sizeof hash, &needed)
+               .number == MLS_OK);
+    EXPECT(is(mls_validate_tree_strict(own.at, own.len, tree.at, tree.len, receipts.at, receipts.len, MLS_RULES_STRICT,
+                                       hash, sizeof hash, &needed),
+              MLS_START_STRICT, MLS_REFUSED_EXTENSION_REPEATED, no_node));
+    EXPECT(is(mls_validate_tree_strict(own.at, own.len, tree.at, tree.len, receipts.at, receipts.len, MLS_RULE(51), hash,
+                                       sizeof hash, &needed),
+              MLS_START_STRICT, MLS_REFUSED_GROUP_EXTENSION_UNSUPPORTED, 0));
+    free(own.at);
+
+    EXPECT(info.at[at] == 0 && context.at[context.len - 1] == 0);
+    repeats = replaced(info, at, 1, repeated, sizeof repeated);
+    good = receipts_of_start(repeats);
+    EXPECT(is(mls_follower_start_by(repeats.at, repeats.len, MLS_EMPTY, good.at, good.len, MLS_PROFILE_MEMBERS,
+                                    MLS_RULES_STRICT, &group),
+              MLS_START_STRICT, MLS_REFUSED_EXTENSION_REPEATED, no_node));
+    expect_no_follower(&group);
+    EXPECT(is(mls_follower_start(repeats.at, repeats.len, MLS_EMPTY, good.at, good.len, MLS_PROFILE_MEMBERS, &group),
+              MLS_OK, 0, 0));
+    EXPECT(is(mls_follower_make_strict(&group, MLS_RULES_STRICT), MLS_RESUME_STRICT, MLS_REFUSED_EXTENSION_REPEATED,
+              no_node));
+    EXPECT(is(mls_follower_make_strict(&group, MLS_RULE(51)), MLS_RESUME_STRICT,
+              MLS_REFUSED_GROUP_EXTENSION_UNSUPPORTED, 0));
+    EXPECT(rules_of(&group) == MLS_RULES_PLAIN);
+    EXPECT(is(mls_follower_make_strict(&group, MLS_RULES_STRICT & ~MLS_RULE(41) & ~MLS_RULE(51)), MLS_OK, 0, 0));
+    mls_follower_free(&group);
+    free(repeats.at);
+    free(good.at);
 }
 
 /* ---- memory that is refused: each allocation of a call in turn */
@@ -346,7 +555,7 @@ static void refused_memory(void) {
         EXPECT(is(verdict, MLS_OUT_OF_MEMORY, 0, 0) && group.at == NULL && blocks == before);
     }
     while (rest.len > 0) {
-        struct bytes message = take_vector(&rest), state = state_of(&group), copy;
+        struct bytes message = take_vector(&rest), picture = picture_of(&group), copy;
         for (long n = 1; refused = 0, until_refused = n, 1; n++) {
             long before = blocks;
             uint32_t number = mls_follower_query(&group, message.at, message.len, buffer, 1 << 16, &needed);
@@ -367,21 +576,21 @@ static void refused_memory(void) {
             }
             total++;
             EXPECT(is_judged(judgement, MLS_OUT_OF_MEMORY));
-            copy = state_of(&group);
-            EXPECT(copy.len == state.len && memcmp(copy.at, state.at, state.len) == 0);
+            copy = picture_of(&group);
+            EXPECT(copy.len == picture.len && memcmp(copy.at, picture.at, picture.len) == 0);
             free(copy.at);
         }
         for (long n = 1; refused = 0, until_refused = n, 1; n++) {
             uint32_t number = mls_follower_state(&group, buffer, 1 << 16, &needed);
             until_refused = 0;
             if (!refused) {
-                EXPECT(number == MLS_OK);
+                EXPECT(number == (is_strict() ? MLS_TOO_LONG : MLS_OK));
                 break;
             }
             total++;
             EXPECT(number == MLS_OUT_OF_MEMORY && needed == 0);
         }
-        free(state.at);
+        free(picture.at);
     }
     for (long n = 1; refused = 0, until_refused = n, 1; n++) {
         uint8_t some[3200];
@@ -398,8 +607,7 @@ static void refused_memory(void) {
         EXPECT(number == MLS_OUT_OF_MEMORY);
     }
     for (long n = 1; refused = 0, until_refused = n, 1; n++) {
-        mls_verdict verdict =
-            mls_validate_tree(context.at, context.len, tree.at, tree.len, receipts.at, receipts.len, buffer, 64, &needed);
+        mls_verdict verdict = validate(context, tree, receipts, buffer, 64, &needed);
         until_refused = 0;
         if (!refused) {
             EXPECT(verdict.number == MLS_OK);
@@ -419,6 +627,19 @@ static void refused_memory(void) {
         EXPECT(is(verdict, MLS_OUT_OF_MEMORY, 0, 0) && needed == 0);
     }
     mls_follower_free(&group);
+    EXPECT(is(mls_follower_start(info.at, info.len, MLS_EMPTY, receipts.at, receipts.len, MLS_PROFILE_MEMBERS, &group),
+              MLS_OK, 0, 0));
+    for (long n = 1; refused = 0, until_refused = n, 1; n++) {
+        mls_verdict verdict = mls_follower_make_strict(&group, MLS_RULES_STRICT);
+        until_refused = 0;
+        if (!refused) {
+            EXPECT(verdict.number == MLS_OK && rules_of(&group) == MLS_RULES_STRICT);
+            break;
+        }
+        total++;
+        EXPECT(is(verdict, MLS_OUT_OF_MEMORY, 0, 0) && rules_of(&group) == MLS_RULES_PLAIN);
+    }
+    mls_follower_free(&group);
     free(buffer);
     printf("memory was refused %ld times\n", total);
 }
@@ -428,8 +649,9 @@ static void refused_memory(void) {
 static void kept_as_they_are(void) {
     mls_follower group = MLS_NO_FOLLOWER_YET, other = MLS_NO_FOLLOWER_YET;
     uint8_t reference[MLS_REFERENCE_SIZE], other_reference[MLS_REFERENCE_SIZE];
-    struct bytes rest = log_bytes, state, other_state;
+    struct bytes rest = log_bytes, picture, other_picture;
     EXPECT(is(start(&other, receipts), MLS_OK, 0, 0));
+    kept_blocks = 0;
     keeps_blocks = 1;
     EXPECT(is(start(&group, receipts), MLS_OK, 0, 0));
     keeps_blocks = 0;
@@ -443,11 +665,11 @@ static void kept_as_they_are(void) {
         EXPECT(judgement.number == expected.number && judgement.kind == expected.kind && judgement.epoch == expected.epoch);
     }
     EXPECT(kept_blocks > 0);
-    state = state_of(&group);
-    other_state = state_of(&other);
-    EXPECT(state.len == other_state.len && memcmp(state.at, other_state.at, state.len) == 0);
-    free(state.at);
-    free(other_state.at);
+    picture = picture_of(&group);
+    other_picture = picture_of(&other);
+    EXPECT(picture.len == other_picture.len && memcmp(picture.at, other_picture.at, picture.len) == 0);
+    free(picture.at);
+    free(other_picture.at);
     mls_follower_free(&group);
     mls_follower_free(&other);
     printf("%ld blocks could not be made smaller\n", kept_blocks);
@@ -458,13 +680,29 @@ static void kept_as_they_are(void) {
 static void many_handles(void) {
     mls_follower group = MLS_NO_FOLLOWER_YET;
     long before = blocks;
-    for (int i = 0; i < 100000; i++) {
+    for (int i = 0; i < (is_strict() ? 10000 : 100000); i++) {
         EXPECT(is(start(&group, receipts), MLS_OK, 0, 0));
         if (i % 2 == 0) /* otherwise the next start frees it */
             mls_follower_free(&group);
     }
     mls_follower_free(&group);
     EXPECT(blocks == before);
+}
+
+/* With the present strict rules. A follower with some has no state file. */
+static void try_all(void) {
+    printf("strict rules: %s\n", is_strict() ? "all" : "none");
+    refused_starts();
+    short_buffers();
+    unknown_signatures();
+    odd_messages();
+    if (!is_strict())
+        stored_states();
+    trees();
+    short_tags();
+    refused_memory();
+    kept_as_they_are();
+    many_handles();
 }
 
 int main(int count, char **words) {
@@ -476,15 +714,11 @@ int main(int count, char **words) {
     context = read_file(words[4]);
     tree = read_file(words[5]);
     long before = blocks;
-    refused_starts();
-    short_buffers();
-    unknown_signatures();
-    odd_messages();
-    stored_states();
-    trees();
-    refused_memory();
-    kept_as_they_are();
-    many_handles();
+    try_all();
+    rules = MLS_RULES_STRICT;
+    try_all();
+    added_rules();
+    groups_that_are_not_strict();
     EXPECT(blocks == before);
     printf("%ld checks hold, no block is left\n", checks);
     free(info.at);

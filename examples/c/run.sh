@@ -1,9 +1,10 @@
 #!/bin/sh
 # Builds the library for C and the examples in this folder, and runs them on the group in examples/real:
 #
-# - follow, with receipts from a file and, if libcrypto is there, with signatures that it verifies: its lines have to be those
-#   of expected.txt, and those of `mlscheck gate` if PROGRAM names a built program;
-# - hostile: calls that a careless or hostile program may make, refused memory, 100,000 handles.
+# - follow, by all strict rules, with receipts from a file and, if libcrypto is there, with signatures that it verifies: its
+#   lines have to be those of expected.txt, and those of `mlscheck gate` if PROGRAM names a built program;
+# - hostile: calls that a careless or hostile program may make, refused memory, many handles, all of it without strict rules
+#   and with all of them.
 #
 # Where the compiler has them, AddressSanitizer and UndefinedBehaviorSanitizer watch the examples.
 #

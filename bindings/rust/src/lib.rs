@@ -1,7 +1,8 @@
 //! Follows MLS groups (RFC 9420) from outside, by the proved library `libmls_check`.
 //!
 //! A service starts a [`Follower`] from a GroupInfo. For each message it calls [`Follower::query`], verifies the signatures
-//! that are listed, calls [`Follower::learn`] with the receipts of the good ones, and then [`Follower::judge`].
+//! that are listed, calls [`Follower::learn`] with the receipts of the good ones, and then [`Follower::judge`]. A service
+//! should start by [`Follower::start_by`] with [`Rules::STRICT`].
 //!
 //! The library is proved; this crate is not. It meets the conditions of `include/mls_check.h` by Rust's types:
 //! a slice is never null, a `&mut` overlaps nothing else, and a `Follower` owns its handle and is neither copied nor shared.
@@ -37,7 +38,62 @@ pub enum Accepted {
     Commit(u64),
 }
 
-/// Why a message is refused: the rule, and for 25 the number and the leaf index of the fault of the leaf node.
+/// A set of strict rules: forms, lengths and lists that anyone can see, which a follower checks after the rules of its
+/// profile. The set has a rule by its number, from 40 to 52 (docs/FORMATS.md).
+#[derive(Clone, Copy, Debug, PartialEq, Eq)]
+pub struct Rules {
+    bits: u16,
+}
+
+impl Rules {
+    /// The empty set.
+    pub const PLAIN: Rules = Rules { bits: 0 };
+
+    /// The set of all strict rules, 40 to 52.
+    pub const STRICT: Rules = Rules { bits: 0x1fff };
+
+    /// Returns the bit of the strict rule of this number, or 0 if the number is none of 40 to 52.
+    const fn bit(number: u8) -> u16 {
+        if number < 40 || number > 52 {
+            return 0;
+        }
+        1 << (number - 40)
+    }
+
+    /// Returns whether the set has the strict rule of this number.
+    pub const fn has(self, number: u8) -> bool {
+        self.bits & Rules::bit(number) != 0
+    }
+
+    /// Returns the union of two sets.
+    pub const fn with(self, rules: Rules) -> Rules {
+        Rules { bits: self.bits | rules.bits }
+    }
+
+    /// Returns the set without the strict rule of this number, or `None` if the number is none of 40 to 52.
+    pub const fn without(self, number: u8) -> Option<Rules> {
+        match Rules::bit(number) {
+            0 => None,
+            bit => Some(Rules { bits: self.bits & !bit }),
+        }
+    }
+
+    /// Returns the number that encodes the set: rule `n` is bit `n - 40`.
+    pub const fn bits(self) -> u16 {
+        self.bits
+    }
+
+    /// Returns the set that the number encodes, or `None` if one of the bits 13 to 15 is 1.
+    pub const fn from_bits(bits: u16) -> Option<Rules> {
+        if bits > Rules::STRICT.bits {
+            return None;
+        }
+        Some(Rules { bits })
+    }
+}
+
+/// Why a message is refused: the rule, and for 25 the number and the leaf index of the fault of the leaf node. The rules 40
+/// to 52 are the strict ones.
 #[derive(Clone, Copy, Debug, PartialEq, Eq)]
 pub struct Refusal {
     pub number: u32,
@@ -63,7 +119,8 @@ impl Refusal {
     }
 }
 
-/// Memory ran out, or the state has no file. The follower is unchanged, but may have learnt some of the receipts.
+/// Memory ran out, or the state has no file, as that of a follower with strict rules. The follower is unchanged, but may
+/// have learnt some of the receipts.
 #[derive(Clone, Copy, Debug, PartialEq, Eq)]
 pub struct Fault {
     pub number: u32,
@@ -112,6 +169,10 @@ mod sys {
             context: *const u8, context_len: usize, tree: *const u8, tree_len: usize, receipts: *const u8,
             receipts_len: usize, hash: *mut u8, hash_len: usize, needed: *mut usize,
         ) -> Verdict;
+        pub fn mls_validate_tree_strict(
+            context: *const u8, context_len: usize, tree: *const u8, tree_len: usize, receipts: *const u8,
+            receipts_len: usize, rules: u16, hash: *mut u8, hash_len: usize, needed: *mut usize,
+        ) -> Verdict;
         pub fn mls_start_query(
             info: *const u8, info_len: usize, tree: *const u8, tree_len: usize, receipts: *const u8,
             receipts_len: usize, records: *mut u8, records_len: usize, needed: *mut usize,
@@ -119,6 +180,10 @@ mod sys {
         pub fn mls_follower_start(
             info: *const u8, info_len: usize, tree: *const u8, tree_len: usize, receipts: *const u8,
             receipts_len: usize, profile: u32, follower: *mut Handle,
+        ) -> Verdict;
+        pub fn mls_follower_start_by(
+            info: *const u8, info_len: usize, tree: *const u8, tree_len: usize, receipts: *const u8,
+            receipts_len: usize, profile: u32, rules: u16, follower: *mut Handle,
         ) -> Verdict;
         pub fn mls_follower_resume(
             state: *const u8, state_len: usize, receipts: *const u8, receipts_len: usize, profile: u32,
@@ -128,6 +193,8 @@ mod sys {
         pub fn mls_follower_epoch(follower: *mut Handle, epoch: *mut u64) -> u32;
         pub fn mls_follower_members(follower: *mut Handle, members: *mut u32) -> u32;
         pub fn mls_follower_ended(follower: *mut Handle, ended: *mut u32) -> u32;
+        pub fn mls_follower_rules(follower: *mut Handle, rules: *mut u16) -> u32;
+        pub fn mls_follower_make_strict(follower: *mut Handle, rules: u16) -> Verdict;
         pub fn mls_follower_tree_hash(follower: *mut Handle, hash: *mut u8, len: usize, needed: *mut usize) -> u32;
         pub fn mls_follower_confirmed_hash(follower: *mut Handle, hash: *mut u8, len: usize, needed: *mut usize) -> u32;
         pub fn mls_follower_query(
@@ -214,8 +281,8 @@ fn signatures_in(records: &[u8]) -> Vec<Signature> {
     list
 }
 
-/// Checks that a ratchet tree belongs to a GroupContext and is valid, and that its leaf nodes are valid (RFC 9420, 7.3, 7.9.2
-/// and 12.4.3.1), by these receipts. Returns its tree hash.
+/// Checks that a ratchet tree belongs to a GroupContext and is valid, and that its leaf nodes are valid (RFC 9420, 7.3,
+/// 7.9.2 and 12.4.3.1), by these receipts. Returns its tree hash.
 pub fn validate_tree(context: &[u8], tree: &[u8], receipts: &[Receipt]) -> Result<Vec<u8>, Refused> {
     let receipts = receipts.concat();
     filled_or_refused(|hash, needed| unsafe {
@@ -226,7 +293,23 @@ pub fn validate_tree(context: &[u8], tree: &[u8], receipts: &[Receipt]) -> Resul
     })
 }
 
-/// Returns the signatures of a start that have no receipt. With no tree, the tree is the one in the GroupInfo.
+/// Checks a ratchet tree as [`validate_tree`] does, and that the GroupContext and the tree meet these strict rules. The
+/// number 9 of [`Refused`] is that one is not met: `inner` is its number, and `place` the node index, or `u64::MAX` if it is
+/// no node that does not meet it.
+pub fn validate_tree_strict(
+    context: &[u8], tree: &[u8], receipts: &[Receipt], rules: Rules,
+) -> Result<Vec<u8>, Refused> {
+    let receipts = receipts.concat();
+    filled_or_refused(|hash, needed| unsafe {
+        sys::mls_validate_tree_strict(
+            context.as_ptr(), context.len(), tree.as_ptr(), tree.len(), receipts.as_ptr(), receipts.len(),
+            rules.bits, hash.as_mut_ptr(), hash.len(), needed,
+        )
+    })
+}
+
+/// Returns the signatures of a start that have no receipt. With no tree, the tree is the one in the GroupInfo. Strict rules
+/// are not checked here.
 pub fn start_query(info: &[u8], tree: Option<&[u8]>, receipts: &[Receipt]) -> Result<Vec<Signature>, Refused> {
     let tree = tree.unwrap_or(&[]);
     let receipts = receipts.concat();
@@ -239,7 +322,7 @@ pub fn start_query(info: &[u8], tree: Option<&[u8]>, receipts: &[Receipt]) -> Re
     Ok(signatures_in(&records))
 }
 
-/// A follower of a group, in a profile.
+/// A follower of a group, in a profile and with a set of strict rules.
 pub struct Follower {
     handle: sys::Handle,
 }
@@ -258,7 +341,7 @@ impl Follower {
     }
 
     /// Starts a follower with this profile from a GroupInfo (RFC 9420, 12.4.3) and a tree, by these receipts. With no tree,
-    /// the tree is the one in the GroupInfo.
+    /// the tree is the one in the GroupInfo. The follower has no strict rules.
     pub fn start_in(
         profile: Profile, info: &[u8], tree: Option<&[u8]>, receipts: &[Receipt],
     ) -> Result<Follower, Refused> {
@@ -274,12 +357,30 @@ impl Follower {
         Ok(follower)
     }
 
+    /// Starts a follower as [`Follower::start_in`] does, with these strict rules, which a service should have:
+    /// [`Rules::STRICT`]. The GroupInfo and the tree have to meet them. The number 9 of [`Refused`] is that one is not met:
+    /// `inner` is its number, and `place` the node index, or `u64::MAX` if it is no node that does not meet it.
+    pub fn start_by(
+        rules: Rules, profile: Profile, info: &[u8], tree: Option<&[u8]>, receipts: &[Receipt],
+    ) -> Result<Follower, Refused> {
+        let mut follower = Follower::new();
+        let tree = tree.unwrap_or(&[]);
+        let receipts = receipts.concat();
+        checked(unsafe {
+            sys::mls_follower_start_by(
+                info.as_ptr(), info.len(), tree.as_ptr(), tree.len(), receipts.as_ptr(), receipts.len(),
+                profile as u32, rules.bits, &mut follower.handle,
+            )
+        })?;
+        Ok(follower)
+    }
+
     /// Resumes a follower of the handshakes of members: [`Follower::resume_in`] with [`Profile::Members`].
     pub fn resume(state: &[u8], receipts: &[Receipt]) -> Result<Follower, Refused> {
         Follower::resume_in(Profile::Members, state, receipts)
     }
 
-    /// Resumes a follower from a state of this profile ([`Follower::state`]), by these receipts.
+    /// Resumes a follower from a state of this profile ([`Follower::state`]), by these receipts. It has no strict rules.
     pub fn resume_in(profile: Profile, state: &[u8], receipts: &[Receipt]) -> Result<Follower, Refused> {
         let mut follower = Follower::new();
         let receipts = receipts.concat();
@@ -311,6 +412,21 @@ impl Follower {
         let mut ended = 0;
         unsafe { sys::mls_follower_ended(&mut self.handle, &mut ended) };
         ended == 1
+    }
+
+    /// Returns the set of strict rules. No message changes it.
+    pub fn rules(&mut self) -> Rules {
+        let mut bits = 0;
+        unsafe { sys::mls_follower_rules(&mut self.handle, &mut bits) };
+        Rules { bits }
+    }
+
+    /// Adds strict rules to those of the follower. Only those that it lacks are checked. If they cannot be added, the
+    /// follower is unchanged. The number of [`Refused`] is then 10 if the GroupContext or the tree does not meet one:
+    /// `inner` is the number of the first, and `place` the node index, or `u64::MAX` if it is no node that does not meet it.
+    /// It is 11 if a pending proposal does not meet one: `place` is the number of the first such proposal, from 0 on.
+    pub fn make_strict(&mut self, rules: Rules) -> Result<(), Refused> {
+        checked(unsafe { sys::mls_follower_make_strict(&mut self.handle, rules.bits) })
     }
 
     /// Returns the tree hash (RFC 9420, 7.8, 8.1).
@@ -353,8 +469,8 @@ impl Follower {
         }
     }
 
-    /// Processes a message (RFC 9420, 6), and accepts it if and only if it satisfies every rule. A refused message changes
-    /// nothing.
+    /// Processes a message (RFC 9420, 6), and accepts it if and only if it satisfies every rule of the profile, and every
+    /// strict rule of the follower's set. A refused message changes nothing.
     pub fn judge(&mut self, message: &[u8]) -> Result<Result<Accepted, Refusal>, Fault> {
         let mut reference = [0; 64];
         let judgement = unsafe {
@@ -373,7 +489,8 @@ impl Follower {
         }
     }
 
-    /// Returns the state as a file, from which [`Follower::resume`] resumes.
+    /// Returns the state as a file, from which [`Follower::resume`] resumes. A follower with strict rules has none: the
+    /// fault is 105.
     pub fn state(&mut self) -> Result<Vec<u8>, Fault> {
         let handle = &mut self.handle;
         filled(|state, needed| unsafe { sys::mls_follower_state(handle, state.as_mut_ptr(), state.len(), needed) })

@@ -1,6 +1,8 @@
 //! Follows the group in examples/real. A signature is good if its receipt is in the group's file of receipts.
 
-use mls_check::{start_query, validate_tree, Accepted, Follower, Receipt, Refused, Signature};
+use mls_check::{
+    start_query, validate_tree, validate_tree_strict, Accepted, Fault, Follower, Profile, Receipt, Refused, Rules, Signature,
+};
 use std::fs;
 
 fn file(name: &str) -> Vec<u8> {
@@ -91,6 +93,133 @@ fn refuses_what_has_no_receipts() {
     let mut group = Follower::start(&info, None, &receipts()).unwrap();
     assert_eq!(group.query(&[]).unwrap(), []);
     assert_eq!(group.judge(&[]).unwrap().unwrap_err().name(), "Malformed");
+}
+
+/// An extensions list with a type twice, which no leaf node of the group supports.
+const REPEATED: [u8; 7] = [6, 0xf0, 0, 0, 0xf0, 0, 0];
+
+/// The place of a strict rule that is not met, and not by a node.
+const NO_NODE: u64 = u64::MAX;
+
+/// The rule of this number alone.
+fn rule(number: u8) -> Rules {
+    let others = Rules::STRICT.without(number).unwrap();
+    Rules::from_bits(Rules::STRICT.bits() & !others.bits()).unwrap()
+}
+
+/// The bytes with the list of extensions at `at`, which is empty, replaced by `REPEATED`.
+fn repeated(bytes: &[u8], at: usize) -> Vec<u8> {
+    assert_eq!(bytes[at], 0);
+    [&bytes[..at], &REPEATED[..], &bytes[at + 1..]].concat()
+}
+
+/// The message with a byte less in its membership tag, which is at its end.
+fn with_short_tag(message: &[u8]) -> Vec<u8> {
+    let at = message.len() - 33;
+    assert_eq!(message[at], 32);
+    [&message[..at], &[31], &message[at + 2..]].concat()
+}
+
+/// The Remove proposal of this message replaced by a GroupContextExtensions proposal with a type twice. After it come 99
+/// bytes: the signature and the membership tag.
+fn with_repeated_extensions(message: &[u8]) -> Vec<u8> {
+    let (front, end) = (&message[..message.len() - 105], &message[message.len() - 99..]);
+    assert_eq!(message[front.len()..][..2], [0, 3]);
+    [front, &[0, 7], &REPEATED[..], end].concat()
+}
+
+/// Learns that each signature of the message is good, and has it checked.
+fn judged_with_trust(group: &mut Follower, message: &[u8]) -> String {
+    let wanted = group.query(message).unwrap();
+    group.learn(&wanted.iter().map(|signature| signature.receipt).collect::<Vec<_>>()).unwrap();
+    match group.judge(message).unwrap() {
+        Ok(accepted) => format!("{accepted:?}").split('(').next().unwrap().to_string(),
+        Err(refusal) => format!("refused {} {}", refusal.number, refusal.name()),
+    }
+}
+
+#[test]
+fn has_sets_of_strict_rules() {
+    assert_eq!(Rules::PLAIN.bits(), 0);
+    assert_eq!(Rules::STRICT.bits(), 0x1fff);
+    assert_eq!(Rules::STRICT.without(47).unwrap().bits(), 0x1f7f);
+    assert_eq!([39, 53].map(|number| Rules::STRICT.without(number)), [None, None]);
+    assert_eq!([39, 40, 52, 53].map(|number| Rules::STRICT.has(number)), [false, true, true, false]);
+    assert!(!Rules::STRICT.without(47).unwrap().has(47));
+    assert_eq!(rule(40).with(rule(52)).bits(), 0x1001);
+    assert_eq!(Rules::from_bits(0x1fff), Some(Rules::STRICT));
+    assert_eq!(Rules::from_bits(0x2000), None);
+}
+
+#[test]
+fn follows_by_strict_rules() {
+    let info = file("real/epoch-1.info");
+    let mut plain = Follower::start(&info, None, &receipts()).unwrap();
+    let mut group = Follower::start_by(Rules::STRICT, Profile::Members, &info, None, &receipts()).unwrap();
+    assert_eq!((plain.rules(), group.rules()), (Rules::PLAIN, Rules::STRICT));
+    for message in messages() {
+        assert_eq!(judged_with_trust(&mut group, &with_short_tag(&message)), "refused 40 TagLength");
+        assert_eq!(group.judge(&message).unwrap(), plain.judge(&message).unwrap());
+        assert_eq!(group.tree_hash(), plain.tree_hash());
+    }
+    assert_eq!(group.epoch(), 8);
+    assert_eq!(group.rules(), Rules::STRICT);
+    assert_eq!(group.state(), Err(Fault { number: 105 }));
+}
+
+#[test]
+fn adds_strict_rules() {
+    let mut group = Follower::start(&file("real/epoch-1.info"), None, &receipts()).unwrap();
+    let (all, no_tags) = (messages(), Rules::STRICT.without(40).unwrap());
+    for message in &all[..3] {
+        assert_eq!(judged_with_trust(&mut group, message), "Commit");
+    }
+    assert_eq!(judged_with_trust(&mut group, &all[3]), "Proposal");
+    assert_eq!(judged_with_trust(&mut group, &with_repeated_extensions(&all[3])), "Proposal");
+    // The second pending proposal has a type twice, so 41 cannot be added, nor a set with it.
+    let refused = Refused { number: 11, inner: 0, place: 1 };
+    assert_eq!(group.make_strict(no_tags), Err(refused));
+    assert_eq!(group.rules(), Rules::PLAIN);
+    assert!(group.state().is_ok());
+    let fewer = no_tags.without(41).unwrap();
+    assert_eq!(group.make_strict(fewer), Ok(()));
+    assert_eq!(group.rules(), fewer);
+    assert_eq!(group.make_strict(rule(41)), Err(refused));
+    // The proposals are no more pending in the next epoch.
+    assert_eq!(judged_with_trust(&mut group, &all[4]), "Commit");
+    assert_eq!(group.make_strict(rule(41)), Ok(()));
+    assert_eq!(group.rules(), no_tags);
+    assert_eq!(judged_with_trust(&mut group, &with_short_tag(&all[5])), "Proposal");
+}
+
+#[test]
+fn refuses_a_group_that_is_not_strict() {
+    let (info, context) = (file("real/epoch-1.info"), file("real/epoch-1.context"));
+    let info = repeated(&info, 4 + context.len() - 1);
+    let good: Vec<Receipt> = start_query(&info, None, &[]).unwrap().iter().map(|wanted| wanted.receipt).collect();
+    let refused = |rules, inner, place| {
+        let started = Follower::start_by(rules, Profile::Full, &info, None, &good);
+        assert_eq!(started.err(), Some(Refused { number: 9, inner, place }));
+        let mut group = Follower::start_in(Profile::Full, &info, None, &good).unwrap();
+        assert_eq!(group.make_strict(rules), Err(Refused { number: 10, inner, place }));
+    };
+    refused(Rules::STRICT, 41, NO_NODE);
+    refused(rule(51), 51, 0);
+    let fewer = Rules::STRICT.without(41).unwrap().without(51).unwrap();
+    assert!(Follower::start_by(fewer, Profile::Full, &info, None, &good).is_ok());
+}
+
+#[test]
+fn validates_a_tree_by_strict_rules() {
+    let (context, tree) = (file("real/epoch-8.context"), file("real/epoch-8.tree"));
+    let hash = validate_tree(&context, &tree, &receipts()).unwrap();
+    assert_eq!(validate_tree_strict(&context, &tree, &receipts(), Rules::STRICT).as_ref(), Ok(&hash));
+    let context = repeated(&context, context.len() - 1);
+    let refused = |inner, place| Err(Refused { number: 9, inner, place });
+    assert_eq!(validate_tree_strict(&context, &tree, &receipts(), Rules::STRICT), refused(41, NO_NODE));
+    assert_eq!(validate_tree_strict(&context, &tree, &receipts(), rule(51)), refused(51, 0));
+    assert_eq!(validate_tree_strict(&context, &tree, &receipts(), rule(44)).as_ref(), Ok(&hash));
+    assert_eq!(validate_tree(&context, &tree, &receipts()), Ok(hash));
 }
 
 #[test]

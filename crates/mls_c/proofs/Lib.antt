@@ -1,3 +1,4 @@
 mod HandleValues
 mod Moving
 mod Judging
+mod AddingRules

@@ -5,3 +5,4 @@ pub mod Buffers
 pub mod Queries
 pub mod Starts
 pub mod Messages
+pub mod AddedRules

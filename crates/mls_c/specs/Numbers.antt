@@ -1,6 +1,6 @@
 -- The numbers by which the calls for C name what came of a call: 0 for success, up to 99 those of the reports
 -- (docs/FORMATS.md), from 100 on their own. Used by contracts.
-use Rattle.std.specs.Prelude.{ℕ, Bool, true, false, ◌==◌, if◌then◌else◌, Option, Some, None, Result, Ok, Err}
+use Rattle.std.specs.Prelude.{ℕ, ◌≡◌, ◌≤◌, ◌^◌, Bool, true, false, ◌==◌, if◌then◌else◌, Option, Some, None, Result, Ok, Err}
 use Rattle.mls_wire.specs.declared.fault.WireFault.{WireFault}
 use Rattle.mls_wire.specs.declared.fault.WireFaultKind.{WireFaultKind}
 use Rattle.mls_wire.specs.declared.fault.WireFaultKind.TheVariants as kinds
@@ -11,13 +11,17 @@ use Rattle.mls_check.specs.declared.members.MemberFault.{MemberFault}
 use Rattle.mls_check.specs.declared.members.MemberFault.TheVariants as members
 use Rattle.mls_check.specs.declared.tree_validation.TreeFault.{TreeFault}
 use Rattle.mls_check.specs.declared.tree_validation.TreeFault.TheVariants as trees
+use Rattle.mls_msgs.specs.Rules.{rule_bits}
 use Rattle.mls_msgs.specs.StrictRules.{strict_number}
 use Rattle.mls_msgs.specs.declared.profile.Profile.{Profile}
 use Rattle.mls_msgs.specs.declared.profile.Profile.TheVariants.{Members, Full}
+use Rattle.mls_msgs.specs.declared.rules.Rules.{Rules}
 use Rattle.mls_apply.specs.Refusals.{number_of}
 use Rattle.mls_follow.specs.StartNumbers.{start_number_of}
 use Rattle.mls_apply.specs.declared.refusal.Refusal.{Refusal}
 use Rattle.mls_apply.specs.declared.refusal.Refusal.TheVariants as refusals
+use Rattle.mls_follow.specs.declared.added_rules.StrictRefused.{StrictRefused}
+use Rattle.mls_follow.specs.declared.added_rules.StrictRefused.TheVariants as stricts
 use Rattle.mls_follow.specs.declared.resume_fault.ResumeFault.{ResumeFault}
 use Rattle.mls_follow.specs.declared.resume_fault.ResumeFault.TheVariants as resumes
 use Rattle.mls_follow.specs.declared.start_fault.StartFault.{StartFault}
@@ -76,6 +80,10 @@ context_unreadable = 109
 abbrev pub other_profile : ℕ
 other_profile = 110
 
+-- a bit above bit 12 is 1: the number encodes no set of strict rules
+abbrev pub unsupported_rules : ℕ
+unsupported_rules = 114
+
 -- `one_if b` is 1 if `b` is true, else 0.
 abbrev pub one_if : Bool → ℕ
 one_if false = 0
@@ -86,6 +94,17 @@ one_if true = 1
 -- `profile_with_number number` is the profile with this number: 1 the members' profile, 2 the full profile.
 abbrev pub profile_with_number : ℕ → Option Profile
 profile_with_number number = if number == 1 then Some Members else (if number == 2 then Some Full else None)
+
+-- ---- sets of strict rules
+
+-- `EncodesRules bits asked`: the number `bits` encodes the set `asked` of strict rules. Its bit `n - 40` is 1 if and only if
+-- the set has the strict rule `n`, and each other bit is 0.
+abbrev pub EncodesRules : ℕ → Rules → Type 0
+EncodesRules bits asked = rule_bits asked ≡ bits
+
+-- `EncodesNoRules bits`: a bit above bit 12 is 1, so the number encodes no set of strict rules.
+abbrev pub EncodesNoRules : ℕ → Type 0
+EncodesNoRules bits = 2 ^ 13 ≤ bits
 
 -- ---- verdicts
 
@@ -177,6 +196,14 @@ resume_verdict resumes.InterimLength = plain_verdict 8
 resume_verdict (resumes.KnownInvalid n) = verdict 9 0 n
 resume_verdict resumes.OutOfMemory = plain_verdict out_of_memory
 
+-- `added_verdict e` is the verdict of strict rules that cannot be added to those of a follower: 10 and the first rule that
+-- the GroupContext or the tree does not meet, or 11 and the number of the first pending proposal that does not meet one,
+-- from 0 on.
+abbrev pub added_verdict : StrictRefused → InputVerdict
+added_verdict (stricts.Group fault) = strict_verdict 10 fault
+added_verdict (stricts.Known n) = verdict 11 0 n
+added_verdict stricts.OutOfMemory = plain_verdict out_of_memory
+
 -- `verdict_of finding` is the verdict of what is found of a group's inputs. The numbers of a GroupContext with its
 -- tree are those of a start.
 abbrev pub verdict_of : Finding → InputVerdict
@@ -189,8 +216,10 @@ verdict_of findings.UnsupportedSuite = plain_verdict 2
 verdict_of findings.RequirementsUnreadable = plain_verdict 4
 verdict_of (findings.TreeRefused fault) = tree_verdict 5 fault
 verdict_of (findings.MembersRefused fault) = member_verdict 6 fault
+verdict_of (findings.TreeNotStrict fault) = strict_verdict 9 fault
 verdict_of (findings.StartRefused fault) = start_verdict fault
 verdict_of (findings.StateRefused fault) = resume_verdict fault
+verdict_of (findings.StateNotStrict refused) = added_verdict refused
 verdict_of (findings.TreeValid tree_hash) = plain_verdict 0
 verdict_of (findings.Starts started) = plain_verdict 0
 

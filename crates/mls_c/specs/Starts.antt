@@ -3,9 +3,9 @@
 use Rattle.std.specs.Prelude.{ℕ, ◌≡◌, ◌≢◌, List, [], ◌∷◌, Option, Some, None}
 use Rattle.mls_check.specs.Signatures.{VerifyFn}
 use Rattle.mls_msgs.specs.declared.profile.Profile.{Profile}
+use Rattle.mls_msgs.specs.declared.rules.Rules.{Rules}
 use Rattle.mls_signatures.specs.declared.signature_to_verify.SignatureToVerify.{SignatureToVerify}
 use Rattle.mls_follow.specs.CoveredLogs.{all_good}
-use Rattle.mls_follow.specs.Resumption.{IsResumed}
 use Rattle.mls_follow.specs.State.{State}
 use Rattle.mls_start.specs.Inputs.{Inputs, OfState}
 use Rattle.mls_start.specs.StartFindings.{IsFirstState, Declines}
@@ -38,12 +38,13 @@ PutsFinding (findings.TreeValid tree_hash) old new needed v =
     IsPut tree_hash old new needed v.number × (v ≡ plain_verdict v.number)
 PutsFinding finding old new needed v = (v ≡ verdict_of finding) × (new ≡ old) × (needed ≡ 0)
 
--- `PutsTreeFinding G context tree old new needed v`: the verdict is that of what is found of a GroupContext and its
--- tree (`mls_start`). If the tree is valid, its tree hash was put into the buffer.
-pub data PutsTreeFinding (G : VerifyFn) (context tree old new : List ℕ) (needed : ℕ) (v : InputVerdict) : Type 0 where
-  runs_out : RunsOut v → new ≡ old → needed ≡ 0 → PutsTreeFinding G context tree old new needed v
-  finds : (finding : Finding) → IsTreeFinding G context tree finding → PutsFinding finding old new needed v
-      → PutsTreeFinding G context tree old new needed v
+-- `PutsTreeFinding asked G context tree old new needed v`: the verdict is that of what is found of a GroupContext and its
+-- tree by these strict rules (`mls_start`). If the tree is valid, its tree hash was put into the buffer.
+pub data PutsTreeFinding (asked : Rules) (G : VerifyFn) (context tree old new : List ℕ) (needed : ℕ) (v : InputVerdict)
+    : Type 0 where
+  runs_out : RunsOut v → new ≡ old → needed ≡ 0 → PutsTreeFinding asked G context tree old new needed v
+  finds : (finding : Finding) → IsTreeFinding asked G context tree finding → PutsFinding finding old new needed v
+      → PutsTreeFinding asked G context tree old new needed v
 
 -- ---- a start or a resumption
 
@@ -75,7 +76,7 @@ pub data Starts (profile : Profile) (G : VerifyFn) (i : Inputs) (held new : Opti
     : Type 0 where
   runs_out : RunsOut v → new ≡ held → Starts profile G i held new v
   refuses : RefusesStart G i v → new ≡ held → Starts profile G i held new v
-  differs : (bytes : List ℕ) (s : State) → i ≡ OfState bytes → IsResumed G bytes s → s.profile ≢ profile
+  differs : (asked : Rules) (bytes : List ℕ) (s : State) → i ≡ OfState asked bytes → IsFirstState G i s → s.profile ≢ profile
       → v ≡ plain_verdict other_profile → new ≡ held → Starts profile G i held new v
   starts : (f : GroupFollower) → new ≡ Some f → IsFirstState G i (state_in f) → (state_in f).profile ≡ profile
       → meaning_in f ≡ G → v ≡ plain_verdict 0 → Starts profile G i held new v

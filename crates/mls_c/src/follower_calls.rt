@@ -1,18 +1,23 @@
 //! The calls of a follower.
 
 ghost use Rattle.std.specs.Prelude.{◌≡◌};
+ghost use Rattle.mls_c.specs.AddedRules.{MakesStrict};
 ghost use Rattle.mls_c.specs.Followers.{state_in, meaning_in};
 ghost use Rattle.mls_c.specs.Messages as messages;
 ghost use Rattle.mls_c.specs.Messages.{PutsQuery, Learns, Judges, PutsStateFile};
 
 use crate::buffer::{put, put_sized};
 use crate::group_follower::GroupFollower;
-use crate::input_verdict::{BAD_RECEIPTS, BUFFER_TOO_SMALL, OUT_OF_MEMORY, TOO_LONG};
+use crate::input_verdict::{
+    BAD_RECEIPTS, BUFFER_TOO_SMALL, InputVerdict, OUT_OF_MEMORY, TOO_LONG, added_verdict,
+    plain_verdict,
+};
 use crate::judgement::{Judgement, judgement_of, not_judged};
 use crate::query::query_records;
 use crate::receipts::are_whole;
 use mls_check::OutOfMemory;
 use mls_follow::{Refusal, SignatureListFault, Taken};
+use mls_msgs::Rules;
 use mls_start::{SignaturesLeft, learn_in_follower};
 use mls_wire::CodecFault;
 use std::alloc::Global;
@@ -68,6 +73,16 @@ impl GroupFollower {
         match learn_in_follower(&mut self.follower, receipts) {
             Ok(()) => 0,
             Err(OutOfMemory) => OUT_OF_MEMORY,
+        }
+    }
+
+    /// Adds strict rules to those of the follower. Returns the verdict.
+    pub(crate) fn make_strict(&mut self, asked: Rules) -> InputVerdict
+        ensures { MakesStrict asked self.old self.new result }
+    {
+        match self.follower.make_strict(asked) {
+            Ok(()) => plain_verdict(0),
+            Err(refused) => added_verdict(refused),
         }
     }
 

@@ -2,16 +2,20 @@
 
 ghost use Rattle.std.specs.Prelude.{◌≡◌, None, IfSome};
 ghost use Rattle.mls_tree.specs.Tree.{member_count};
+ghost use Rattle.mls_msgs.specs.Rules.{rule_bits};
+ghost use Rattle.mls_msgs.specs.declared.rules.Rules.{Rules};
+ghost use Rattle.mls_c.specs.AddedRules.{MakesStrict};
 ghost use Rattle.mls_c.specs.Buffers.{IsPut};
 ghost use Rattle.mls_c.specs.Followers.{state_in, meaning_in};
 ghost use Rattle.mls_c.specs.Messages.{Moves, PutsQuery, Learns, Judges, PutsStateFile};
 ghost use Rattle.mls_c.specs.Numbers as numbers;
-ghost use Rattle.mls_c.specs.Numbers.{no_follower, one_if};
+ghost use Rattle.mls_c.specs.Numbers.{no_follower, unsupported_rules, one_if, EncodesRules, EncodesNoRules};
 
 use crate::buffer::put_sized;
 use crate::follower_handle::FollowerHandle;
-use crate::input_verdict::NO_FOLLOWER;
+use crate::input_verdict::{InputVerdict, NO_FOLLOWER, UNSUPPORTED_RULES, plain_verdict};
 use crate::judgement::{Judgement, not_judged};
+use mls_msgs::Rules;
 use std::alloc::Global;
 
 /// Drops the follower of a handle, if it has one.
@@ -80,6 +84,53 @@ pub extern "C" fn mls_follower_ended(
     *ended = if open.follower.ended() { 1 } else { 0 };
     follower.put(open);
     0
+}
+
+/// Writes the number that encodes the follower's set of strict rules (own rule): bit `n - 40` is 1 if and only if the set
+/// has the strict rule `n`.
+#[unsafe(no_mangle)]
+pub extern "C" fn mls_follower_rules(
+    alloc: Global,
+    follower: &mut FollowerHandle,
+    rules: &mut u16,
+) -> u32
+    ensures none { follower.old.value ≡ None → (result ≡ no_follower) × (rules.new ≡ rules.old) }
+    ensures rules { IfSome follower.old.value
+        (λ f. (result ≡ 0) × (rules.new ≡ rule_bits (state_in f).rules)) }
+    ensures unchanged { follower.new.value ≡ follower.old.value }
+{
+    let Some(open) = follower.take(alloc) else {
+        return NO_FOLLOWER;
+    };
+    *rules = open.follower.rules().bits();
+    follower.put(open);
+    0
+}
+
+/// Adds the strict rules of the set that this number encodes to those of the follower (own rule). Only those that it lacks
+/// are checked. If they cannot be added, the follower is unchanged.
+#[unsafe(no_mangle)]
+pub extern "C" fn mls_follower_make_strict(
+    alloc: Global,
+    follower: &mut FollowerHandle,
+    rules: u16,
+) -> InputVerdict
+    ensures rules { EncodesNoRules rules → (result ≡ numbers.plain_verdict unsupported_rules)
+        × (follower.new.value ≡ follower.old.value) }
+    ensures none { (asked : Rules) → EncodesRules rules asked → follower.old.value ≡ None
+        → result ≡ numbers.plain_verdict no_follower }
+    ensures makes { (asked : Rules) → EncodesRules rules asked → Moves follower.old.value follower.new.value
+        (λ f g. MakesStrict asked f g result) }
+{
+    let Some(asked) = Rules::from_bits(rules) else {
+        return plain_verdict(UNSUPPORTED_RULES);
+    };
+    let Some(mut open) = follower.take(alloc) else {
+        return plain_verdict(NO_FOLLOWER);
+    };
+    let verdict = open.make_strict(asked);
+    follower.put(open);
+    verdict
 }
 
 /// Puts the tree hash of the group (RFC 9420, 8.1) into a buffer.

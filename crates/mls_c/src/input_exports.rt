@@ -1,31 +1,34 @@
-//! The calls on a group's inputs, for a caller in another language.
+//! The calls that start and resume a follower, for a caller in another language.
 
 ghost use Rattle.std.specs.Prelude.{◌≡◌, ◌↔◌, ◌⊎◌, List, ℕ, Option, Some, None, true, IfOk, IfErr};
 ghost use Rattle.mls_check.specs.Receipts.{listed};
+ghost use Rattle.mls_msgs.specs.Rules.{plain_rules};
 ghost use Rattle.mls_msgs.specs.declared.profile.Profile.{Profile};
 ghost use Rattle.mls_msgs.specs.declared.profile.Profile.TheVariants.{Members};
+ghost use Rattle.mls_msgs.specs.declared.rules.Rules.{Rules};
 ghost use Rattle.mls_follow.specs.CoveredLogs.{all_good};
 ghost use Rattle.mls_start.specs.Inputs.{inputs_of, OfInfo, OfState};
 ghost use Rattle.mls_start.specs.StartFailures.{Says};
 ghost use Rattle.mls_start.specs.StartFindings.{Declines};
 ghost use Rattle.mls_c.specs.Followers.{AreWhole, good_by};
 ghost use Rattle.mls_c.specs.Numbers as numbers;
-ghost use Rattle.mls_c.specs.Numbers.{bad_receipts, unsupported_profile};
-ghost use Rattle.mls_c.specs.Starts.{passed, RunsOut, PutsFinding, PutsTreeFinding, ListsStart, QueriesStart, Starts};
+ghost use Rattle.mls_c.specs.Numbers.{bad_receipts, unsupported_profile, unsupported_rules, EncodesRules, EncodesNoRules};
+ghost use Rattle.mls_c.specs.Starts.{passed, RunsOut, ListsStart, QueriesStart, Starts};
 
 use crate::buffer::put_sized;
 use crate::follower_handle::FollowerHandle;
 use crate::group_follower::GroupFollower;
 use crate::input_verdict::{
-    InputVerdict, OTHER_PROFILE, OUT_OF_MEMORY, UNSUPPORTED_PROFILE, plain_verdict, verdict_of,
+    InputVerdict, OTHER_PROFILE, OUT_OF_MEMORY, UNSUPPORTED_PROFILE, UNSUPPORTED_RULES,
+    plain_verdict, verdict_of,
 };
 use crate::query::query_records;
 use crate::receipts::receipts_in;
 use crate::start_copies::{info_copy, state_copy};
 use mls_check::{OutOfMemory, Receipts, SignatureCheck};
 use mls_follow::Follower;
-use mls_msgs::Profile;
-use mls_start::{Finding, StartBytes, StartFailure, TrustingStart, tree_finding};
+use mls_msgs::{Profile, Rules};
+use mls_start::{StartBytes, StartFailure, TrustingStart};
 use std::alloc::Global;
 
 /// Returns the profile with this number.
@@ -47,47 +50,6 @@ fn are_equal(profile: Profile, other: Profile) -> bool
         (Profile::Members, Profile::Members) => true,
         (Profile::Full, Profile::Full) => true,
         _ => false,
-    }
-}
-
-/// Puts the tree hash of a valid tree into a buffer, and returns the verdict of the finding.
-fn put_finding(finding: &Finding, tree_hash: &mut [u8], needed: &mut usize) -> InputVerdict
-    requires { needed.old ≡ 0 }
-    ensures { PutsFinding finding.now tree_hash.old tree_hash.new needed.new result }
-{
-    match finding {
-        Finding::TreeValid(hash) => plain_verdict(put_sized(hash.as_slice(), tree_hash, needed)),
-        _ => verdict_of(*finding),
-    }
-}
-
-/// Checks that a ratchet tree belongs to a GroupContext and is valid, and that its leaf nodes are valid (RFC 9420, 7.3,
-/// 7.9.2 and 12.4.3.1), by these receipts. Puts its tree hash into the buffer `tree_hash`.
-#[unsafe(no_mangle)]
-pub extern "C" fn mls_validate_tree(
-    alloc: Global,
-    context: &[u8],
-    tree: &[u8],
-    receipts: &[u8],
-    tree_hash: &mut [u8],
-    needed: &mut usize,
-) -> InputVerdict
-    ensures not_whole { (AreWhole receipts.now → ⊥) → (result ≡ numbers.plain_verdict bad_receipts)
-        × (tree_hash.new ≡ tree_hash.old) × (needed.new ≡ 0) }
-    ensures finds { AreWhole receipts.now → PutsTreeFinding (good_by receipts.now) context.now tree.now
-        tree_hash.old tree_hash.new needed.new result }
-{
-    *needed = 0;
-    let receipts = match receipts_in(alloc, receipts) {
-        Ok(receipts) => receipts,
-        Err(verdict) => return verdict,
-    };
-    let Ok(tree) = tree.to_vec(alloc) else {
-        return plain_verdict(OUT_OF_MEMORY);
-    };
-    match tree_finding(alloc, context, tree, &receipts) {
-        Ok(finding) => put_finding(&finding, tree_hash, needed),
-        Err(OutOfMemory) => plain_verdict(OUT_OF_MEMORY),
     }
 }
 
@@ -151,14 +113,14 @@ pub extern "C" fn mls_start_query(
     ensures not_whole { (AreWhole receipts.now → ⊥) → (result ≡ numbers.plain_verdict bad_receipts)
         × (records.new ≡ records.old) × (needed.new ≡ 0) }
     ensures queries { AreWhole receipts.now → QueriesStart (good_by receipts.now)
-        (OfInfo Members info.now (passed tree.now)) records.old records.new needed.new result }
+        (OfInfo plain_rules Members info.now (passed tree.now)) records.old records.new needed.new result }
 {
     *needed = 0;
     let receipts = match receipts_in(alloc, receipts) {
         Ok(receipts) => receipts,
         Err(verdict) => return verdict,
     };
-    match info_copy(alloc, Profile::Members, info, tree) {
+    match info_copy(alloc, Rules::plain(), Profile::Members, info, tree) {
         Ok(start) => put_start_records(alloc, start, &receipts, records, needed),
         Err(_) => plain_verdict(OUT_OF_MEMORY),
     }
@@ -190,8 +152,8 @@ fn put_started(
     receipts: Receipts,
     handle: &mut FollowerHandle,
 ) -> InputVerdict
-    requires { (own : Profile) (info : List ℕ) (tree : Option (List ℕ))
-        → inputs_of start ≡ OfInfo own info tree → own ≡ profile }
+    requires { (asked : Rules) (own : Profile) (info : List ℕ) (tree : Option (List ℕ))
+        → inputs_of start ≡ OfInfo asked own info tree → own ≡ profile }
     ensures { Starts profile (listed receipts) (inputs_of start) handle.old.value handle.new.value result }
 {
     let follower = match start.follower(alloc, receipts) {
@@ -206,9 +168,35 @@ fn put_started(
     put_follower(alloc, follower, handle)
 }
 
+/// Starts a follower with this profile and these strict rules from a GroupInfo and a tree, by the receipts in these bytes,
+/// and puts it into the handle.
+fn put_start(
+    alloc: Global,
+    rules: Rules,
+    profile: Profile,
+    info: &[u8],
+    tree: &[u8],
+    receipts: &[u8],
+    handle: &mut FollowerHandle,
+) -> InputVerdict
+    ensures not_whole { (AreWhole receipts.now → ⊥) → (result ≡ numbers.plain_verdict bad_receipts)
+        × (handle.new.value ≡ handle.old.value) }
+    ensures starts { AreWhole receipts.now → Starts profile (good_by receipts.now)
+        (OfInfo rules profile info.now (passed tree.now)) handle.old.value handle.new.value result }
+{
+    let receipts = match receipts_in(alloc, receipts) {
+        Ok(receipts) => receipts,
+        Err(verdict) => return verdict,
+    };
+    let Ok(start) = info_copy(alloc, rules, profile, info, tree) else {
+        return plain_verdict(OUT_OF_MEMORY);
+    };
+    put_started(alloc, profile, start, receipts, handle)
+}
+
 /// Starts a follower with the profile of this number from a GroupInfo (RFC 9420, 12.4.3) and a tree, by these receipts, and
 /// puts it into the handle. If `tree` is empty, the tree is the one in the GroupInfo. If none starts, the handle is
-/// unchanged.
+/// unchanged. The follower has no strict rules.
 #[unsafe(no_mangle)]
 pub extern "C" fn mls_follower_start(
     alloc: Global,
@@ -224,24 +212,52 @@ pub extern "C" fn mls_follower_start(
     ensures not_whole { (p : Profile) → numbers.profile_with_number profile ≡ Some p → (AreWhole receipts.now → ⊥)
         → (result ≡ numbers.plain_verdict bad_receipts) × (follower.new.value ≡ follower.old.value) }
     ensures starts { (p : Profile) → numbers.profile_with_number profile ≡ Some p → AreWhole receipts.now
-        → Starts p (good_by receipts.now) (OfInfo p info.now (passed tree.now))
+        → Starts p (good_by receipts.now) (OfInfo plain_rules p info.now (passed tree.now))
         follower.old.value follower.new.value result }
 {
     let Some(named) = profile_with_number(profile) else {
         return plain_verdict(UNSUPPORTED_PROFILE);
     };
-    let receipts = match receipts_in(alloc, receipts) {
-        Ok(receipts) => receipts,
-        Err(verdict) => return verdict,
+    put_start(alloc, Rules::plain(), named, info, tree, receipts, follower)
+}
+
+/// Starts a follower as `mls_follower_start` does, with the set of strict rules (own rule) that the number `rules` encodes.
+#[unsafe(no_mangle)]
+pub extern "C" fn mls_follower_start_by(
+    alloc: Global,
+    info: &[u8],
+    tree: &[u8],
+    receipts: &[u8],
+    profile: u32,
+    rules: u16,
+    follower: &mut FollowerHandle,
+) -> InputVerdict
+    ensures profile { numbers.profile_with_number profile ≡ None
+        → (result ≡ numbers.plain_verdict unsupported_profile)
+        × (follower.new.value ≡ follower.old.value) }
+    ensures rules { (p : Profile) → numbers.profile_with_number profile ≡ Some p → EncodesNoRules rules
+        → (result ≡ numbers.plain_verdict unsupported_rules)
+        × (follower.new.value ≡ follower.old.value) }
+    ensures not_whole { (p : Profile) (asked : Rules) → numbers.profile_with_number profile ≡ Some p
+        → EncodesRules rules asked → (AreWhole receipts.now → ⊥)
+        → (result ≡ numbers.plain_verdict bad_receipts) × (follower.new.value ≡ follower.old.value) }
+    ensures starts { (p : Profile) (asked : Rules) → numbers.profile_with_number profile ≡ Some p
+        → EncodesRules rules asked → AreWhole receipts.now
+        → Starts p (good_by receipts.now) (OfInfo asked p info.now (passed tree.now))
+        follower.old.value follower.new.value result }
+{
+    let Some(named) = profile_with_number(profile) else {
+        return plain_verdict(UNSUPPORTED_PROFILE);
     };
-    let Ok(start) = info_copy(alloc, named, info, tree) else {
-        return plain_verdict(OUT_OF_MEMORY);
+    let Some(asked) = Rules::from_bits(rules) else {
+        return plain_verdict(UNSUPPORTED_RULES);
     };
-    put_started(alloc, named, start, receipts, follower)
+    put_start(alloc, asked, named, info, tree, receipts, follower)
 }
 
 /// Resumes a follower from the file of a state of the profile with this number, by these receipts, and puts it into the
-/// handle. If none resumes, or the state is of another profile, the handle is unchanged.
+/// handle. If none resumes, or the state is of another profile, the handle is unchanged. No strict rules are added to those
+/// of the state.
 #[unsafe(no_mangle)]
 pub extern "C" fn mls_follower_resume(
     alloc: Global,
@@ -256,7 +272,7 @@ pub extern "C" fn mls_follower_resume(
     ensures not_whole { (p : Profile) → numbers.profile_with_number profile ≡ Some p → (AreWhole receipts.now → ⊥)
         → (result ≡ numbers.plain_verdict bad_receipts) × (follower.new.value ≡ follower.old.value) }
     ensures resumes { (p : Profile) → numbers.profile_with_number profile ≡ Some p → AreWhole receipts.now
-        → Starts p (good_by receipts.now) (OfState state.now) follower.old.value follower.new.value result }
+        → Starts p (good_by receipts.now) (OfState plain_rules state.now) follower.old.value follower.new.value result }
 {
     let Some(named) = profile_with_number(profile) else {
         return plain_verdict(UNSUPPORTED_PROFILE);

@@ -4,7 +4,7 @@ ghost use Rattle.std.specs.Prelude.{◌≡◌};
 ghost use Rattle.mls_c.specs.Numbers as numbers;
 
 use mls_check::{MemberFault, TreeFault};
-use mls_follow::{ResumeFault, StartFault};
+use mls_follow::{ResumeFault, StartFault, StrictRefused};
 use mls_nodes::NodeFault;
 use mls_start::Finding;
 use mls_strict::StrictFault;
@@ -18,8 +18,8 @@ pub struct InputVerdict {
     pub number: u32,
     /// The number of what is wrong inside, or 0.
     pub inner: u32,
-    /// The leaf index, the node index or the offset of what is wrong, or 0. It is 18,446,744,073,709,551,615 if a strict
-    /// rule is not met, and not by a node.
+    /// The leaf index, the node index or the offset of what is wrong, or the number of a pending proposal from 0 on, or 0.
+    /// It is 18,446,744,073,709,551,615 if a strict rule is not met, and not by a node.
     pub place: u64,
 }
 
@@ -55,6 +55,9 @@ const CONTEXT_UNREADABLE: u32 = 109;
 
 /// The state is of another profile.
 pub(crate) const OTHER_PROFILE: u32 = 110;
+
+/// A bit above bit 12 is 1, so the number encodes no set of strict rules.
+pub(crate) const UNSUPPORTED_RULES: u32 = 114;
 
 /// The place of a strict rule that is not met, and not by a node.
 const NO_PLACE: u64 = u64::MAX;
@@ -213,6 +216,21 @@ fn resume_verdict(fault: ResumeFault) -> InputVerdict
     }
 }
 
+/// Returns the verdict of strict rules that cannot be added to those of a follower.
+pub(crate) fn added_verdict(refused: StrictRefused) -> InputVerdict
+    ensures { result ≡ numbers.added_verdict refused }
+{
+    match refused {
+        StrictRefused::Group(fault) => strict_verdict(10, fault),
+        StrictRefused::Known(n) => InputVerdict {
+            number: 11,
+            inner: 0,
+            place: n as u64,
+        },
+        StrictRefused::OutOfMemory => plain_verdict(OUT_OF_MEMORY),
+    }
+}
+
 /// Returns the verdict of what is found of a group's inputs.
 pub(crate) fn verdict_of(finding: Finding) -> InputVerdict
     ensures { result ≡ numbers.verdict_of finding }
@@ -227,8 +245,10 @@ pub(crate) fn verdict_of(finding: Finding) -> InputVerdict
         Finding::RequirementsUnreadable => plain_verdict(4),
         Finding::TreeRefused(fault) => tree_verdict(5, fault),
         Finding::MembersRefused(fault) => member_verdict(6, fault),
+        Finding::TreeNotStrict(fault) => strict_verdict(9, fault),
         Finding::StartRefused(fault) => start_verdict(fault),
         Finding::StateRefused(fault) => resume_verdict(fault),
+        Finding::StateNotStrict(refused) => added_verdict(refused),
         Finding::TreeValid(_) => plain_verdict(0),
         Finding::Starts(_) => plain_verdict(0),
     }

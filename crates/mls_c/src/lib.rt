@@ -17,6 +17,7 @@ mod loose;
 mod query;
 mod receipts;
 mod start_copies;
+mod tree_exports;
 
 pub use follower_handle::FollowerHandle;
 pub use group_follower::GroupFollower;

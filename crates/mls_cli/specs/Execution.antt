@@ -12,6 +12,7 @@ use Rattle.mls_commands.specs.declared.order.GroupReport.TheVariants.{ValidateTr
 use Rattle.mls_commands.specs.declared.order.Order.{Order}
 use Rattle.mls_commands.specs.declared.order.Order.TheVariants.{Show, Group, Check}
 use Rattle.mls_commands.specs.declared.order.ReplayFiles.{ReplayFiles}
+use Rattle.mls_msgs.specs.declared.rules.Rules.{Rules}
 use Rattle.mls_follow.specs.State as follower
 use Rattle.mls_follow.specs.StoredState.{EncodesState, HasNoFile}
 use Rattle.mls_start.specs.Inputs.{Inputs}
@@ -53,20 +54,22 @@ module _ {File : Type 0} (F : Opener File) where
       CannotReadFile F context fault
       ⊎ ((bytes : List ℕ) × ReadsFile F context bytes × CannotReadFile F tree fault)
 
-  -- `RunsValidateTree G context tree ..`: files with these names were read, and the report `validate-tree` is about them.
-  pub record RunsValidateTree (G : VerifyFn) (context tree : List ℕ) (out0 out1 : Device) (outcome : ReportResult)
-      : Type 0 where
+  -- `RunsValidateTree G rules context tree ..`: files with these names were read, and the report `validate-tree` is about
+  -- them and these strict rules.
+  pub record RunsValidateTree (G : VerifyFn) (rules : Rules) (context tree : List ℕ) (out0 out1 : Device)
+      (outcome : ReportResult) : Type 0 where
     pub context_bytes : List ℕ
     pub tree_bytes : List ℕ
     pub context_read : ReadsFile F context context_bytes
     pub tree_read : ReadsFile F tree tree_bytes
-    pub reports : ReportsFound (IsTreeFinding G context_bytes tree_bytes) out0 out1 outcome
+    pub reports : ReportsFound (IsTreeFinding rules G context_bytes tree_bytes) out0 out1 outcome
 
-  -- `ExecutesValidateTree G context tree ..`: the command `validate-tree` was executed, or a file cannot be read.
-  abbrev pub ExecutesValidateTree : VerifyFn → List ℕ → List ℕ → Device → Device → ReportResult → Type 0
-  ExecutesValidateTree G context tree out0 out1 outcome =
+  -- `ExecutesValidateTree G rules context tree ..`: the command `validate-tree` was executed with these strict rules, or a
+  -- file cannot be read.
+  abbrev pub ExecutesValidateTree : VerifyFn → Rules → List ℕ → List ℕ → Device → Device → ReportResult → Type 0
+  ExecutesValidateTree G rules context tree out0 out1 outcome =
       EndsUnread (CannotReadTree context tree) out0.bytes out1.bytes outcome
-      ⊎ RunsValidateTree G context tree out0 out1 outcome
+      ⊎ RunsValidateTree G rules context tree out0 out1 outcome
 
   -- `ExecutesValidate G group ..`: the command `validate` was executed, or a file cannot be read.
   abbrev pub ExecutesValidate : VerifyFn → GroupFiles → Device → Device → ReportResult → Type 0
@@ -192,7 +195,8 @@ module _ {File : Type 0} (F : Opener File) where
 
   -- `ExecutesReport G report ..`: a command was executed with the verification function G.
   abbrev pub ExecutesReport : VerifyFn → GroupReport → Device → Device → ReportResult → Type 0
-  ExecutesReport G (ValidateTree context tree) out0 out1 outcome = ExecutesValidateTree G context tree out0 out1 outcome
+  ExecutesReport G (ValidateTree rules context tree) out0 out1 outcome =
+      ExecutesValidateTree G rules context tree out0 out1 outcome
   ExecutesReport G (Validate group) out0 out1 outcome = ExecutesValidate G group out0 out1 outcome
   ExecutesReport G (Replay group files) out0 out1 outcome = ExecutesReplay G group files out0 out1 outcome
   ExecutesReport G (Signatures group log) out0 out1 outcome = ExecutesSignatures G group log out0 out1 outcome

@@ -10,19 +10,20 @@ use Rattle.mls_wire.specs.declared.fault.RunFault.{RunFault}
 use Rattle.mls_start.specs.Inputs.{Inputs, OfInfo, OfState}
 
 module _ {File : Type 0} (F : Opener File) where
-  -- `ReadsStart group i`: the files of a group were read, and `i` is their bytes, in the profile of the command.
+  -- `ReadsStart group i`: the files of a group were read, and `i` is their bytes, in the profile of the command, and with
+  -- its strict rules.
   abbrev pub ReadsStart : GroupFiles → Inputs → Type 0
-  ReadsStart (Info profile info tree) (OfInfo read_in info_bytes tree_bytes) =
-      (read_in ≡ profile) × ReadsFile F info info_bytes × ReadsNamed F tree tree_bytes
-  ReadsStart (State state) (OfState bytes) = ReadsFile F state bytes
+  ReadsStart (Info rules profile info tree) (OfInfo asked read_in info_bytes tree_bytes) =
+      (asked ≡ rules) × (read_in ≡ profile) × ReadsFile F info info_bytes × ReadsNamed F tree tree_bytes
+  ReadsStart (State rules state) (OfState asked bytes) = (asked ≡ rules) × ReadsFile F state bytes
   ReadsStart _ _ = ⊥
 
   -- `CannotReadStart group fault`: the file of the GroupInfo or of the state cannot be read, or that of the GroupInfo can and
   -- that of the tree cannot.
   abbrev pub CannotReadStart : GroupFiles → RunFault → Type 0
-  CannotReadStart (Info profile info tree) fault =
+  CannotReadStart (Info rules profile info tree) fault =
       CannotReadFile F info fault ⊎ ((bytes : List ℕ) × ReadsFile F info bytes × CannotReadNamed F tree fault)
-  CannotReadStart (State state) fault = CannotReadFile F state fault
+  CannotReadStart (State rules state) fault = CannotReadFile F state fault
 
   -- `RunsWithStart group P`: P holds of what was read of the files of a group.
   pub record RunsWithStart (group : GroupFiles) (P : Inputs → Type 0) : Type 0 where

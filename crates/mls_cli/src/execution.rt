@@ -18,6 +18,7 @@ use crate::read_files::{read_file, read_start};
 use mls_commands::{CheckerChoice, FileName, GroupFiles, GroupReport, Order, ReplayFiles};
 use mls_follow::Follower;
 use mls_gate::gate;
+use mls_msgs::Rules;
 use mls_program::{Files, execute_show};
 use mls_report::{
     Replayed, replay, report_unreadable_receipts, signatures, validate, validate_tree,
@@ -45,9 +46,10 @@ fn execute_check<F: Files, K: Sink>(
     run_check(alloc, kind, &mut input, out)
 }
 
-/// Says whether a tree is valid for a GroupContext, and its leaf nodes are valid.
+/// Says whether a tree is valid for a GroupContext, its leaf nodes are valid, and both meet the strict rules.
 fn execute_validate_tree<F: Files, K: Sink>(
     alloc: Global,
+    rules: Rules,
     context: &FileName,
     tree: &FileName,
     files: &F,
@@ -55,13 +57,13 @@ fn execute_validate_tree<F: Files, K: Sink>(
     out: &mut K,
 ) -> Result<Verdict, RunFault>
     requires { IsWorking (K.device out.old) }
-    ensures executed { ExecutesValidateTree (F.opener files.now) (checker_verify checker.now)
+    ensures executed { ExecutesValidateTree (F.opener files.now) (checker_verify checker.now) rules
         context.now tree.now (K.device out.old) (K.device out.new) result }
     ensures write { WriteFails result (K.device out.new) }
 {
     let context = read_file(alloc, context, files)?;
     let tree = read_file(alloc, tree, files)?;
-    validate_tree(alloc, context.as_slice(), tree, checker, out)
+    validate_tree(alloc, rules, context.as_slice(), tree, checker, out)
 }
 
 /// Says whether a group can be followed.
@@ -250,9 +252,11 @@ fn report_by<F: Files, K: Sink>(
     ensures write { MeansWrite (report_stores report.now) (K.device out.new) result }
 {
     match report {
-        GroupReport::ValidateTree { context, tree } => {
-            execute_validate_tree(alloc, context, tree, files, &checker, out)
-        }
+        GroupReport::ValidateTree {
+            rules,
+            context,
+            tree,
+        } => execute_validate_tree(alloc, *rules, context, tree, files, &checker, out),
         GroupReport::Validate(group) => execute_validate(alloc, group, files, checker, out),
         GroupReport::Replay {
             group,
@@ -302,7 +306,8 @@ fn execute_report<F: Files, K: Sink>(
 /// and `gate`.
 ///
 /// With `--save`, `replay` stores the state after its last whole message once its report is written whole, if a follower
-/// has started. If the state has no file or its file cannot be stored, the fault is `Write` too, after the whole report.
+/// has started. If the state has no file or its file cannot be stored, the fault is `Write` too, after the whole report. A
+/// state with strict rules has no file.
 pub fn execute_order<F: Files, K: Sink>(
     alloc: Global,
     order: &Order,

@@ -13,7 +13,7 @@ pub use execution::execute_order;
 pub use mls_commands::{
     CheckerChoice, FileName, GroupFiles, GroupReport, Order, OrderFault, ReplayFiles, order_of,
 };
-pub use mls_msgs::Profile;
+pub use mls_msgs::{Profile, Rules};
 pub use mls_program::{Files, run_fault};
 pub use mls_show::{ShowKind, run_show};
 pub use mls_vectors::{CheckKind, run_check};

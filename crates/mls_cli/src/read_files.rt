@@ -45,7 +45,7 @@ fn read_named<F: Files>(
     }
 }
 
-/// Returns what a group is followed from: the bytes of the files that a command names.
+/// Returns what a group is followed from: the bytes of the files that a command names, and the strict rules that it asks.
 pub(crate) fn read_start<F: Files>(
     alloc: Global,
     group: &GroupFiles,
@@ -58,6 +58,7 @@ pub(crate) fn read_start<F: Files>(
 {
     match group {
         GroupFiles::Info {
+            rules,
             profile,
             info,
             tree,
@@ -65,11 +66,18 @@ pub(crate) fn read_start<F: Files>(
             let info = read_file(alloc, info, files)?;
             let tree = read_named(alloc, tree, files)?;
             Ok(StartBytes::Info {
+                rules: *rules,
                 profile: *profile,
                 info,
                 tree,
             })
         }
-        GroupFiles::State(state) => Ok(StartBytes::State(read_file(alloc, state, files)?)),
+        GroupFiles::State { rules, state } => {
+            let bytes = read_file(alloc, state, files)?;
+            Ok(StartBytes::State {
+                rules: *rules,
+                bytes,
+            })
+        }
     }
 }

@@ -24,6 +24,10 @@ flag_rule name = record (new_rule name) { long = Some name; action = Some SetTru
 abbrev pub with_checker : App → App
 with_checker a = with_rule (with_rule a (flag_rule (codes "trust"))) (file_rule (codes "receipts"))
 
+-- `with_rules app` adds the options of the strict rules: `--strict` and `--allow NUMBERS`.
+abbrev pub with_rules : App → App
+with_rules a = with_rule (with_rule a (flag_rule (codes "strict"))) (file_rule (codes "allow"))
+
 -- `show KIND FILE [--profile PROFILE]`
 abbrev pub show_app : App
 show_app =
@@ -36,20 +40,20 @@ show_app =
 -- `validate-tree --context FILE --tree FILE`, and one of `--trust` and `--receipts FILE`
 abbrev pub validate_tree_app : App
 validate_tree_app =
-    with_checker (with_rule (with_rule
+    with_checker (with_rules (with_rule (with_rule
     (new_app (codes "validate-tree"))
     (needed_rule (codes "context")))
-    (needed_rule (codes "tree")))
+    (needed_rule (codes "tree"))))
 
--- `with_group app` adds the options of what a group is followed from: `--info FILE`, `--tree FILE`, `--state FILE` and
--- `--profile PROFILE`.
+-- `with_group app` adds the options of what a group is followed from, and how: `--info FILE`, `--tree FILE`, `--state FILE`,
+-- `--profile PROFILE`, and the options of the strict rules.
 abbrev pub with_group : App → App
 with_group a =
-    with_rule (with_rule (with_rule (with_rule a
+    with_rules (with_rule (with_rule (with_rule (with_rule a
     (file_rule (codes "info")))
     (file_rule (codes "tree")))
     (file_rule (codes "state")))
-    (file_rule (codes "profile"))
+    (file_rule (codes "profile")))
 
 -- `validate --info FILE [--tree FILE] [--profile PROFILE]` or `validate --state FILE`, and one of `--trust` and
 -- `--receipts FILE`

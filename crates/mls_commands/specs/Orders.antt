@@ -1,5 +1,5 @@
 -- The command that a command line gives. Used by contracts.
-use Rattle.std.specs.Prelude.{List, [], ◌∷◌, ℕ, ◌+◌, ◌≤◌, Bool, false, true, ◌≡◌, ◌≢◌, ◌⊎◌, Option, Some, None, codes}
+use Rattle.std.specs.Prelude.{List, [], ◌∷◌, ℕ, ◌+◌, ◌-◌, ◌*◌, ◌≤◌, nat_le, Bool, false, true, not, ◌&&◌, ◌==◌, ◌≡◌, ◌≢◌, ◌⊎◌, Option, Some, None, codes}
 use Rattle.std.specs.Str.{bytes_eq}
 use Rattle.clap.specs.Words.{Text, Row, first_of, fault_of, subcommand_of, IsAmong}
 use Rattle.clap.specs.declared.error.kind.ErrorKind.TheVariants.{DisplayHelp, DisplayVersion}
@@ -17,6 +17,8 @@ use Rattle.mls_commands.specs.declared.order.Order.{Order}
 use Rattle.mls_commands.specs.declared.order.Order.TheVariants as order
 use Rattle.mls_commands.specs.declared.order.OrderFault.{OrderFault}
 use Rattle.mls_commands.specs.declared.order.OrderFault.TheVariants.{Help, Usage, Memory}
+use Rattle.mls_msgs.specs.Rules.{has_rule, plain_rules, strict_rules}
+use Rattle.mls_msgs.specs.declared.rules.Rules.{Rules}
 use Rattle.mls_msgs.specs.declared.profile.Profile.{Profile}
 use Rattle.mls_msgs.specs.declared.profile.Profile.TheVariants as profiles
 use Rattle.mls_show.specs.declared.show.ShowKind.{ShowKind}
@@ -32,6 +34,39 @@ kind_text kind.Message = codes "message"
 abbrev pub profile_text : Profile → Text
 profile_text profiles.Members = codes "members"
 profile_text profiles.Full = codes "full"
+
+-- `is_digit c`: the character is a decimal digit.
+abbrev pub is_digit : ℕ → Bool
+is_digit c = nat_le 48 c && nat_le c 57
+
+-- `two_digits a b` is the number whose two decimal digits are these.
+abbrev pub two_digits : ℕ → ℕ → ℕ
+two_digits a b = (a - 48) * 10 + (b - 48)
+
+-- `IsWithout asked a b rules`: the two digits are the number of a rule of the set `asked`, and `rules` is the set without it.
+pub record IsWithout (asked : Rules) (a b : ℕ) (rules : Rules) : Type 0 where
+  pub digits : (is_digit a && is_digit b) ≡ true
+  pub is_member : has_rule asked (two_digits a b) ≡ true
+  pub others : (n : ℕ) → has_rule rules n ≡ (has_rule asked n && not (n == two_digits a b))
+
+-- `Allows asked text rules`: the text names rules of the set `asked`, each by its two digits, none twice, and with a comma
+-- between one and the next; and `rules` is the set without them.
+abbrev pub Allows : Rules → Text → Rules → Type 0
+Allows asked (a ∷ b ∷ []) rules = IsWithout asked a b rules
+Allows asked (a ∷ b ∷ c ∷ text) rules =
+    (c ≡ 44) × ((fewer : Rules) × IsWithout asked a b fewer × Allows fewer text rules)
+Allows asked _ rules = ⊥
+
+-- `IsAsked strict allow rules`: these are the strict rules that are asked, where `strict` and `allow` are the values of
+-- `--strict` and `--allow`, if they are there: none, all of them, or all but those that are allowed to be broken.
+abbrev pub IsAsked : Option Text → Option Text → Rules → Type 0
+IsAsked strict None rules =
+    ((strict ≡ Some (codes "true")) × (rules ≡ strict_rules)) ⊎ ((strict ≢ Some (codes "true")) × (rules ≡ plain_rules))
+IsAsked strict (Some text) rules = (strict ≡ Some (codes "true")) × Allows strict_rules text rules
+
+-- `AreAsked rows rules`: these are the strict rules that the arguments `--strict` and `--allow` ask.
+abbrev pub AreAsked : List Row → Rules → Type 0
+AreAsked rows rules = IsAsked (first_of (codes "strict") rows) (first_of (codes "allow") rows) rules
 
 -- `IsProfile given k profile`: `show` of the kind `k` decodes messages in `profile`, where `given` is the value of
 -- `--profile`, if it is there. Without it `profile` is that of the members; only `show message` takes it.
@@ -99,10 +134,11 @@ abbrev pub IsFirstChecker : Option Text → Option Text → CheckerChoice → Ty
 IsFirstChecker trust receipts checker.NoReceipts = (trust ≢ Some (codes "true")) × (receipts ≡ None)
 IsFirstChecker trust receipts c = IsChecker trust receipts c
 
--- `IsValidateTree rows context tree c`: these are the options of `validate-tree`.
-abbrev pub IsValidateTree : List Row → Text → Text → CheckerChoice → Type 0
-IsValidateTree rows context tree c =
-    (first_of (codes "context") rows ≡ Some context) × (first_of (codes "tree") rows ≡ Some tree)
+-- `IsValidateTree rows rules context tree c`: these are the options of `validate-tree`.
+abbrev pub IsValidateTree : List Row → Rules → Text → Text → CheckerChoice → Type 0
+IsValidateTree rows rules context tree c =
+    AreAsked rows rules
+    × (first_of (codes "context") rows ≡ Some context) × (first_of (codes "tree") rows ≡ Some tree)
     × IsChecker (first_of (codes "trust") rows) (first_of (codes "receipts") rows) c
 
 -- `IsNamedProfile given profile`: a group is followed in `profile`, where `given` is the value of `--profile`, if it is
@@ -112,13 +148,15 @@ IsNamedProfile None profile = profile ≡ profiles.Members
 IsNamedProfile (Some text) profile = text ≡ profile_text profile
 
 -- `IsGroup rows group`: this is what a group is followed from: `--info` with or without `--tree` and `--profile`,
--- otherwise `--state` without both.
+-- otherwise `--state` without both; and the strict rules that are asked.
 abbrev pub IsGroup : List Row → GroupFiles → Type 0
-IsGroup rows (groups.Info profile info tree) =
-    (first_of (codes "info") rows ≡ Some info) × (first_of (codes "tree") rows ≡ tree)
+IsGroup rows (groups.Info rules profile info tree) =
+    AreAsked rows rules
+    × (first_of (codes "info") rows ≡ Some info) × (first_of (codes "tree") rows ≡ tree)
     × (first_of (codes "state") rows ≡ None) × IsNamedProfile (first_of (codes "profile") rows) profile
-IsGroup rows (groups.State state) =
-    (first_of (codes "info") rows ≡ None) × (first_of (codes "tree") rows ≡ None)
+IsGroup rows (groups.State rules state) =
+    AreAsked rows rules
+    × (first_of (codes "info") rows ≡ None) × (first_of (codes "tree") rows ≡ None)
     × (first_of (codes "state") rows ≡ Some state) × (first_of (codes "profile") rows ≡ None)
 
 -- `IsValidate rows group c`: these are the options of `validate`.
@@ -149,9 +187,9 @@ IsGate rows group c =
 
 -- `IsGroupReport found report c`: this is the report that clap found, with this choice of a checker.
 abbrev pub IsGroupReport : Option (Text × List Row) → GroupReport → CheckerChoice → Type 0
-IsGroupReport found (report.ValidateTree context tree) c =
+IsGroupReport found (report.ValidateTree rules context tree) c =
     (rows : List Row) × (found ≡ Some (codes "validate-tree", rows))
-    × IsValidateTree rows context tree c
+    × IsValidateTree rows rules context tree c
 IsGroupReport found (report.Validate group) c =
     (rows : List Row) × (found ≡ Some (codes "validate", rows)) × IsValidate rows group c
 IsGroupReport found (report.Replay group files) c =

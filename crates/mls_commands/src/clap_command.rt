@@ -31,6 +31,9 @@ const SIGNATURES: &str = "Signatures (give one of these)";
 /// The heading of `--trust` and `--receipts` in help if neither need be given.
 const KNOWN_SIGNATURES: &str = "Signatures (give one of these, or none)";
 
+/// The heading of `--strict` and `--allow` in help.
+const STRICT_RULES: &str = "Strict rules";
+
 const SHOW_USAGE: &str = "\
 mlscheck show (tree | info) <FILE>
        mlscheck show message <FILE> [--profile <PROFILE>]";
@@ -48,9 +51,14 @@ Example:
 
 const VALIDATE_TREE_USAGE: &str = "\
 mlscheck validate-tree --context <FILE> --tree <FILE>
-           (--trust | --receipts <FILE>)";
+           [--strict [--allow <NUMBERS>]] (--trust | --receipts <FILE>)";
 
 const VALIDATE_TREE_HELP: &str = "\
+--strict also checks forms and lengths of keys and ciphertexts, lists of
+extensions and capabilities, points of curves and certificates (RFC 9420, 5.1.1,
+7.2, 7.6, 12.1, 13.4). Anyone can see these faults, and real clients fail on
+them, so a service should use it.
+
 A receipt says that a signature is good. mlscheck signatures prints each
 signature to verify with its receipt; write the receipts of the good ones in a
 file, each in a line (as examples/receipts.py does).
@@ -65,12 +73,17 @@ Example:
 const VALIDATE_USAGE: &str = "\
 mlscheck validate
            (--info <FILE> [--tree <FILE>] [--profile <PROFILE>] | --state <FILE>)
-           (--trust | --receipts <FILE>)";
+           [--strict [--allow <NUMBERS>]] (--trust | --receipts <FILE>)";
 
 const VALIDATE_HELP: &str = "\
 A group is followed from a GroupInfo, or from the file of a state, which names
 its profile. The full profile also has pre-shared keys, ReInit and external
 joins.
+
+--strict also checks forms and lengths of keys and ciphertexts, lists of
+extensions and capabilities, points of curves and certificates (RFC 9420, 5.1.1,
+7.2, 7.6, 12.1, 13.4). Anyone can see these faults, and real clients fail on
+them, so a service should use it.
 
 A receipt says that a signature is good. mlscheck signatures prints each
 signature to verify with its receipt; write the receipts of the good ones in a
@@ -85,13 +98,20 @@ Example:
 const REPLAY_USAGE: &str = "\
 mlscheck replay
            (--info <FILE> [--tree <FILE>] [--profile <PROFILE>] | --state <FILE>)
+           [--strict [--allow <NUMBERS>]]
            --log <FILE> [--save <FILE>] (--trust | --receipts <FILE>)";
 
 const REPLAY_HELP: &str = "\
 A group is followed from a GroupInfo, or from the file of a state, which names
 its profile. The full profile also has pre-shared keys, ReInit and external
 joins. With --save the state after the log is stored, after the report. A file
-of that name is replaced; what is no regular file is refused.
+of that name is replaced; what is no regular file is refused. A state with
+strict rules has no file, so --save is then a fault of writing.
+
+--strict also checks forms and lengths of keys and ciphertexts, lists of
+extensions and capabilities, points of curves and certificates (RFC 9420, 5.1.1,
+7.2, 7.6, 12.1, 13.4). Anyone can see these faults, and real clients fail on
+them, so a service should use it.
 
 A receipt says that a signature is good. mlscheck signatures prints each
 signature to verify with its receipt; write the receipts of the good ones in a
@@ -107,7 +127,7 @@ Example:
 const SIGNATURES_USAGE: &str = "\
 mlscheck signatures
            (--info <FILE> [--tree <FILE>] [--profile <PROFILE>] | --state <FILE>)
-           [--log <FILE>] [--receipts <FILE>]";
+           [--strict [--allow <NUMBERS>]] [--log <FILE>] [--receipts <FILE>]";
 
 const SIGNATURES_HELP: &str = "\
 Prints a line for each signature that has to be verified and has no receipt:
@@ -120,6 +140,11 @@ joins. A log is processed as if each signature were good: give one whose
 messages another party has accepted, or remove the messages that a first replay
 refuses.
 
+--strict also checks forms and lengths of keys and ciphertexts, lists of
+extensions and capabilities, points of curves and certificates (RFC 9420, 5.1.1,
+7.2, 7.6, 12.1, 13.4). Anyone can see these faults, and real clients fail on
+them, so a service should use it.
+
 Exit status: 0 if each message can be read, 1 if not or if the group can't be
 followed, 2 for a wrong command line, 3 for a fault of reading, writing or
 memory.
@@ -131,7 +156,7 @@ Example:
 const GATE_USAGE: &str = "\
 mlscheck gate
            (--info <FILE> [--tree <FILE>] [--profile <PROFILE>] | --state <FILE>)
-           [--trust | --receipts <FILE>]";
+           [--strict [--allow <NUMBERS>]] [--trust | --receipts <FILE>]";
 
 const GATE_HELP: &str = "\
 Standard input is a sequence of records: a length, a letter, and what belongs to
@@ -146,6 +171,11 @@ A receipt is the first word of the line of a signature, in bytes. Without
 A group is followed from a GroupInfo, or from the file of a state, which names
 its profile. The full profile also has pre-shared keys, ReInit and external
 joins.
+
+--strict also checks forms and lengths of keys and ciphertexts, lists of
+extensions and capabilities, points of curves and certificates (RFC 9420, 5.1.1,
+7.2, 7.6, 12.1, 13.4). Anyone can see these faults, and real clients fail on
+them, so a service should use it.
 
 Exit status: 0 if the input ends after b and a whole record, 1 if the group
 can't be followed or a record is broken, 2 for a wrong command line, 3 for a
@@ -282,7 +312,22 @@ fn with_checker<'a>(
     with(command, headed(receipts, heading))
 }
 
-/// `validate-tree --context FILE --tree FILE`, and one of `--trust` and `--receipts FILE`.
+/// Adds the options of the strict rules to the command: `--strict` and `--allow NUMBERS`, in a group of help of their own.
+fn with_rules<'a>(
+    alloc: Global,
+    command: Result<Command<'a>, AllocError>,
+) -> Result<Command<'a>, AllocError>
+    ensures { (app : App) → MakesApp app command.entry → MakesApp (specs.with_rules app) result }
+{
+    let help = "Also checks the strict rules, as a service should";
+    let strict = flag(alloc, "strict", help);
+    let command = with(command, headed(strict, STRICT_RULES));
+    let help = "The strict rules that may be broken, as 47 or 46,47";
+    let allow = valued(alloc, "allow", "NUMBERS", help);
+    with(command, headed(allow, STRICT_RULES))
+}
+
+/// `validate-tree --context FILE --tree FILE [--strict [--allow NUMBERS]]`, and one of `--trust` and `--receipts FILE`.
 fn validate_tree_command<'a>(alloc: Global) -> Result<Command<'a>, AllocError>
     ensures { MakesApp validate_tree_app result }
 {
@@ -298,10 +343,12 @@ fn validate_tree_command<'a>(alloc: Global) -> Result<Command<'a>, AllocError>
     let command = with(command, context);
     let tree = needed(alloc, "tree", "The path of the ratchet tree");
     let command = with(command, tree);
+    let command = with_rules(alloc, command);
     with_checker(alloc, command, SIGNATURES)
 }
 
-/// Adds what a group is followed from to the command: its GroupInfo and its tree, or a state, and the profile.
+/// Adds what a group is followed from to the command: its GroupInfo and its tree, or a state, the profile, and the options
+/// of the strict rules.
 fn with_group<'a>(
     alloc: Global,
     command: Result<Command<'a>, AllocError>,
@@ -323,11 +370,12 @@ fn with_group<'a>(
     );
     let command = with(command, state);
     let help = "The profile of a group: members, which is the default, or full";
-    with(command, valued(alloc, "profile", "PROFILE", help))
+    let command = with(command, valued(alloc, "profile", "PROFILE", help));
+    with_rules(alloc, command)
 }
 
-/// `validate --info FILE [--tree FILE] [--profile PROFILE]` or `validate --state FILE`, and one of `--trust` and
-/// `--receipts FILE`.
+/// `validate --info FILE [--tree FILE] [--profile PROFILE]` or `validate --state FILE`, the strict rules, and one of
+/// `--trust` and `--receipts FILE`.
 fn validate_command<'a>(alloc: Global) -> Result<Command<'a>, AllocError>
     ensures { MakesApp validate_app result }
 {
@@ -338,7 +386,7 @@ fn validate_command<'a>(alloc: Global) -> Result<Command<'a>, AllocError>
 }
 
 /// `replay --info FILE [--tree FILE] [--profile PROFILE] --log FILE [--save FILE]`, or with `--state FILE` in place of the
-/// first three, and one of `--trust` and `--receipts FILE`.
+/// first three, the strict rules, and one of `--trust` and `--receipts FILE`.
 fn replay_command<'a>(alloc: Global) -> Result<Command<'a>, AllocError>
     ensures { MakesApp replay_app result }
 {
@@ -361,7 +409,7 @@ fn replay_command<'a>(alloc: Global) -> Result<Command<'a>, AllocError>
 }
 
 /// `signatures --info FILE [--tree FILE] [--profile PROFILE] [--log FILE] [--receipts FILE]`, or with `--state FILE` in
-/// place of the first three.
+/// place of the first three, and the strict rules.
 fn signatures_command<'a>(alloc: Global) -> Result<Command<'a>, AllocError>
     ensures { MakesApp signatures_app result }
 {
@@ -384,8 +432,8 @@ fn signatures_command<'a>(alloc: Global) -> Result<Command<'a>, AllocError>
     with(command, receipts)
 }
 
-/// `gate --info FILE [--tree FILE] [--profile PROFILE]` or `gate --state FILE`, and at most one of `--trust` and
-/// `--receipts FILE`.
+/// `gate --info FILE [--tree FILE] [--profile PROFILE]` or `gate --state FILE`, the strict rules, and at most one of
+/// `--trust` and `--receipts FILE`.
 fn gate_command<'a>(alloc: Global) -> Result<Command<'a>, AllocError>
     ensures { MakesApp gate_app result }
 {

@@ -1,6 +1,8 @@
 //! The commands of the program `mlscheck`, and how a command line is parsed.
 #![tactic(auto)]
 
+mod arguments;
+mod asked_rules;
 mod clap_command;
 mod file_name;
 mod order;

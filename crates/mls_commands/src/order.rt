@@ -4,7 +4,7 @@ ghost use Rattle.std.specs.Prelude.{◌≡◌};
 ghost use Rattle.mls_commands.specs.FaultStatus.{fault_status};
 
 use crate::file_name::FileName;
-use mls_msgs::Profile;
+use mls_msgs::{Profile, Rules};
 use mls_show::{CheckKind, ShowKind};
 use std::alloc::AllocError;
 use thiserror::Error;
@@ -23,8 +23,10 @@ pub enum CheckerChoice {
 /// What a group is followed from.
 #[derive(Debug, Drop)]
 pub enum GroupFiles {
-    /// `--info FILE [--tree FILE] [--profile PROFILE]`: its GroupInfo.
+    /// `--info FILE [--tree FILE] [--profile PROFILE] [--strict [--allow NUMBERS]]`: its GroupInfo.
     Info {
+        /// The strict rules that are asked.
+        rules: Rules,
         /// The profile in which it is followed.
         profile: Profile,
         /// The file of the GroupInfo.
@@ -32,8 +34,13 @@ pub enum GroupFiles {
         /// The file of the ratchet tree, if one is named.
         tree: Option<FileName>,
     },
-    /// `--state FILE`: the file of a stored state.
-    State(FileName),
+    /// `--state FILE [--strict [--allow NUMBERS]]`: the file of a stored state.
+    State {
+        /// The strict rules that are added to those of the state.
+        rules: Rules,
+        /// The file of the state.
+        state: FileName,
+    },
 }
 
 /// What a replay reads and stores.
@@ -48,8 +55,11 @@ pub struct ReplayFiles {
 /// A report on a group or a tree, with a checker of signatures.
 #[derive(Debug, Drop)]
 pub enum GroupReport {
-    /// `validate-tree`: say whether a tree is valid for a GroupContext, and its leaf nodes are valid.
+    /// `validate-tree`: say whether a tree is valid for a GroupContext, its leaf nodes are valid, and both meet the strict
+    /// rules that are asked.
     ValidateTree {
+        /// The strict rules that are asked.
+        rules: Rules,
         /// The file of the GroupContext.
         context: FileName,
         /// The file of the ratchet tree.

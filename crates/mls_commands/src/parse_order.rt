@@ -1,11 +1,13 @@
 //! Parsing a command line.
 
-ghost use Rattle.std.specs.Prelude.{◌≡◌, ◌≢◌, ◌↔◌, ◌⊎◌, IsTrue, IfOk, IfErr, codes, Some, option_map, map, string_bytes};
+ghost use Rattle.std.specs.Prelude.{◌≡◌, ◌≢◌, ◌⊎◌, IfOk, IfErr, codes, Some, option_map, map, string_bytes};
 ghost use Rattle.clap.specs.Values.{kind_of};
 ghost use Rattle.clap.specs.Words.{first_of, rows_of, found_of, subcommand_rows_of};
 ghost use Rattle.mls_commands.specs.Orders.{IsProfile, IsNamedProfile, IsChecker, IsGroup, IsSave, IsFirstChecker, SelectsReceipts, IsOrder, IsGiven, IsOrderOf, stdin_count, IsHelp, IsUsage, AsksForHelp, AsksForHelpAlone, RefusesArguments, kind_text, check_kind_text};
 ghost use Rattle.mls_commands.specs.Orders as specs;
 
+use crate::arguments::{is_set, usage, value};
+use crate::asked_rules::asked_rules;
 use crate::clap_command::mlscheck_command;
 use crate::file_name::FileName;
 use crate::order::{CheckerChoice, GroupFiles, GroupReport, Order, OrderFault, ReplayFiles};
@@ -31,23 +33,6 @@ fn refusal(alloc: Global, error: &Error) -> OrderFault
         },
         Err(_) => OrderFault::Memory,
     }
-}
-
-/// Returns a usage fault of this program.
-fn usage(alloc: Global, text: &str) -> OrderFault
-    ensures { IsHelp result → ⊥ }
-{
-    match String::from_str(alloc, text) {
-        Ok(text) => OrderFault::Usage(text),
-        Err(_) => OrderFault::Memory,
-    }
-}
-
-/// Returns the value of an argument.
-fn value<'a>(matches: &ArgMatches<'a>, id: &str) -> Option<&'a str>
-    ensures { option_map (λ s. s.now) result ≡ first_of id.now (rows_of (found_of matches.now)) }
-{
-    matches.get_str(id)
 }
 
 /// Returns the file that an argument names.
@@ -134,14 +119,6 @@ fn show_order(alloc: Global, matches: &ArgMatches<'_>) -> Result<Order, OrderFau
     })
 }
 
-/// Returns whether `--trust` is given.
-fn is_trusted(matches: &ArgMatches<'_>) -> bool
-    ensures { IsTrue result
-        ↔ (first_of (codes "trust") (rows_of (found_of matches.now)) ≡ Some (codes "true")) }
-{
-    value(matches, "trust") == Some("true")
-}
-
 /// Returns the choice of a checker: exactly one of the two options is given.
 fn chosen_checker(alloc: Global, matches: &ArgMatches<'_>) -> Result<CheckerChoice, OrderFault>
     ensures checker { IfOk result
@@ -152,7 +129,7 @@ fn chosen_checker(alloc: Global, matches: &ArgMatches<'_>) -> Result<CheckerChoi
         (first_of (codes "receipts") (rows_of (found_of matches.now))))) }
     ensures never_help { IfErr result (λ e. IsHelp e → ⊥) }
 {
-    match (is_trusted(matches), value(matches, "receipts")) {
+    match (is_set(matches, "trust"), value(matches, "receipts")) {
         (true, None) => Ok(CheckerChoice::Trust),
         (false, Some(file)) => Ok(CheckerChoice::Receipts(FileName::new(alloc, file)?)),
         _ => Err(usage(alloc, "usage: give one of --trust and --receipts\n")),
@@ -168,9 +145,14 @@ fn validate_tree_order(alloc: Global, matches: &ArgMatches<'_>) -> Result<Order,
     ensures never_help { IfErr result (λ e. IsHelp e → ⊥) }
 {
     let checker = chosen_checker(alloc, matches)?;
+    let rules = asked_rules(alloc, matches)?;
     let context = file_of(alloc, matches, "context")?;
     let tree = file_of(alloc, matches, "tree")?;
-    let report = GroupReport::ValidateTree { context, tree };
+    let report = GroupReport::ValidateTree {
+        rules,
+        context,
+        tree,
+    };
     Ok(Order::Group { report, checker })
 }
 
@@ -191,12 +173,13 @@ fn group_profile(alloc: Global, matches: &ArgMatches<'_>) -> Result<Profile, Ord
 }
 
 /// Returns what a group is followed from: a GroupInfo, with or without a tree, in a profile; or the file of a state, which
-/// names its profile.
+/// names its profile. With it come the strict rules that are asked.
 fn group_of(alloc: Global, matches: &ArgMatches<'_>) -> Result<GroupFiles, OrderFault>
     ensures group { IfOk result (IsGroup (rows_of (found_of matches.now))) }
     ensures refused { IfErr result (RefusesArguments (IsGroup (rows_of (found_of matches.now)))) }
     ensures never_help { IfErr result (λ e. IsHelp e → ⊥) }
 {
+    let rules = asked_rules(alloc, matches)?;
     match (
         value(matches, "info"),
         value(matches, "tree"),
@@ -208,12 +191,16 @@ fn group_of(alloc: Global, matches: &ArgMatches<'_>) -> Result<GroupFiles, Order
             let info = FileName::new(alloc, info)?;
             let tree = optional_file_of(alloc, matches, "tree")?;
             Ok(GroupFiles::Info {
+                rules,
                 profile,
                 info,
                 tree,
             })
         }
-        (None, None, Some(state), None) => Ok(GroupFiles::State(FileName::new(alloc, state)?)),
+        (None, None, Some(state), None) => {
+            let state = FileName::new(alloc, state)?;
+            Ok(GroupFiles::State { rules, state })
+        }
         (None, None, Some(_), Some(_)) => Err(usage(
             alloc,
             "usage: a state names its profile: give no --profile with --state\n",
@@ -318,7 +305,7 @@ fn first_checker(alloc: Global, matches: &ArgMatches<'_>) -> Result<CheckerChoic
         (first_of (codes "receipts") (rows_of (found_of matches.now))))) }
     ensures never_help { IfErr result (λ e. IsHelp e → ⊥) }
 {
-    match (is_trusted(matches), value(matches, "receipts")) {
+    match (is_set(matches, "trust"), value(matches, "receipts")) {
         (true, None) => Ok(CheckerChoice::Trust),
         (false, Some(file)) => Ok(CheckerChoice::Receipts(FileName::new(alloc, file)?)),
         (false, None) => Ok(CheckerChoice::NoReceipts),

@@ -75,8 +75,8 @@ fn serve<R: Source, C: LearningCheck, K: Sink>(
     }
 }
 
-/// Follows one group over records. If no follower starts or resumes from `start` though each signature is good, it writes
-/// the line of the finding ([`mls_report::report_finding`]); the verdict is `No` and no record is read.
+/// Follows one group over records. If no follower starts or resumes from `start` with the strict rules though each signature
+/// is good, it writes the line of the finding ([`mls_report::report_finding`]); the verdict is `No` and no record is read.
 ///
 /// Else it writes a line for each signature of the start or of the resumption ([`StartBytes::trusting`]) that the checker
 /// does not accept, and one with their number. It makes a signature only after the line of the one before is written.
@@ -85,15 +85,16 @@ fn serve<R: Source, C: LearningCheck, K: Sink>(
 /// belongs to it, and answers each before it reads on:
 ///
 /// - `r` and receipts of 32 bytes each: these signatures are good. No line.
-/// - `b`: the follower starts or resumes by the signatures that it has learnt to be good by then. The line has the epoch,
-///   the number of members and the tree hash; or it is that of the finding, and the gate ends with `No`.
+/// - `b`: the follower starts, or resumes and adds the strict rules ([`StartBytes::follower`]), by the signatures that it
+///   has learnt to be good by then. The line has the epoch, the number of members and the tree hash; or it is that of the
+///   finding, and the gate ends with `No`.
 /// - `q` and a message: a line for each signature of the message that is not known to be good
 ///   ([`mls_follow::Follower::signatures_to_verify`]), and one with their number. Each line is written before the next
 ///   signature is made.
 /// - `m` and a message: the message is processed ([`mls_follow::Follower::take`]). The line says that it was accepted
 ///   and what it led to, with `ended` if the group is over (11.2); or the number and the name of the refusal.
-/// - `s`: the line has the file of the follower's state ([`mls_follow::Follower::encode_state`]), or says that it has
-///   none. The state is unchanged.
+/// - `s`: the line has the file of the follower's state ([`mls_follow::Follower::encode_state`]), or is `state TooLong` if
+///   the state has no file, as that of a follower with strict rules. The state is unchanged.
 ///
 /// Before `b` only `r` and `b` have an answer, and after it all but `b`. Every other record, and bytes that are no
 /// record, have the line `broken`, and the gate ends with `No`. If the input ends between two records, the verdict is

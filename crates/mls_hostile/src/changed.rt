@@ -9,7 +9,7 @@ use crate::group::{
 use crate::output::{Stop, have};
 use mls_check::{TreeFault, validate_tree};
 use mls_hash::{Suite, tree_hash};
-use mls_msgs::{Message, Profile, decode_message_in, encode_message};
+use mls_msgs::{Message, Profile, Rules, decode_message_in, encode_message};
 use mls_nodes::{GroupContext, NodeFault, decode_context};
 use mls_show::Verdict;
 use mls_tree::{PublicTree, root};
@@ -116,7 +116,7 @@ fn ends_in_hash(text: &str) -> bool {
 fn is_taken(alloc: Global, before: &[&str], message: Vec<u8>) -> Result<bool, Stop> {
     let mut messages = bytes_of_all(alloc, before)?;
     have(messages.push(message))?;
-    let followed = follow(alloc, Profile::Members, messages.as_slice())?;
+    let followed = follow(alloc, Rules::plain(), Profile::Members, messages.as_slice())?;
     if followed.was_refused {
         return Err(Stop::Memory);
     }

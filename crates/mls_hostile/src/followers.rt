@@ -5,10 +5,13 @@ use crate::output::{Output, Stop, have};
 use crate::signatures::{add_receipts, first_info};
 use mls_apply::KnownProposal;
 use mls_check::Trusting;
-use mls_follow::{Follower, Refusal, SignatureListFault, StartFault, StartRefused, Taken};
+use mls_follow::{
+    Follower, Refusal, SignatureListFault, StartFault, StartRefused, StrictRefused, Taken,
+};
 use mls_hash::{Suite, tree_hash};
-use mls_msgs::{Profile, Sender, encode_proposal};
+use mls_msgs::{Profile, Rules, Sender, encode_proposal};
 use mls_nodes::{GroupContext, encode_context, encode_ratchet_tree};
+use mls_report::fault_text::strict_refused_text;
 use mls_tree::PublicTree;
 use mls_wire::bytes_of;
 use std::alloc::Global;
@@ -142,18 +145,24 @@ fn is_handed_back(
     Ok(is_memory && refused.tree.is_none() && input.get(4..) == Some(bytes.as_slice()))
 }
 
-/// Starts a follower of this profile on the group of member 0 alone. Returns also whether it ran out of memory. If so, the start must
-/// return what was passed, and is repeated with that.
-fn start(alloc: Global, profile: Profile) -> Result<(TrustingFollower, bool), Stop> {
+/// Starts a follower with these strict rules and this profile on the group of member 0 alone. Returns also whether it ran
+/// out of memory. If so, the start must return what was passed, and is repeated with that.
+fn start(alloc: Global, rules: Rules, profile: Profile) -> Result<(TrustingFollower, bool), Stop> {
     let input = have(hex::decode(alloc, GROUP_INFO))?;
     let info = first_info(alloc, input.as_slice())?;
-    match Follower::start_in(alloc, profile, info, None, Trusting) {
+    match Follower::start_by(alloc, rules, profile, info, None, Trusting) {
         Ok(follower) => Ok((follower, false)),
         Err(refused) => {
             if !is_handed_back(alloc, &refused, input.as_slice())? {
                 return Err(Stop::NotStarted);
             }
-            match Follower::start_in(alloc, profile, refused.info, refused.tree, refused.checker) {
+            let StartRefused {
+                info,
+                tree,
+                checker,
+                ..
+            } = refused;
+            match Follower::start_by(alloc, rules, profile, info, tree, checker) {
                 Ok(follower) => Ok((follower, true)),
                 Err(_) => Err(Stop::NotStarted),
             }
@@ -221,22 +230,21 @@ pub(crate) struct Followed {
     pub(crate) receipts: String,
 }
 
-/// Passes messages to a follower of this profile that starts on the group of member 0 alone and accepts every
-/// signature. Before each message its signatures are requested.
-pub(crate) fn follow(
+/// Passes messages to a follower. Before each message its signatures are requested.
+fn pass(
     alloc: Global,
-    profile: Profile,
+    follower: &mut TrustingFollower,
     messages: &[Vec<u8>],
 ) -> Result<Followed, Stop> {
-    let (mut follower, mut was_refused) = start(alloc, profile)?;
+    let mut was_refused = false;
     let mut answers = String::new(alloc);
     let mut receipts = String::new(alloc);
     for message in messages {
         let message = message.as_slice();
-        let before = state_anew(alloc, &follower)?;
+        let before = state_anew(alloc, follower)?;
         let before = before.as_slice();
-        was_refused |= push_wanted(alloc, &mut follower, message, before, &mut receipts)?;
-        was_refused |= hand_over(alloc, &mut follower, message, before, &mut answers)?;
+        was_refused |= push_wanted(alloc, follower, message, before, &mut receipts)?;
+        was_refused |= hand_over(alloc, follower, message, before, &mut answers)?;
     }
     Ok(Followed {
         was_refused,
@@ -245,15 +253,32 @@ pub(crate) fn follow(
     })
 }
 
+/// Passes messages to a follower that starts with these strict rules and this profile on the group of member 0 alone and
+/// accepts every signature.
+pub(crate) fn follow(
+    alloc: Global,
+    rules: Rules,
+    profile: Profile,
+    messages: &[Vec<u8>],
+) -> Result<Followed, Stop> {
+    let (mut follower, was_refused) = start(alloc, rules, profile)?;
+    let followed = pass(alloc, &mut follower, messages);
+    drop(follower);
+    let mut followed = followed?;
+    followed.was_refused |= was_refused;
+    Ok(followed)
+}
+
 /// Returns the answers to messages, whose signatures must have these receipts.
 pub(crate) fn write_answers(
     alloc: Global,
+    rules: Rules,
     profile: Profile,
     messages: &[&str],
     receipts: &str,
 ) -> Result<Output, Stop> {
     let messages = bytes_of_all(alloc, messages)?;
-    let followed = follow(alloc, profile, messages.as_slice())?;
+    let followed = follow(alloc, rules, profile, messages.as_slice())?;
     if followed.receipts.as_str() != receipts {
         return Err(Stop::OtherSignatures);
     }
@@ -261,6 +286,75 @@ pub(crate) fn write_answers(
         was_refused: followed.was_refused,
         text: followed.answers,
     })
+}
+
+// ---- strict rules
+
+/// Returns the strict rules that the groups of the examples meet: all but 40, 44 and 45, since tags, keys and ciphertexts
+/// have one byte.
+pub(crate) fn met_rules() -> Result<Rules, Stop> {
+    match Rules::from_bits(0x1fce) {
+        Some(rules) => Ok(rules),
+        None => Err(Stop::NotStarted),
+    }
+}
+
+/// Returns whether a follower has no strict rules, and its state is `before`.
+fn is_plain_still(alloc: Global, follower: &TrustingFollower, before: &[u8]) -> Result<bool, Stop> {
+    Ok(follower.rules().is_plain() && is_unchanged(alloc, follower, before)?)
+}
+
+/// Returns the text of an answer of `make_strict`.
+fn added_text(alloc: Global, answer: Result<(), StrictRefused>) -> Result<String, Stop> {
+    match answer {
+        Ok(()) => have(String::from_str(alloc, "added")),
+        Err(refused) => have(strict_refused_text(alloc, refused)),
+    }
+}
+
+/// Adds strict rules to a follower that has none. Returns the answer, and whether `make_strict` ran out of memory. If it
+/// adds none, the state must be unchanged. If it ran out of memory, it is called again.
+fn add_rules(
+    alloc: Global,
+    follower: &mut TrustingFollower,
+    rules: Rules,
+) -> Result<(Result<(), StrictRefused>, bool), Stop> {
+    let before = state_anew(alloc, follower)?;
+    let mut answer = follower.make_strict(rules);
+    if answer.is_err() && !is_plain_still(alloc, follower, before.as_slice())? {
+        return Err(Stop::Changed);
+    }
+    let was_refused = answer == Err(StrictRefused::OutOfMemory);
+    if was_refused {
+        answer = follower.make_strict(rules);
+    }
+    Ok((answer, was_refused))
+}
+
+/// Adds strict rules to a follower after these messages, and returns the answer.
+fn add_after(
+    alloc: Global,
+    follower: &mut TrustingFollower,
+    messages: &[Vec<u8>],
+    rules: Rules,
+) -> Result<Output, Stop> {
+    let followed = pass(alloc, follower, messages)?;
+    let (answer, was_refused) = add_rules(alloc, follower, rules)?;
+    Ok(Output {
+        was_refused: was_refused | followed.was_refused,
+        text: added_text(alloc, answer)?,
+    })
+}
+
+/// Returns the answer of a follower without strict rules, after these messages, to these strict rules.
+pub(crate) fn write_added(alloc: Global, messages: &[&str], rules: Rules) -> Result<Output, Stop> {
+    let messages = bytes_of_all(alloc, messages)?;
+    let (mut follower, was_refused) = start(alloc, Rules::plain(), Profile::Members)?;
+    let output = add_after(alloc, &mut follower, messages.as_slice(), rules);
+    drop(follower);
+    let mut output = output?;
+    output.was_refused |= was_refused;
+    Ok(output)
 }
 
 /// Returns the bytes of messages.

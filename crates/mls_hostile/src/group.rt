@@ -208,9 +208,15 @@ pub(crate) const REPLAYED: &str = "1 accepted proposal \
 pub(crate) const VALIDATED: &str = "valid epoch 0 members 1 tree e32ab6a0a711ec8a732c3fad9263ed5fa6\
     1caf53fdf9b9690dc57271d8f110d7\n";
 
+/// The report of `validate` of the group of member 0 alone, by all strict rules: the confirmation tag has one byte.
+pub(crate) const NOT_STRICT: &str = "start refused 9 Strict 40 TagLength\n";
+
 /// The report of `validate-tree` of the tree of four members.
 pub(crate) const VALIDATED_TREE: &str = "valid 5c8af4eac028a0c3f6cd02a3cf4fc167fd6042cb16866eecb73d\
     d0da4aca3f09\n";
+
+/// The report of `validate-tree` of the tree of four members, by all strict rules: the encryption keys have one byte.
+pub(crate) const TREE_NOT_STRICT: &str = "strict refused 44 KeyForm 0\n";
 
 /// The report of `signatures` of the group of member 0 alone and of the log, with no receipts. The first lines are the
 /// signatures of the GroupInfo and its leaf. The next are those of the proposal: of the content, the added leaf and the
@@ -354,6 +360,10 @@ pub(crate) const TRANSCRIPT: &str = "[{\"cipher_suite\":1,\"authenticated_conten
 /// What `validate` writes of the state after the proposal.
 pub(crate) const STATE_VALIDATED: &str =
     "valid epoch 0 members 1 tree e32ab6a0a711ec8a732c3fad9263ed5fa61caf53fdf9b9690dc57271d8f110d7\n";
+
+/// What `validate` writes of the state after the proposal, to whose strict rules all are added: the encryption key of its
+/// leaf has one byte.
+pub(crate) const STATE_NOT_STRICT: &str = "state refused 10 Strict 44 KeyForm 0\n";
 
 /// What `replay` writes of the commit and an empty record, from the state after the proposal.
 pub(crate) const RESUMED: &str =

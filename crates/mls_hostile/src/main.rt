@@ -23,7 +23,7 @@ mod signatures;
 mod trees;
 
 use crate::changed::try_input;
-use crate::followers::write_answers;
+use crate::followers::{met_rules, write_added, write_answers};
 use crate::group::{
     ADD_ANSWERS, ADD_COMMIT, ADD_RECEIPTS, COMMIT, EXTENSIONS_ANSWERS, EXTENSIONS_COMMIT,
     EXTENSIONS_RECEIPTS, FULL_COMMIT, GROUP_INFO, JOIN_ANSWERS, JOIN_COMMIT, JOIN_RECEIPTS,
@@ -35,7 +35,7 @@ use crate::output::{Output, Stop};
 use crate::reports::{Report, write_report};
 use crate::signatures::write_start_signatures;
 use crate::trees::{Validator, validate};
-use mls_msgs::Profile;
+use mls_msgs::{Profile, Rules};
 use std::alloc::Global;
 use std::io::Read;
 use std::process::ExitCode;
@@ -51,6 +51,9 @@ enum Call {
     StartSignatures,
     Follow(&'static [&'static str], &'static str),
     FollowInFull(&'static [&'static str], &'static str),
+    FollowStrictly(&'static [&'static str], &'static str),
+    AddMet(&'static [&'static str]),
+    AddAll(&'static [&'static str]),
     Report(Report),
 }
 
@@ -114,13 +117,38 @@ const CALLS: &[(&str, Call, &str)] = &[
         Call::FollowInFull(&[JOIN_COMMIT, RESYNC_COMMIT], JOIN_RECEIPTS),
         JOIN_ANSWERS,
     ),
+    (
+        "Follower::start_by, wanted and take, by strict rules, to a commit with a path",
+        Call::FollowStrictly(&[PROPOSAL, COMMIT, PATH_COMMIT], PATH_RECEIPTS),
+        PATH_ANSWERS,
+    ),
+    (
+        "Follower::make_strict, after a proposal, by rules that the group meets",
+        Call::AddMet(&[PROPOSAL]),
+        "added",
+    ),
+    (
+        "Follower::make_strict, after a proposal, by all strict rules",
+        Call::AddAll(&[PROPOSAL]),
+        "10 Strict 44 KeyForm 0",
+    ),
     ("replay", Call::Report(Report::Replay), "no, 294 bytes"),
     ("run_check", Call::Report(Report::Check), "yes, 35 bytes"),
     ("validate", Call::Report(Report::Validate), "yes, 94 bytes"),
     (
+        "validate, by all strict rules",
+        Call::Report(Report::StrictValidate),
+        "no, 36 bytes",
+    ),
+    (
         "validate_tree",
         Call::Report(Report::ValidateTree),
         "yes, 71 bytes",
+    ),
+    (
+        "validate_tree, by all strict rules",
+        Call::Report(Report::StrictValidateTree),
+        "no, 28 bytes",
     ),
     (
         "signatures",
@@ -144,6 +172,11 @@ const CALLS: &[(&str, Call, &str)] = &[
         "yes, 94 bytes",
     ),
     (
+        "validate of a state, by all strict rules",
+        Call::Report(Report::StrictValidateState),
+        "no, 37 bytes",
+    ),
+    (
         "replay of a state, and encode_state",
         Call::Report(Report::ReplayState),
         "no, 200 bytes",
@@ -159,11 +192,16 @@ fn make(alloc: Global, call: Call) -> Result<Output, Stop> {
         Call::Validate(validator) => validate(alloc, validator),
         Call::StartSignatures => write_start_signatures(alloc),
         Call::Follow(messages, receipts) => {
-            write_answers(alloc, Profile::Members, messages, receipts)
+            write_answers(alloc, Rules::plain(), Profile::Members, messages, receipts)
         }
         Call::FollowInFull(messages, receipts) => {
-            write_answers(alloc, Profile::Full, messages, receipts)
+            write_answers(alloc, Rules::plain(), Profile::Full, messages, receipts)
         }
+        Call::FollowStrictly(messages, receipts) => {
+            write_answers(alloc, met_rules()?, Profile::Members, messages, receipts)
+        }
+        Call::AddMet(messages) => write_added(alloc, messages, met_rules()?),
+        Call::AddAll(messages) => write_added(alloc, messages, Rules::strict()),
         Call::Report(report) => write_report(alloc, report),
     }
 }

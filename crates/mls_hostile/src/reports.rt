@@ -1,15 +1,15 @@
 //! Reports over devices in memory.
 
 use crate::group::{
-    CHECKED, COMMIT, GATE_RECORDS, GATED, GROUP_INFO, LOG, NEXT_STATE, REPLAYED, RESUMED,
-    SIGNATURES, STATE, STATE_GATED, STATE_RECORDS, STATE_SIGNATURES, STATE_VALIDATED, TREE,
-    TREE_CONTEXT, VALIDATED, VALIDATED_TREE, VECTORS,
+    CHECKED, COMMIT, GATE_RECORDS, GATED, GROUP_INFO, LOG, NEXT_STATE, NOT_STRICT, REPLAYED,
+    RESUMED, SIGNATURES, STATE, STATE_GATED, STATE_NOT_STRICT, STATE_RECORDS, STATE_SIGNATURES,
+    STATE_VALIDATED, TREE, TREE_CONTEXT, TREE_NOT_STRICT, VALIDATED, VALIDATED_TREE, VECTORS,
 };
 use crate::output::{Output, Stop, have};
 use mls_check::{Receipts, Trusting};
 use mls_follow::Follower;
 use mls_gate::gate;
-use mls_msgs::Profile;
+use mls_msgs::{Profile, Rules};
 use mls_report::{Replayed, replay, signatures, validate, validate_tree};
 use mls_show::Verdict;
 use mls_start::StartBytes;
@@ -26,8 +26,12 @@ pub(crate) enum Report {
     Check,
     /// `validate` of the group of member 0 alone.
     Validate,
+    /// `validate` of the group of member 0 alone, by all strict rules.
+    StrictValidate,
     /// `validate-tree` of the tree of four members.
     ValidateTree,
+    /// `validate-tree` of the tree of four members, by all strict rules.
+    StrictValidateTree,
     /// `signatures` of the group of member 0 alone and of the log, with no receipts.
     Signatures,
     /// `signatures` of a state with a pending proposal, and of a log, with no receipts.
@@ -38,6 +42,8 @@ pub(crate) enum Report {
     GateState,
     /// `validate` of the state after the proposal.
     ValidateState,
+    /// `validate` of the state after the proposal, to whose strict rules all are added.
+    StrictValidateState,
     /// `replay` from this state, and the state after it.
     ReplayState,
 }
@@ -45,18 +51,22 @@ pub(crate) enum Report {
 /// How a report ends, and what is written then.
 type Ended = (Result<Verdict, RunFault>, MemorySink);
 
-/// Returns a start from the GroupInfo of the group of member 0 alone, in the members' profile.
-fn info_start(alloc: Global) -> Result<StartBytes, Stop> {
+/// Returns a start from the GroupInfo of the group of member 0 alone, in the members' profile and with these strict rules.
+fn info_start(alloc: Global, rules: Rules) -> Result<StartBytes, Stop> {
     Ok(StartBytes::Info {
+        rules,
         profile: Profile::Members,
         info: have(hex::decode(alloc, GROUP_INFO))?,
         tree: None,
     })
 }
 
-/// Returns a start from the state with a pending proposal.
-fn state_start(alloc: Global) -> Result<StartBytes, Stop> {
-    Ok(StartBytes::State(have(hex::decode(alloc, STATE))?))
+/// Returns a start from the state with a pending proposal, to which these strict rules are added.
+fn state_start(alloc: Global, rules: Rules) -> Result<StartBytes, Stop> {
+    Ok(StartBytes::State {
+        rules,
+        bytes: have(hex::decode(alloc, STATE))?,
+    })
 }
 
 /// Returns the verdict of a replay, or its fault.
@@ -77,7 +87,7 @@ fn replay_ended(alloc: Global) -> Result<Ended, Stop> {
         return Err(Stop::Memory);
     };
     let log = have(hex::decode(alloc, LOG))?;
-    let start = info_start(alloc)?;
+    let start = info_start(alloc, Rules::plain())?;
     let mut log = MemorySource::new(log.as_slice(), 40, None);
     let outcome = verdict_of(replay(alloc, start, &mut log, Trusting, &mut out));
     Ok((outcome, out))
@@ -93,24 +103,24 @@ fn check_ended(alloc: Global) -> Result<Ended, Stop> {
     Ok((outcome, out))
 }
 
-/// Returns how `validate` ends.
-fn validate_ended(alloc: Global) -> Result<Ended, Stop> {
+/// Returns how `validate` with these strict rules ends.
+fn validate_ended(alloc: Global, rules: Rules) -> Result<Ended, Stop> {
     let Ok(mut out) = MemorySink::new(alloc, 1000, 40, None) else {
         return Err(Stop::Memory);
     };
-    let start = info_start(alloc)?;
+    let start = info_start(alloc, rules)?;
     let outcome = validate(alloc, start, Trusting, &mut out);
     Ok((outcome, out))
 }
 
-/// Returns how `validate-tree` ends.
-fn validate_tree_ended(alloc: Global) -> Result<Ended, Stop> {
+/// Returns how `validate-tree` with these strict rules ends.
+fn validate_tree_ended(alloc: Global, rules: Rules) -> Result<Ended, Stop> {
     let Ok(mut out) = MemorySink::new(alloc, 1000, 40, None) else {
         return Err(Stop::Memory);
     };
     let context = have(hex::decode(alloc, TREE_CONTEXT))?;
     let tree = have(hex::decode(alloc, TREE))?;
-    let outcome = validate_tree(alloc, context.as_slice(), tree, &Trusting, &mut out);
+    let outcome = validate_tree(alloc, rules, context.as_slice(), tree, &Trusting, &mut out);
     Ok((outcome, out))
 }
 
@@ -121,7 +131,7 @@ fn signatures_ended(alloc: Global) -> Result<Ended, Stop> {
     };
     let receipts = Receipts::new(alloc);
     let log = have(hex::decode(alloc, LOG))?;
-    let start = info_start(alloc)?;
+    let start = info_start(alloc, Rules::plain())?;
     let mut log = Some(MemorySource::new(log.as_slice(), 40, None));
     let outcome = signatures(alloc, start, &mut log, &receipts, &mut out);
     Ok((outcome, out))
@@ -147,7 +157,7 @@ fn signatures_state_ended(alloc: Global) -> Result<Ended, Stop> {
     };
     let receipts = Receipts::new(alloc);
     let log = commit_log(alloc)?;
-    let start = state_start(alloc)?;
+    let start = state_start(alloc, Rules::plain())?;
     let mut log = Some(MemorySource::new(log.as_slice(), 40, None));
     let outcome = signatures(alloc, start, &mut log, &receipts, &mut out);
     Ok((outcome, out))
@@ -159,7 +169,7 @@ fn gate_ended(alloc: Global) -> Result<Ended, Stop> {
         return Err(Stop::Memory);
     };
     let records = have(hex::decode(alloc, GATE_RECORDS))?;
-    let start = info_start(alloc)?;
+    let start = info_start(alloc, Rules::plain())?;
     let mut records = MemorySource::new(records.as_slice(), 40, None);
     let known = Receipts::new(alloc);
     let outcome = gate(alloc, start, &mut records, known, &mut out);
@@ -172,19 +182,19 @@ fn gate_state_ended(alloc: Global) -> Result<Ended, Stop> {
         return Err(Stop::Memory);
     };
     let records = have(hex::decode(alloc, STATE_RECORDS))?;
-    let start = state_start(alloc)?;
+    let start = state_start(alloc, Rules::plain())?;
     let mut records = MemorySource::new(records.as_slice(), 40, None);
     let known = Receipts::new(alloc);
     let outcome = gate(alloc, start, &mut records, known, &mut out);
     Ok((outcome, out))
 }
 
-/// Returns how `validate` of a state ends.
-fn validate_state_ended(alloc: Global) -> Result<Ended, Stop> {
+/// Returns how `validate` of a state to which these strict rules are added ends.
+fn validate_state_ended(alloc: Global, rules: Rules) -> Result<Ended, Stop> {
     let Ok(mut out) = MemorySink::new(alloc, 1000, 40, None) else {
         return Err(Stop::Memory);
     };
-    let start = state_start(alloc)?;
+    let start = state_start(alloc, rules)?;
     let outcome = validate(alloc, start, Trusting, &mut out);
     Ok((outcome, out))
 }
@@ -212,7 +222,7 @@ fn replay_state_ended(alloc: Global) -> Result<Ended, Stop> {
     };
     let needed = have(hex::decode(alloc, NEXT_STATE))?;
     let log = commit_log(alloc)?;
-    let start = state_start(alloc)?;
+    let start = state_start(alloc, Rules::plain())?;
     let mut log = MemorySource::new(log.as_slice(), 40, None);
     let outcome = match replay(alloc, start, &mut log, Trusting, &mut out) {
         Ok(replayed) => {
@@ -230,13 +240,16 @@ fn ended(alloc: Global, report: Report) -> Result<Ended, Stop> {
     match report {
         Report::Replay => replay_ended(alloc),
         Report::Check => check_ended(alloc),
-        Report::Validate => validate_ended(alloc),
-        Report::ValidateTree => validate_tree_ended(alloc),
+        Report::Validate => validate_ended(alloc, Rules::plain()),
+        Report::StrictValidate => validate_ended(alloc, Rules::strict()),
+        Report::ValidateTree => validate_tree_ended(alloc, Rules::plain()),
+        Report::StrictValidateTree => validate_tree_ended(alloc, Rules::strict()),
         Report::Signatures => signatures_ended(alloc),
         Report::SignaturesState => signatures_state_ended(alloc),
         Report::Gate => gate_ended(alloc),
         Report::GateState => gate_state_ended(alloc),
-        Report::ValidateState => validate_state_ended(alloc),
+        Report::ValidateState => validate_state_ended(alloc, Rules::plain()),
+        Report::StrictValidateState => validate_state_ended(alloc, Rules::strict()),
         Report::ReplayState => replay_state_ended(alloc),
     }
 }
@@ -247,12 +260,15 @@ fn usual(report: Report) -> (&'static str, &'static str) {
         Report::Replay => ("no", REPLAYED),
         Report::Check => ("yes", CHECKED),
         Report::Validate => ("yes", VALIDATED),
+        Report::StrictValidate => ("no", NOT_STRICT),
         Report::ValidateTree => ("yes", VALIDATED_TREE),
+        Report::StrictValidateTree => ("no", TREE_NOT_STRICT),
         Report::Signatures => ("no", SIGNATURES),
         Report::SignaturesState => ("no", STATE_SIGNATURES),
         Report::Gate => ("no", GATED),
         Report::GateState => ("yes", STATE_GATED),
         Report::ValidateState => ("yes", STATE_VALIDATED),
+        Report::StrictValidateState => ("no", STATE_NOT_STRICT),
         Report::ReplayState => ("no", RESUMED),
     }
 }
@@ -271,7 +287,13 @@ pub(crate) fn write_report(alloc: Global, report: Report) -> Result<Output, Stop
             | Report::SignaturesState
             | Report::Gate
             | Report::GateState => usual_text.as_bytes(),
-            Report::Check | Report::Validate | Report::ValidateState | Report::ValidateTree => b"",
+            Report::Check
+            | Report::Validate
+            | Report::StrictValidate
+            | Report::ValidateTree
+            | Report::StrictValidateTree
+            | Report::ValidateState
+            | Report::StrictValidateState => b"",
         };
         if !front.starts_with(out.bytes()) {
             return Err(Stop::OtherReport);

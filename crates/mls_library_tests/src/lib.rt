@@ -2,8 +2,8 @@
 //!
 //! The libraries have no tests of their own, since a crate with tests is proved twice. A proof covers what contracts
 //! say; docs/TESTING.md says what is tested, and how. Here are the examples whose arguments or results have no bytes:
-//! devices that fail, journals, cached hashes, indexes, and inputs at the limits. Here are also those of the strict
-//! rules.
+//! devices that fail, journals, cached hashes, indexes, and inputs at the limits. Here are also sets of strict rules, and
+//! those that are added to a follower or asked of a single tree.
 //!
 //! Expected values are worked out by hand from the RFC's text, and are never what the libraries returned.
 #![tactic(auto)]
@@ -37,21 +37,7 @@ mod stored_states;
 #[cfg(test)]
 mod stored_values;
 #[cfg(test)]
-mod strict_commits;
-#[cfg(test)]
-mod strict_extensions;
-#[cfg(test)]
-mod strict_external;
-#[cfg(test)]
 mod strict_group;
-#[cfg(test)]
-mod strict_keys;
-#[cfg(test)]
-mod strict_proposals;
-#[cfg(test)]
-mod strict_starts;
-#[cfg(test)]
-mod strict_suites;
 #[cfg(test)]
 mod strict_trees;
 #[cfg(test)]

@@ -7,6 +7,7 @@ use crate::replay_devices::{LogReading, replay_into};
 use crate::support::{GROUP_INFO, TREE, bytes, expect_text, have, held_text, sink, start};
 use mls_check::{Receipts, ReceiptsFault, Trusting};
 use mls_cli::run_program;
+use mls_msgs::Rules;
 use mls_program::{Files, run_show_program};
 use mls_report::{report_unreadable_receipts, signatures, validate_tree};
 use mls_show::{ShowKind, Verdict, read_all, run_show, status_of};
@@ -124,7 +125,14 @@ fn tree_report(rt: &impl Abort, alloc: Global, out_fails: Option<usize>) -> Stri
     let context = bytes(rt, alloc, CONTEXT);
     let tree = bytes(rt, alloc, TREE);
     let mut out = sink(rt, alloc, 110, 6, out_fails);
-    let outcome = validate_tree(alloc, context.as_slice(), tree, &Trusting, &mut out);
+    let outcome = validate_tree(
+        alloc,
+        Rules::plain(),
+        context.as_slice(),
+        tree,
+        &Trusting,
+        &mut out,
+    );
     said(rt, alloc, outcome, &out)
 }
 

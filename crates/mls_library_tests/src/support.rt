@@ -12,7 +12,7 @@
 ghost use Rattle.std.specs.Prelude.{◌≡◌, ◌<◌, Ok, false};
 
 use mls_hash::Suite;
-use mls_msgs::{GroupInfo, Message, Profile, decode_message};
+use mls_msgs::{GroupInfo, Message, Profile, Rules, decode_message};
 use mls_nodes::{EncodedLeaf, decode_leaf, encode_ratchet_tree};
 use mls_start::StartBytes;
 use mls_tree::PublicTree;
@@ -105,9 +105,10 @@ pub(crate) fn held_text(rt: &impl Abort, alloc: Global, sink: &MemorySink) -> St
     have(rt, String::from_utf8(held))
 }
 
-/// Returns a start from a GroupInfo that has its tree, in the members' profile.
+/// Returns a start from a GroupInfo that has its tree, in the members' profile, without strict rules.
 pub(crate) fn start(rt: &impl Abort, alloc: Global, info: &str) -> StartBytes {
     StartBytes::Info {
+        rules: Rules::plain(),
         profile: Profile::Members,
         info: bytes(rt, alloc, info),
         tree: None,

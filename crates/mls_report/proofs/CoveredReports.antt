@@ -3,7 +3,7 @@ use Rattle.std.proofs.Common.{◌≡◌, ◌∙◌, List, [], ◌∷◌, ℕ, Op
 use Rattle.mls_tree.specs.RatchetTree.{RatchetTree}
 use Rattle.mls_tree.specs.Tree.{Tree}
 use Rattle.mls_check.specs.Signatures.{VerifyFn}
-use Rattle.mls_msgs.specs.Rules.{plain_rules}
+use Rattle.mls_msgs.specs.declared.rules.Rules.{Rules}
 use Rattle.mls_msgs.specs.declared.group_info.GroupInfo.{GroupInfo}
 use Rattle.mls_msgs.specs.declared.message.Message.{Message}
 use Rattle.mls_follow.specs.CoveredLogs.{all_good, Covers, CoversStart, CoversMessage}
@@ -49,20 +49,20 @@ module _ (R : VerifyFn) where
       (answer, turns_covered turn.state logged valid taken.1 has_signatures.1 covers.1)
 
   -- the tree of a start is the one that it uses
-  start_tree : (profile : Profile) (info : GroupInfo) (supplied : Option RatchetTree) (s : State) (needed : List SignatureToVerify) → IsStart plain_rules profile all_good info supplied s → needed ≡ start_signatures info s.tree
+  start_tree : (asked : Rules) (profile : Profile) (info : GroupInfo) (supplied : Option RatchetTree) (s : State) (needed : List SignatureToVerify) → IsStart asked profile all_good info supplied s → needed ≡ start_signatures info s.tree
       → Covers R needed → CoversStart R info supplied
-  start_tree profile info supplied s needed start named covers t uses =
+  start_tree asked profile info supplied s needed start named covers t uses =
       let same : start.tree ≡ t = one_tree supplied info.extensions start.tree t start.has_signer.has_members.valid_tree.readable.has_tree.uses uses in
       subst (λ (u : Tree). Covers R (start_signatures info u)) (ap (λ (st : State). st.tree) start.state ∙ ap (λ (r : RatchetTree). r.tree) same)
       (subst (Covers R) named covers)
 
 pub covered_replay : CoveredReportsReplay
-covered_replay profile R info supplied s needed log0 log1 logged rest starts covers processes log =
-    let start : IsStart plain_rules profile R info supplied s =
-    (covered_starts plain_rules profile R info supplied s (start_tree R profile info supplied s needed starts.start starts.needed_is covers)).1 starts.start in (
+covered_replay asked profile R info supplied s needed log0 log1 logged rest starts covers processes log =
+    let start : IsStart asked profile R info supplied s =
+    (covered_starts asked profile R info supplied s (start_tree R asked profile info supplied s needed starts.start starts.needed_is covers)).1 starts.start in (
       start,
       record {
-        taken = turns_covered R s logged (start_valid plain_rules profile R info supplied s start) processes.follows.taken processes.has_signatures log;
+        taken = turns_covered R s logged (start_valid asked profile R info supplied s start) processes.follows.taken processes.has_signatures log;
         bounded = processes.follows.bounded;
         records = processes.follows.records;
         are_records = processes.follows.are_records;

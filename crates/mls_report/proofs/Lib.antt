@@ -12,5 +12,6 @@ pub mod SignaturesExist
 pub mod SignatureLogs
 pub mod SignatureStarts
 mod ValidEpochs
+mod StrictEpochs
 mod CoveredReports
 mod SavedStates

@@ -1,12 +1,11 @@
 -- A replay has a report, whatever the bytes of its inputs.
 use Rattle.std.proofs.Common.{ℕ, zero, suc, [], ◌++◌, Bool, true, false, Some, None, refl, inl, inr, arith}
 use Rattle.mls_check.specs.Signatures.{VerifyFn}
-use Rattle.mls_msgs.specs.Rules.{plain_rules}
-use Rattle.mls_follow.proofs.Holding.{run_answered}
-use Rattle.mls_follow.proofs.StoredRuns.{resumed_answered}
+use Rattle.mls_follow.proofs.Deciding.{an_answer}
+use Rattle.mls_follow.proofs.Holding.{run_steady}
 use Rattle.mls_follow.specs.State.{State}
-use Rattle.mls_start.proofs.FirstStates.{first_or_declined}
-use Rattle.mls_start.specs.Inputs.{Inputs, OfInfo, OfState}
+use Rattle.mls_start.proofs.FirstStates.{first_or_declined, first_steady}
+use Rattle.mls_start.specs.Inputs.{Inputs}
 use Rattle.mls_start.specs.StartFindings.{IsFirstState}
 use Rattle.mls_report.proofs.LogsExist.{IsAnswering, IsLogReported, log_reported}
 use Rattle.mls_report.specs.Finding.{finding_line}
@@ -22,8 +21,9 @@ verdict_there false (suc n) = (No, inr (λ e. omega (arith, e)))
 
 -- whatever messages come, there is an answer to the next
 pub first_answering : (G : VerifyFn) (i : Inputs) (s : State) → IsFirstState G i s → IsAnswering G s
-first_answering G (OfInfo profile info tree) s h calls last bytes run = run_answered plain_rules profile G h.info h.supplied s last calls bytes h.start run
-first_answering G (OfState file) s h calls last bytes run = resumed_answered G file bytes s last calls h run
+first_answering G i s h calls last bytes run =
+    let steady = run_steady G s calls last (first_steady G i s h) run in
+    an_answer G last steady.required bytes steady.held steady.requires
 
 pub some_replay : ReplayExists
 some_replay G i log_bytes =

@@ -4,7 +4,7 @@
 use Rattle.std.specs.Prelude.{List, [], ◌∷◌, ℕ, Option, Some, None}
 use Rattle.mls_tree.specs.RatchetTree.{RatchetTree}
 use Rattle.mls_check.specs.Signatures.{VerifyFn}
-use Rattle.mls_msgs.specs.Rules.{plain_rules}
+use Rattle.mls_msgs.specs.declared.rules.Rules.{Rules}
 use Rattle.mls_msgs.specs.declared.group_info.GroupInfo.{GroupInfo}
 use Rattle.mls_follow.specs.CoveredLogs.{Covers}
 use Rattle.mls_follow.specs.Start.{IsStart}
@@ -25,12 +25,12 @@ abbrev pub CoversLogged : VerifyFn → List LoggedMessage → Type 0
 CoversLogged R [] = Unit {0}
 CoversLogged R (a ∷ logged) = CoversNeeded R a.needed × CoversLogged R logged
 
--- If `R` accepts each signature that `signatures` prints of a start and a log, a follower with `R` and the same profile,
--- without strict rules, starts in the same state, returns the same result for each message, and moves to the same state.
+-- If `R` accepts each signature that `signatures` prints of a start and a log, a follower with `R`, the same profile and the
+-- same strict rules starts in the same state, returns the same result for each message, and moves to the same state.
 abbrev pub CoveredReportsReplay : Type 0
 CoveredReportsReplay =
-    (profile : Profile) (R : VerifyFn) (info : GroupInfo) (supplied : Option RatchetTree) (s : State)
+    (asked : Rules) (profile : Profile) (R : VerifyFn) (info : GroupInfo) (supplied : Option RatchetTree) (s : State)
     (needed : List SignatureToVerify) (log0 log1 : Option (List ℕ)) (logged : List LoggedMessage) (rest : List ℕ)
-    → StartHasSignatures profile info supplied s needed → Covers R needed → ProcessesLog s log0 log1 logged rest
+    → StartHasSignatures asked profile info supplied s needed → Covers R needed → ProcessesLog s log0 log1 logged rest
     → CoversLogged R logged
-    → IsStart plain_rules profile R info supplied s × Follows R s log0 log1 (turns_of logged) rest
+    → IsStart asked profile R info supplied s × Follows R s log0 log1 (turns_of logged) rest

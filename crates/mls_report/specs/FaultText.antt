@@ -8,6 +8,8 @@ use Rattle.mls_check.specs.declared.tree_validation.TreeFault.{TreeFault}
 use Rattle.mls_check.specs.declared.tree_validation.TreeFault.TheVariants as trees
 use Rattle.mls_msgs.specs.StrictRules.{strict_number, strict_name}
 use Rattle.mls_strict.specs.declared.strict_fault.StrictFault.{StrictFault}
+use Rattle.mls_follow.specs.declared.added_rules.StrictRefused.{StrictRefused}
+use Rattle.mls_follow.specs.declared.added_rules.StrictRefused.TheVariants as stricts
 use Rattle.mls_follow.specs.declared.resume_fault.ResumeFault.{ResumeFault}
 use Rattle.mls_follow.specs.declared.resume_fault.ResumeFault.TheVariants as resumes
 use Rattle.mls_follow.specs.declared.start_fault.StartFault.{StartFault}
@@ -72,3 +74,10 @@ resume_fault_text (resumes.Member fault) = codes "refused 7 Member " ++ member_f
 resume_fault_text resumes.InterimLength = codes "refused 8 InterimLength"
 resume_fault_text (resumes.KnownInvalid n) = codes "refused 9 KnownInvalid " ++ decimal n
 resume_fault_text resumes.OutOfMemory = codes "OutOfMemory"
+
+-- `strict_refused_text r` is why the strict rules that are asked cannot be added to those of a state that was resumed, by
+-- number and name, with the rule that is not met, or the number of the pending proposal (own rule).
+abbrev pub strict_refused_text : StrictRefused → List ℕ
+strict_refused_text (stricts.Group fault) = codes "10 Strict " ++ strict_fault_text fault
+strict_refused_text (stricts.Known n) = codes "11 KnownStrict " ++ decimal n
+strict_refused_text stricts.OutOfMemory = codes "OutOfMemory"

@@ -8,9 +8,9 @@ use Rattle.mls_show.specs.FaultText.{wire_fault_text, node_fault_text}
 use Rattle.mls_show.specs.ValueTexts.{hex_text}
 use Rattle.mls_start.specs.Finding.{is_valid}
 use Rattle.mls_start.specs.declared.finding.Finding.{Finding}
-use Rattle.mls_start.specs.declared.finding.Finding.TheVariants.{ContextUnreadable, InfoUnreadable, NotGroupInfo, TreeUnreadable, UnsupportedVersion, UnsupportedSuite, RequirementsUnreadable, TreeRefused, MembersRefused, StartRefused, StateRefused, TreeValid, Starts}
+use Rattle.mls_start.specs.declared.finding.Finding.TheVariants.{ContextUnreadable, InfoUnreadable, NotGroupInfo, TreeUnreadable, UnsupportedVersion, UnsupportedSuite, RequirementsUnreadable, TreeRefused, MembersRefused, StartRefused, StateRefused, TreeNotStrict, StateNotStrict, TreeValid, Starts}
 use Rattle.mls_start.specs.declared.finding.Started.{Started}
-use Rattle.mls_report.specs.FaultText.{tree_fault_text, member_fault_text, start_fault_text, resume_fault_text}
+use Rattle.mls_report.specs.FaultText.{tree_fault_text, member_fault_text, start_fault_text, resume_fault_text, strict_fault_text, strict_refused_text}
 use Rattle.mls_show.specs.declared.verdict.Verdict.{Verdict}
 use Rattle.mls_show.specs.declared.verdict.Verdict.TheVariants.{Yes, No}
 
@@ -35,6 +35,8 @@ finding_text (TreeRefused fault) = codes "tree refused " ++ tree_fault_text faul
 finding_text (MembersRefused fault) = codes "members refused " ++ member_fault_text fault
 finding_text (StartRefused fault) = codes "start refused " ++ start_fault_text fault
 finding_text (StateRefused fault) = codes "state " ++ resume_fault_text fault
+finding_text (TreeNotStrict fault) = codes "strict refused " ++ strict_fault_text fault
+finding_text (StateNotStrict refused) = codes "state refused " ++ strict_refused_text refused
 finding_text (TreeValid tree_hash) = codes "valid " ++ hex_text tree_hash
 finding_text (Starts started) = started_text started
 

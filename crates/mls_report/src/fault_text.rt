@@ -5,7 +5,7 @@ ghost use Rattle.mls_show.specs.FaultText.{node_fault_text};
 ghost use Rattle.mls_report.specs.FaultText as texts;
 
 use mls_check::{MemberFault, TreeFault};
-use mls_follow::{ResumeFault, StartFault};
+use mls_follow::{ResumeFault, StartFault, StrictRefused};
 use mls_nodes::NodeFault;
 use mls_show::node_fault_text;
 use mls_strict::StrictFault;
@@ -69,7 +69,7 @@ fn start_member_text(alloc: Global, fault: MemberFault) -> Result<String, AllocE
 
 /// Returns the strict rule that is not met: number and name, and the node index if a node does not meet it, as
 /// `44 KeyForm 0`.
-fn strict_fault_text(alloc: Global, fault: StrictFault) -> Result<String, AllocError>
+pub fn strict_fault_text(alloc: Global, fault: StrictFault) -> Result<String, AllocError>
     ensures { IfOk result (λ text. string_bytes text ≡ texts.strict_fault_text fault) }
 {
     let (number, name) = (fault.rule.number(), fault.rule.name());
@@ -156,5 +156,26 @@ pub fn resume_fault_text(alloc: Global, fault: ResumeFault) -> Result<String, Al
         ResumeFault::InterimLength => String::from_str(alloc, "refused 8 InterimLength"),
         ResumeFault::KnownInvalid(n) => format!(in alloc; "refused 9 KnownInvalid {n}"),
         ResumeFault::OutOfMemory => String::from_str(alloc, "OutOfMemory"),
+    }
+}
+
+/// Returns why strict rules cannot be added to those of a resumed state, if the GroupContext or the tree is the cause.
+fn group_refused_text(alloc: Global, fault: StrictFault) -> Result<String, AllocError>
+    ensures { IfOk result
+        (λ text. string_bytes text ≡ codes "10 Strict " ++ texts.strict_fault_text fault) }
+{
+    let fault = strict_fault_text(alloc, fault)?;
+    format!(in alloc; "10 Strict {fault}")
+}
+
+/// Returns why strict rules cannot be added to those of a resumed state: number and name, and the strict rule that is not
+/// met, or the number of the pending proposal from 0 on, as `10 Strict 44 KeyForm 0`.
+pub fn strict_refused_text(alloc: Global, refused: StrictRefused) -> Result<String, AllocError>
+    ensures { IfOk result (λ text. string_bytes text ≡ texts.strict_refused_text refused) }
+{
+    match refused {
+        StrictRefused::Group(fault) => group_refused_text(alloc, fault),
+        StrictRefused::Known(n) => format!(in alloc; "11 KnownStrict {n}"),
+        StrictRefused::OutOfMemory => String::from_str(alloc, "OutOfMemory"),
     }
 }

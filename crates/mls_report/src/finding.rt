@@ -5,7 +5,10 @@ ghost use Rattle.std.specs.Io.KnownBytes.{Appends};
 ghost use Rattle.mls_wire.specs.Devices.{AppendsPrefix, IsWorking, WriteFails};
 ghost use Rattle.mls_report.specs.Finding as findings;
 
-use crate::fault_text::{member_fault_text, resume_fault_text, start_fault_text, tree_fault_text};
+use crate::fault_text::{
+    member_fault_text, resume_fault_text, start_fault_text, strict_fault_text, strict_refused_text,
+    tree_fault_text,
+};
 use mls_show::{Verdict, hex_of, node_fault_text, wire_fault_text, write_text};
 use mls_start::{Finding, Started};
 use mls_wire::{RunFault, Sink};
@@ -73,6 +76,16 @@ pub fn finding_text(alloc: Global, finding: &Finding) -> Result<String, AllocErr
         }
         Finding::StateRefused(fault) => {
             with_detail(alloc, "state", resume_fault_text(alloc, *fault)?)
+        }
+        Finding::TreeNotStrict(fault) => {
+            with_detail(alloc, "strict refused", strict_fault_text(alloc, *fault)?)
+        }
+        Finding::StateNotStrict(refused) => {
+            with_detail(
+                alloc,
+                "state refused",
+                strict_refused_text(alloc, *refused)?,
+            )
         }
         Finding::TreeValid(hash) => with_detail(alloc, "valid", hex_of(alloc, hash.as_slice())?),
         Finding::Starts(started) => started_text(alloc, started),

@@ -4,7 +4,7 @@ ghost use Rattle.mls_report.specs.UniqueReports.{InputIsUnique, LogIsUnique, Rep
 ghost use Rattle.mls_report.specs.ReportsExist.{InputExists, ReplayExists, SignaturesExist};
 ghost use Rattle.mls_report.specs.CoveredReports.{CoveredReportsReplay};
 ghost use Rattle.mls_report.specs.SavedStates.{SavedStatesResume, LaterMessagesFollow};
-ghost use Rattle.mls_report.specs.ValidEpochs.{ReportedEpochsAreValid};
+ghost use Rattle.mls_report.specs.ValidEpochs.{ReportedEpochsAreStrict, ReportedEpochsAreValid};
 
 /// The bytes of a source determine what is read of it to its end, however they are divided among reads. For any bytes there
 /// is something that is read of them.
@@ -42,15 +42,22 @@ pub fn reported_epochs_are_valid()
     ensures { ReportedEpochsAreValid }
 {}
 
+/// In each epoch that `validate` or `replay` reports the follower has the strict rules that are asked. Its GroupContext, its
+/// tree and its pending proposals meet its strict rules, though a tree is checked by them only where a follower starts or
+/// they are added to those of a resumed state.
+pub fn reported_epochs_are_strict()
+    ensures { ReportedEpochsAreStrict }
+{}
+
 /// Suppose a check accepts every signature that `signatures` lists of the start and of the messages of a log. Then a
-/// follower with this check starts in the same state as one that accepts every signature, and `replay` gives the same
-/// answers and states.
+/// follower with this check, the same profile and the same strict rules starts in the same state as one that accepts every
+/// signature, and `replay` gives the same answers and states.
 pub fn covered_reports_replay()
     ensures { CoveredReportsReplay }
 {}
 
 /// From the file of the state after a log a follower resumes in this state. It processes the messages after this log with
-/// the same results and the same states as the follower that goes on.
+/// the same results and the same states as the follower that goes on. A state with strict rules has no file.
 pub fn saved_states_resume()
     ensures resume { SavedStatesResume }
     ensures later { LaterMessagesFollow }

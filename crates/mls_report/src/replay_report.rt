@@ -166,8 +166,9 @@ pub struct Replayed<C: SignatureCheck> {
     pub follower: Option<Follower<C>>,
 }
 
-/// Starts or resumes a follower from the inputs. If none starts or resumes, it writes the line of
-/// [`validate`](crate::validate); the verdict is `No` and the log is not read.
+/// Starts a follower from the inputs ([`Follower::start_by`]), or resumes one ([`Follower::resume`]) and adds the strict
+/// rules to those of its state ([`Follower::make_strict`]). If none starts or resumes, or the rules cannot be added, it
+/// writes the line of [`validate`](crate::validate); the verdict is `No` and the log is not read.
 ///
 /// Otherwise it reads the log: at most 1,000,000 records, each a message as a variable-length vector (RFC 9420, 2.1.2).
 /// It reads a record, processes the message, writes its line, and only then reads on. Message n is one of:

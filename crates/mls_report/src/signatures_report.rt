@@ -83,11 +83,12 @@ fn report_started<L: Source, R: SignatureCheck, K: Sink>(
 
 /// Writes the signatures to verify that `receipts` don't cover, each in a line: its receipt, which is its line in a
 /// file of receipts if it is good, the suite, the key, the SignContent (RFC 9420, 5.1.2) and the signature. If no
-/// follower starts or resumes although every signature is accepted, it writes the line of
+/// follower starts or resumes with the strict rules although every signature is accepted, it writes the line of
 /// [`validate`](crate::validate) instead; the verdict is `No` and the log is not read.
 ///
 /// First come the signatures of the start ([`mls_signatures::start_signatures`]) or of the resumption
-/// ([`mls_signatures::resumption_signatures`]). A signature is made only after the line of the one before is written.
+/// ([`mls_signatures::resumption_signatures`]). Strict rules require no signature. A signature is made only after the line
+/// of the one before is written.
 ///
 /// Then it reads the log, if there is one: at most 1,000,000 records, each a message as a variable-length vector
 /// (2.1.2). It reads a record, processes the message accepting every signature, writes the lines of the signatures that

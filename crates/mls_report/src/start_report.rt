@@ -15,9 +15,12 @@ use mls_wire::{RunFault, Sink};
 use std::alloc::Global;
 
 /// Writes one line. If a follower starts or resumes: the epoch, the number of members and the tree hash, with the verdict
-/// `Yes`. Otherwise the first cause, with the verdict `No`: the GroupInfo or the tree is not decodable, or the first
-/// condition of [`Follower::start_in`](mls_follow::Follower::start_in) or of
-/// [`Follower::resume`](mls_follow::Follower::resume) that fails.
+/// `Yes`. Otherwise the first cause, with the verdict `No`:
+///
+/// - From a GroupInfo: it, or after it the tree, is not decodable, or the message is not a GroupInfo; then the first
+///   condition of [`Follower::start_by`](mls_follow::Follower::start_by) that fails.
+/// - From the file of a state: the first condition of [`Follower::resume`](mls_follow::Follower::resume) that fails; then
+///   why [`Follower::make_strict`](mls_follow::Follower::make_strict) cannot add the strict rules.
 ///
 /// # Errors
 ///

@@ -5,8 +5,8 @@ use crate::fault::RowFault;
 use crate::names::copy_of;
 use crate::row::Row;
 use crate::{
-    check_calls, codec_calls, field_calls, hash_calls, hostile_calls, list_calls, proposal_calls,
-    run_calls, stories, tree_calls,
+    check_calls, codec_calls, field_calls, hash_calls, hostile_calls, key_calls, list_calls,
+    proposal_calls, run_calls, stories, tree_calls,
 };
 
 /// The result of a row of hashes and signatures, or of another kind.
@@ -32,6 +32,17 @@ pub(crate) fn call(row: &Row) -> Result<CallResult, RowFault> {
         "signed" => check_calls::is_signed(row),
         "signed_in_pieces" => check_calls::is_signed_in_pieces(row),
         "listed" => check_calls::listed(row),
+        _ => key_call(row),
+    }
+}
+
+/// The result of a row of keys, or of another kind.
+fn key_call(row: &Row) -> Result<CallResult, RowFault> {
+    match row.word(0) {
+        "hpke_key" => key_calls::hpke_key(row),
+        "signature_key" => key_calls::signature_key(row),
+        "suite_point" => key_calls::suite_point(row),
+        "certificate_key" => key_calls::key_of_certificate(row),
         _ => codec_call(row),
     }
 }

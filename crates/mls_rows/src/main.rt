@@ -18,6 +18,7 @@ mod field_calls;
 mod file;
 mod hash_calls;
 mod hostile_calls;
+mod key_calls;
 mod list_calls;
 mod names;
 mod proposal_calls;

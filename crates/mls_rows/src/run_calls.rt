@@ -9,8 +9,8 @@ use crate::row::{Row, have};
 use crate::text_writer::TextWriter;
 use crate::token::Token;
 use mls_cli::{
-    CheckKind, CheckerChoice, FileName, Files, GroupFiles, GroupReport, Order, Profile, ShowKind,
-    order_of, run_program,
+    CheckKind, CheckerChoice, FileName, Files, GroupFiles, GroupReport, Order, Profile, Rules,
+    ShowKind, order_of, run_program,
 };
 use mls_wire::{LogStep, MemorySink, MemorySource, RecordReader, Records, Source};
 use std::alloc::{AllocError, Global};
@@ -297,6 +297,7 @@ fn group_text(alloc: Global, name: &str, group: &GroupFiles) -> Result<String, R
             profile,
             info,
             tree,
+            ..
         } => {
             let (info, tree) = (info.as_str(), file_name(tree));
             match profile {
@@ -304,7 +305,9 @@ fn group_text(alloc: Global, name: &str, group: &GroupFiles) -> Result<String, R
                 Profile::Full => have(format!(in alloc; "{name} in full {info} {tree}")),
             }
         }
-        GroupFiles::State(state) => have(format!(in alloc; "{name} state {}", state.as_str())),
+        GroupFiles::State { state, .. } => {
+            have(format!(in alloc; "{name} state {}", state.as_str()))
+        }
     }
 }
 
@@ -327,7 +330,7 @@ fn group_report(
 /// A report that checks signatures, in words.
 fn report_text(alloc: Global, report: &GroupReport, receipts: &str) -> Result<String, RowFault> {
     match report {
-        GroupReport::ValidateTree { context, tree } => {
+        GroupReport::ValidateTree { context, tree, .. } => {
             let (context, tree) = (context.as_str(), tree.as_str());
             have(format!(in alloc; "validate {context} {tree} {receipts}"))
         }
@@ -341,6 +344,53 @@ fn report_text(alloc: Global, report: &GroupReport, receipts: &str) -> Result<St
         }
         GroupReport::Gate(group) => group_report(alloc, "gate", group, &[receipts]),
     }
+}
+
+/// The strict rules that are asked of a group.
+fn group_rules(group: &GroupFiles) -> Rules {
+    match group {
+        GroupFiles::Info { rules, .. } => *rules,
+        GroupFiles::State { rules, .. } => *rules,
+    }
+}
+
+/// The strict rules that a report asks.
+fn report_rules(report: &GroupReport) -> Rules {
+    match report {
+        GroupReport::ValidateTree { rules, .. } => *rules,
+        GroupReport::Validate(group) => group_rules(group),
+        GroupReport::Replay { group, .. } => group_rules(group),
+        GroupReport::Signatures { group, .. } => group_rules(group),
+        GroupReport::Gate(group) => group_rules(group),
+    }
+}
+
+/// Adds a set of strict rules in words: nothing if it is empty, else `strict`, and after `but` those that are not in it.
+fn add_rules(all: &mut TextWriter, rules: Rules) {
+    if rules.is_plain() {
+        return;
+    }
+    all.add(" strict");
+    let mut mark = " but ";
+    for number in 40u8..53 {
+        if !rules.has(number) {
+            all.add(mark);
+            all.add_number(u64::from(number));
+            mark = " ";
+        }
+    }
+}
+
+/// A report that checks signatures, and the strict rules that it asks, in words.
+fn group_order_text(
+    alloc: Global,
+    report: &GroupReport,
+    checker: &CheckerChoice,
+) -> Result<String, RowFault> {
+    let mut all = TextWriter::new(alloc);
+    all.add_made(report_text(alloc, report, receipts_name(checker)));
+    add_rules(&mut all, report_rules(report));
+    all.finish()
 }
 
 /// The kind of vectors.
@@ -369,7 +419,7 @@ fn order_text(alloc: Global, order: &Order) -> Result<String, RowFault> {
             };
             have(format!(in alloc; "show {kind} {}", file.as_str()))
         }
-        Order::Group { report, checker } => report_text(alloc, report, receipts_name(checker)),
+        Order::Group { report, checker } => group_order_text(alloc, report, checker),
         Order::Check { kind, file } => {
             let kind = check_word(kind);
             have(format!(in alloc; "check {kind} {}", file.as_str()))
@@ -392,8 +442,8 @@ fn refused_text<E: Drop>(
     all.finish()
 }
 
-/// `command | COMMAND`: what a command is parsed to: the report, its files in the order of docs/FORMATS.md, and the file of receipts; or
-/// the exit status and the lines that say what is wrong.
+/// `command | COMMAND`: what a command is parsed to: the report, its files in the order of docs/FORMATS.md, the file of receipts, and the
+/// strict rules; or the exit status and the lines that say what is wrong.
 pub(crate) fn command(row: &Row) -> Result<CallResult, RowFault> {
     row.has(1);
     let words = words_at(row, 1);

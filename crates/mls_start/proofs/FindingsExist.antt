@@ -7,22 +7,24 @@ use Rattle.mls_nodes.specs.Layout.{group_context}
 use Rattle.mls_nodes.specs.ParsingInternal.{group_context_at}
 use Rattle.mls_nodes.specs.declared.context.GroupContext.{GroupContext}
 use Rattle.mls_nodes.specs.declared.fault.NodeFault.TheVariants.{EmptyTree}
+use Rattle.mls_nodes.specs.declared.required_capabilities.RequiredCapabilities.{RequiredCapabilities}
 use Rattle.mls_tree.specs.RatchetTree.{RatchetTree}
 use Rattle.mls_tree.specs.TreeDecoding.{IsTreeOf}
 use Rattle.mls_check.proofs.GroupTreeAnswers.{group_tree_or_fault}
 use Rattle.mls_check.proofs.GroupTrees.{members_too, requirements_too, invalid_too, strangers_too}
-use Rattle.mls_check.specs.GroupTree.{IsSupportedContext, IsGroupTreeFault}
+use Rattle.mls_check.specs.GroupTree.{IsSupportedContext, HasMembers, IsGroupTreeFault}
 use Rattle.mls_check.specs.Signatures.{VerifyFn}
 use Rattle.mls_check.specs.declared.group_tree.GroupTreeFault.{GroupTreeFault}
 use Rattle.mls_check.specs.declared.group_tree.GroupTreeFault.TheVariants as groups
 use Rattle.mls_msgs.specs.Message.{message}
 use Rattle.mls_msgs.specs.Profile.{message_in}
-use Rattle.mls_msgs.specs.Rules.{plain_rules}
 use Rattle.mls_msgs.specs.declared.profile.Profile.{Profile}
+use Rattle.mls_msgs.specs.declared.rules.Rules.{Rules}
 use Rattle.mls_msgs.proofs.Profiles.{encoded_in, message_or_none}
 use Rattle.mls_msgs.specs.declared.group_info.GroupInfo.{GroupInfo}
 use Rattle.mls_msgs.specs.declared.message.Message.{Message}
 use Rattle.mls_msgs.specs.declared.message.Message.TheVariants as messages
+use Rattle.mls_strict.proofs.FirstFaults.{strict_or_fault}
 use Rattle.mls_follow.specs.Acceptance.{EncodesNoMessage}
 use Rattle.mls_follow.specs.State.{State, EncodesMessage}
 use Rattle.mls_hash.proofs.Suites.{supported_or_not}
@@ -33,7 +35,7 @@ use Rattle.mls_start.specs.FindingLaws.{TreeFindingExists}
 use Rattle.mls_start.specs.StartFindings.{IsInfo, IsSupplied, IsSuppliedUnread, IsReadAs, IsStarted, IsStartFinding}
 use Rattle.mls_start.specs.TreeFinding.{IsContext, IsNoContext, IsTreeFinding}
 use Rattle.mls_start.specs.declared.finding.Finding.{Finding}
-use Rattle.mls_start.specs.declared.finding.Finding.TheVariants.{ContextUnreadable, InfoUnreadable, NotGroupInfo, TreeUnreadable, UnsupportedVersion, UnsupportedSuite, RequirementsUnreadable, TreeRefused, MembersRefused, StartRefused, TreeValid}
+use Rattle.mls_start.specs.declared.finding.Finding.TheVariants.{ContextUnreadable, InfoUnreadable, NotGroupInfo, TreeUnreadable, UnsupportedVersion, UnsupportedSuite, RequirementsUnreadable, TreeRefused, MembersRefused, TreeNotStrict, StartRefused, TreeValid}
 
 -- ---- a context and a tree
 
@@ -47,9 +49,9 @@ context_or_not bytes = go (read_or_not group_context group_context_at group_cont
     go (inl c) (inr over) = inr (λ d h. over h.bounded)
     go (inl c) (inl le) = inl (c.0, record { encoded = c.1; bounded = le })
 
-module _ (G : VerifyFn) (context_bytes tree_bytes : List ℕ) where
+module _ (asked : Rules) (G : VerifyFn) (context_bytes tree_bytes : List ℕ) where
   abbrev Found : Type 0
-  Found = (finding : Finding) × IsTreeFinding G context_bytes tree_bytes finding
+  Found = (finding : Finding) × IsTreeFinding asked G context_bytes tree_bytes finding
 
   module _ (c : GroupContext) (t : RatchetTree) (context : IsContext context_bytes c) (is_tree : IsTreeOf tree_bytes t) where
     abbrev Own : RatchetTree → Type 0
@@ -64,10 +66,17 @@ module _ (G : VerifyFn) (context_bytes tree_bytes : List ℕ) where
     by_fault (groups.Member fault) own f = (MembersRefused fault, (c, context, strangers_too G c Own (IsTreeOf tree_bytes) too fault f))
     by_fault groups.OutOfMemory own f = absurd (own refl)
 
+    by_rules : (required : RequiredCapabilities) → HasMembers G c (IsTreeOf tree_bytes) t required → Found
+    by_rules required members =
+        elim (strict_or_fault asked c t.tree) [
+          | inl strict ↦ (TreeValid c.tree_hash, (c, t, required, context, members, strict, refl))
+          | inr f ↦ (TreeNotStrict f.0, (c, t, required, context, members, f.1))
+        ]
+
     by_tree : IsSupportedContext c → Found
     by_tree followed =
         elim (group_tree_or_fault G c t followed) [
-          | inl m ↦ (TreeValid c.tree_hash, (c, t, m.0, context, members_too G c Own (IsTreeOf tree_bytes) too t m.0 m.1, refl))
+          | inl m ↦ by_rules m.0 (members_too G c Own (IsTreeOf tree_bytes) too t m.0 m.1)
           | inr f ↦ by_fault f.0 f.1 f.2
         ]
 
@@ -89,9 +98,9 @@ module _ (G : VerifyFn) (context_bytes tree_bytes : List ℕ) where
   by_context c h = elim (same_or_not c.version 1) [ inl version ↦ by_suite c h version | inr other ↦ (UnsupportedVersion, (c, h, other)) ]
 
 pub some_tree_finding : TreeFindingExists
-some_tree_finding G context_bytes tree_bytes =
+some_tree_finding asked G context_bytes tree_bytes =
     elim (context_or_not context_bytes) [
-      | inl c ↦ by_context G context_bytes tree_bytes c.0 c.1
+      | inl c ↦ by_context asked G context_bytes tree_bytes c.0 c.1
       | inr none ↦ (ContextUnreadable some_fault, none)
     ]
 
@@ -118,16 +127,16 @@ supplied_or_not : (bytes : Option (List ℕ)) → ((t : Option RatchetTree) × I
 supplied_or_not None = inl (None, tt)
 supplied_or_not (Some bytes) = elim (tree_or_not bytes) [ inl t ↦ inl (Some t.0, t.1) | inr none ↦ inr none ]
 
-module _ (profile : Profile) (G : VerifyFn) (info_bytes : List ℕ) (tree_bytes : Option (List ℕ)) where
+module _ (asked : Rules) (profile : Profile) (G : VerifyFn) (info_bytes : List ℕ) (tree_bytes : Option (List ℕ)) where
   -- a follower starts, or something is found for which none does
   abbrev pub Begun : Type 0
-  Begun = ((s : State) × IsStarted profile G info_bytes tree_bytes s)
-      ⊎ ((finding : Finding) × IsStartFinding profile G info_bytes tree_bytes finding × (is_valid finding ≡ false))
+  Begun = ((s : State) × IsStarted asked profile G info_bytes tree_bytes s)
+      ⊎ ((finding : Finding) × IsStartFinding asked profile G info_bytes tree_bytes finding × (is_valid finding ≡ false))
 
   by_inputs : (info : GroupInfo) (supplied : Option RatchetTree) → IsReadAs profile info_bytes tree_bytes info supplied → Begun
   by_inputs info supplied h =
       let interim = interim_of info info_bytes h.is_info.encoded in
-      elim (starts_or_not plain_rules profile G info supplied interim.0 interim.1) [
+      elim (starts_or_not asked profile G info supplied interim.0 interim.1) [
         | inl s ↦ inl (s.0, record { info = info; supplied = supplied; is_read = h; start = s.1 })
         | inr f ↦ inr (StartRefused f.0, (info, supplied, h, f.1, f.2), refl)
       ]

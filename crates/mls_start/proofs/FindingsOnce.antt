@@ -14,15 +14,17 @@ use Rattle.mls_tree.specs.RatchetTree.{RatchetTree}
 use Rattle.mls_hash.specs.SuiteHash.{hash_of}
 use Rattle.mls_hash.specs.Suites.{IsSupported}
 use Rattle.mls_check.proofs.Faulted.{fault-not_valid, fault-unique}
-use Rattle.mls_check.specs.GroupTree.{IsSupportedContext, HasTree, HasReadableRequirements, HasValidTree}
+use Rattle.mls_check.specs.GroupTree.{IsSupportedContext, HasTree, HasReadableRequirements, HasValidTree, HasMembers}
 use Rattle.mls_check.specs.LeafValidation.{LeavesAreValid}
 use Rattle.mls_check.specs.Signatures.{VerifyFn}
 use Rattle.mls_check.specs.ValidTree.{Valid, IsFirstTreeFault}
-use Rattle.mls_msgs.specs.Rules.{plain_rules}
 use Rattle.mls_msgs.specs.declared.profile.Profile.{Profile}
+use Rattle.mls_msgs.specs.declared.rules.Rules.{Rules}
 use Rattle.mls_msgs.specs.declared.group_info.GroupInfo.{GroupInfo}
 use Rattle.mls_msgs.specs.declared.message.Message.{Message}
 use Rattle.mls_msgs.specs.declared.message.Message.TheVariants as messages
+use Rattle.mls_strict.proofs.FirstFaults.{no_fault_of_strict, fault_is_unique}
+use Rattle.mls_strict.specs.StrictTrees.{IsStrict, IsStrictFault}
 use Rattle.mls_follow.specs.Start.{IsStart, IsStartFault}
 use Rattle.mls_follow.proofs.Answering.{one_message}
 use Rattle.mls_follow.specs.State.{State, EncodesMessage}
@@ -32,7 +34,7 @@ use Rattle.mls_start.specs.FindingLaws.{AreAlike, TreeFindingIsUnique}
 use Rattle.mls_start.specs.StartFindings.{IsInfo, IsSupplied, IsSuppliedUnread, IsReadAs, IsStarted, IsStartFinding, started_of}
 use Rattle.mls_start.specs.TreeFinding.{IsContext, IsTreeFinding}
 use Rattle.mls_start.specs.declared.finding.Finding.{Finding}
-use Rattle.mls_start.specs.declared.finding.Finding.TheVariants.{ContextUnreadable, InfoUnreadable, NotGroupInfo, TreeUnreadable, UnsupportedVersion, UnsupportedSuite, RequirementsUnreadable, TreeRefused, MembersRefused, StartRefused, StateRefused, TreeValid, Starts}
+use Rattle.mls_start.specs.declared.finding.Finding.TheVariants.{ContextUnreadable, InfoUnreadable, NotGroupInfo, TreeUnreadable, UnsupportedVersion, UnsupportedSuite, RequirementsUnreadable, TreeRefused, MembersRefused, TreeNotStrict, StartRefused, StateRefused, StateNotStrict, TreeValid, Starts}
 
 -- ---- what is read is one
 
@@ -68,12 +70,13 @@ tree_position (TreeUnreadable x) = 3
 tree_position RequirementsUnreadable = 4
 tree_position (TreeRefused x) = 5
 tree_position (MembersRefused x) = 6
-tree_position (TreeValid x) = 7
-tree_position _ = 8
+tree_position (TreeNotStrict x) = 7
+tree_position (TreeValid x) = 8
+tree_position _ = 9
 
-module _ (G : VerifyFn) (context_bytes tree_bytes : List ℕ) where
+module _ (asked : Rules) (G : VerifyFn) (context_bytes tree_bytes : List ℕ) where
   abbrev Found : Finding → Type 0
-  Found finding = IsTreeFinding G context_bytes tree_bytes finding
+  Found finding = IsTreeFinding asked G context_bytes tree_bytes finding
 
   abbrev IsGiven : GroupContext → Type 0
   IsGiven c = IsContext context_bytes c
@@ -106,7 +109,8 @@ module _ (G : VerifyFn) (context_bytes tree_bytes : List ℕ) where
       (first_then ((c : GroupContext) × (r : RequiredCapabilities) × IsGiven c × Requires c r)
       (first_then ((c : GroupContext) × (t : RatchetTree) × IsGiven c × Uses t × IsValid c t)
       (first_then ((c : GroupContext) × (t : RatchetTree) × (r : RequiredCapabilities) × IsGiven c × Uses t × Requires c r × AreMembers c r t)
-      no_more))))))
+      (first_then ((c : GroupContext) × (t : RatchetTree) × IsGiven c × Uses t × IsStrict asked c t.tree)
+      no_more)))))))
 
   -- a condition that fails is not met
   fails : (f : Finding) → Found f → Met (tree_position f) → ⊥
@@ -125,6 +129,11 @@ module _ (G : VerifyFn) (context_bytes tree_bytes : List ℕ) where
       let h = a.2.valid_tree.readable in
       no_members_fault G a.0 m.0 a.2.required m.2 a.2.tree m.1 x ec (same_required a.0 m.0 a.2.required m.2 ec h.requires m.5)
       (same_tree a.2.tree m.1 h.has_tree.uses m.4) a.2.not_out_of_memory a.2.first m.6
+  fails (TreeNotStrict x) a m =
+      let ec = same_context m.0 a.0 m.2 a.3 in
+      let et = same_tree m.1 a.1 m.3 a.4.valid_tree.readable.has_tree.uses in
+      no_fault_of_strict asked a.0 a.1.tree x
+      (subst (λ (t : RatchetTree). IsStrict asked a.0 t.tree) et (subst (λ (c : GroupContext). IsStrict asked c m.1.tree) ec m.4)) a.5
   fails (TreeValid x) a m = absurd m
   fails _ a m = absurd a
 
@@ -148,6 +157,11 @@ module _ (G : VerifyFn) (context_bytes tree_bytes : List ℕ) where
   met_valid : (c : GroupContext) (t : RatchetTree) (r : RequiredCapabilities) → IsGiven c → HasValidTree c (IsTreeOf tree_bytes) t r → MetBefore Met 6
   met_valid c t r h x = below_more Met 5 (met_readable c t r h x.readable) (c, t, h, x.readable.has_tree.uses, x.valid)
 
+  met_members : (c : GroupContext) (t : RatchetTree) (r : RequiredCapabilities) → IsGiven c → HasMembers G c (IsTreeOf tree_bytes) t r → MetBefore Met 7
+  met_members c t r h x =
+      let readable = x.valid_tree.readable in
+      below_more Met 6 (met_valid c t r h x.valid_tree) (c, t, r, h, readable.has_tree.uses, readable.requires, x.members)
+
   met_before : (f : Finding) → Found f → MetBefore Met (tree_position f)
   met_before (ContextUnreadable x) a = below_none Met
   met_before UnsupportedVersion a = met_version a.0 a.1
@@ -156,9 +170,9 @@ module _ (G : VerifyFn) (context_bytes tree_bytes : List ℕ) where
   met_before RequirementsUnreadable a = met_tree a.0 a.2.tree a.1 a.2.has_tree
   met_before (TreeRefused x) a = met_readable a.0 a.2.tree a.2.required a.1 a.2.readable
   met_before (MembersRefused x) a = met_valid a.0 a.2.tree a.2.required a.1 a.2.valid_tree
+  met_before (TreeNotStrict x) a = met_members a.0 a.1 a.2 a.3 a.4
   met_before (TreeValid x) a =
-      let h = a.4.valid_tree.readable in
-      below_more Met 6 (met_valid a.0 a.1 a.2 a.3 a.4.valid_tree) (a.0, a.1, a.2, a.3, h.has_tree.uses, h.requires, a.4.members)
+      below_more Met 7 (met_members a.0 a.1 a.2 a.3 a.4) (a.0, a.1, a.3, a.4.valid_tree.readable.has_tree.uses, a.5)
   met_before _ a = absurd a
 
   -- two findings of one condition
@@ -181,21 +195,28 @@ module _ (G : VerifyFn) (context_bytes tree_bytes : List ℕ) where
       ap MembersRefused (one_members_fault G a.0 b.0 a.2.required b.2.required a.2.tree b.2.tree x y ec
       (same_required a.0 b.0 a.2.required b.2.required ec h.requires k.requires)
       (same_tree a.2.tree b.2.tree h.has_tree.uses k.has_tree.uses) a.2.not_out_of_memory b.2.not_out_of_memory a.2.first b.2.first)
+  alike (TreeNotStrict x) (TreeNotStrict y) e a b =
+      let ec = same_context a.0 b.0 a.3 b.3 in
+      let et = same_tree a.1 b.1 a.4.valid_tree.readable.has_tree.uses b.4.valid_tree.readable.has_tree.uses in
+      ap TreeNotStrict (fault_is_unique asked b.0 b.1.tree x y
+      (subst (λ (t : RatchetTree). IsStrictFault asked b.0 t.tree x) et
+      (subst (λ (c : GroupContext). IsStrictFault asked c a.1.tree x) ec a.5)) b.5)
   alike (TreeValid x) (TreeValid y) e a b =
       let ec = same_context a.0 b.0 a.3 b.3 in
-      ap TreeValid (a.5 ∙ ap (λ (c : GroupContext). c.tree_hash) ec ∙ sym b.5)
+      ap TreeValid (a.6 ∙ ap (λ (c : GroupContext). c.tree_hash) ec ∙ sym b.6)
   alike (InfoUnreadable x) g e a b = absurd a
   alike NotGroupInfo g e a b = absurd a
   alike (StartRefused x) g e a b = absurd a
   alike (StateRefused x) g e a b = absurd a
+  alike (StateNotStrict x) g e a b = absurd a
   alike (Starts x) g e a b = absurd a
   alike f g e a b = absurd (other_place (tree_position f) (tree_position g) refl e)
 
 pub one_tree_finding : TreeFindingIsUnique
-one_tree_finding G context_bytes tree_bytes f g a b =
-    alike G context_bytes tree_bytes f g
-    (one_position tree_position (Met G context_bytes tree_bytes) (Found G context_bytes tree_bytes)
-    (met_before G context_bytes tree_bytes) (fails G context_bytes tree_bytes) f g a b) a b
+one_tree_finding asked G context_bytes tree_bytes f g a b =
+    alike asked G context_bytes tree_bytes f g
+    (one_position tree_position (Met asked G context_bytes tree_bytes) (Found asked G context_bytes tree_bytes)
+    (met_before asked G context_bytes tree_bytes) (fails asked G context_bytes tree_bytes) f g a b) a b
 
 -- ---- a group info and a tree
 
@@ -207,9 +228,9 @@ start_position (StartRefused x) = 3
 start_position (Starts x) = 4
 start_position _ = 5
 
-module _ (profile : Profile) (G : VerifyFn) (info_bytes : List ℕ) (tree_bytes : Option (List ℕ)) where
+module _ (asked : Rules) (profile : Profile) (G : VerifyFn) (info_bytes : List ℕ) (tree_bytes : Option (List ℕ)) where
   abbrev Begins : Finding → Type 0
-  Begins finding = IsStartFinding profile G info_bytes tree_bytes finding
+  Begins finding = IsStartFinding asked profile G info_bytes tree_bytes finding
 
   -- two readings are of one group info and one tree
   moved : (P : GroupInfo → Option RatchetTree → Type 0) (x y : GroupInfo) (t u : Option RatchetTree) → IsReadAs profile info_bytes tree_bytes x t
@@ -219,10 +240,10 @@ module _ (profile : Profile) (G : VerifyFn) (info_bytes : List ℕ) (tree_bytes 
       (subst (λ (z : GroupInfo). P z t) (one_info profile info_bytes x y a.is_info b.is_info) p)
 
   -- the start is one
-  same_start : (s u : State) → IsStarted profile G info_bytes tree_bytes s → IsStarted profile G info_bytes tree_bytes u → s ≡ u
+  same_start : (s u : State) → IsStarted asked profile G info_bytes tree_bytes s → IsStarted asked profile G info_bytes tree_bytes u → s ≡ u
   same_start s u a b =
-      one_start plain_rules profile G b.info b.supplied s u
-      (moved (λ (x : GroupInfo) (h : Option RatchetTree). IsStart plain_rules profile G x h s) a.info b.info a.supplied b.supplied a.is_read b.is_read a.start) b.start
+      one_start asked profile G b.info b.supplied s u
+      (moved (λ (x : GroupInfo) (h : Option RatchetTree). IsStart asked profile G x h s) a.info b.info a.supplied b.supplied a.is_read b.is_read a.start) b.start
 
   -- another message is no group info
   no_other : (m : Message) (x : GroupInfo) → EncodesMessage profile m info_bytes → ((info : GroupInfo) → m ≢ messages.GroupInfo info) → IsInfo profile info_bytes x → ⊥
@@ -234,7 +255,7 @@ module _ (profile : Profile) (G : VerifyFn) (info_bytes : List ℕ) (tree_bytes 
       first_then ((m : Message) × EncodesMessage profile m info_bytes)
       (first_then ((info : GroupInfo) × IsInfo profile info_bytes info)
       (first_then ((supplied : Option RatchetTree) × IsSupplied tree_bytes supplied)
-      (first_then ((s : State) × IsStarted profile G info_bytes tree_bytes s)
+      (first_then ((s : State) × IsStarted asked profile G info_bytes tree_bytes s)
       no_more)))
 
   -- a condition that fails is not met
@@ -243,8 +264,8 @@ module _ (profile : Profile) (G : VerifyFn) (info_bytes : List ℕ) (tree_bytes 
   not_ready NotGroupInfo a m = no_other a.0 m.0 a.1 a.2 m.1
   not_ready (TreeUnreadable x) a m = not_supplied tree_bytes m.0 a.2 m.1
   not_ready (StartRefused x) a m =
-      no_fault_of_start plain_rules profile G a.0 a.1 m.0 x a.3
-      (moved (λ (z : GroupInfo) (h : Option RatchetTree). IsStart plain_rules profile G z h m.0) m.1.info a.0 m.1.supplied a.1 m.1.is_read a.2 m.1.start) a.4
+      no_fault_of_start asked profile G a.0 a.1 m.0 x a.3
+      (moved (λ (z : GroupInfo) (h : Option RatchetTree). IsStart asked profile G z h m.0) m.1.info a.0 m.1.supplied a.1 m.1.is_read a.2 m.1.start) a.4
   not_ready (Starts x) a m = absurd m
   not_ready _ a m = absurd a
 
@@ -270,8 +291,8 @@ module _ (profile : Profile) (G : VerifyFn) (info_bytes : List ℕ) (tree_bytes 
   alike_start NotGroupInfo NotGroupInfo e a b = refl
   alike_start (TreeUnreadable x) (TreeUnreadable y) e a b = tt
   alike_start (StartRefused x) (StartRefused y) e a b =
-      ap StartRefused (one_start_fault plain_rules G b.0 b.1 x y a.3 b.3
-      (moved (λ (z : GroupInfo) (h : Option RatchetTree). IsStartFault plain_rules G z h x) a.0 b.0 a.1 b.1 a.2 b.2 a.4) b.4)
+      ap StartRefused (one_start_fault asked G b.0 b.1 x y a.3 b.3
+      (moved (λ (z : GroupInfo) (h : Option RatchetTree). IsStartFault asked G z h x) a.0 b.0 a.1 b.1 a.2 b.2 a.4) b.4)
   alike_start (Starts x) (Starts y) e a b = ap Starts (a.2 ∙ ap started_of (same_start a.0 b.0 a.1 b.1) ∙ sym b.2)
   alike_start (InfoUnreadable x) g e a b = absurd (other_place 0 (start_position g) refl e)
   alike_start NotGroupInfo g e a b = absurd (other_place 1 (start_position g) refl e)
@@ -280,13 +301,13 @@ module _ (profile : Profile) (G : VerifyFn) (info_bytes : List ℕ) (tree_bytes 
   alike_start (Starts x) g e a b = absurd (other_place 4 (start_position g) refl e)
   alike_start _ g e a b = absurd a
 
-pub one_start_finding : (profile : Profile) (G : VerifyFn) (info_bytes : List ℕ) (tree_bytes : Option (List ℕ)) (f g : Finding)
-    → IsStartFinding profile G info_bytes tree_bytes f → IsStartFinding profile G info_bytes tree_bytes g → AreAlike f g
-one_start_finding profile G info_bytes tree_bytes f g a b =
-    alike_start profile G info_bytes tree_bytes f g
-    (one_position start_position (Ready profile G info_bytes tree_bytes) (Begins profile G info_bytes tree_bytes)
-    (ready_before profile G info_bytes tree_bytes) (not_ready profile G info_bytes tree_bytes) f g a b) a b
+pub one_start_finding : (asked : Rules) (profile : Profile) (G : VerifyFn) (info_bytes : List ℕ) (tree_bytes : Option (List ℕ)) (f g : Finding)
+    → IsStartFinding asked profile G info_bytes tree_bytes f → IsStartFinding asked profile G info_bytes tree_bytes g → AreAlike f g
+one_start_finding asked profile G info_bytes tree_bytes f g a b =
+    alike_start asked profile G info_bytes tree_bytes f g
+    (one_position start_position (Ready asked profile G info_bytes tree_bytes) (Begins asked profile G info_bytes tree_bytes)
+    (ready_before asked profile G info_bytes tree_bytes) (not_ready asked profile G info_bytes tree_bytes) f g a b) a b
 
-pub one_started : (profile : Profile) (G : VerifyFn) (info_bytes : List ℕ) (tree_bytes : Option (List ℕ)) (s u : State)
-    → IsStarted profile G info_bytes tree_bytes s → IsStarted profile G info_bytes tree_bytes u → s ≡ u
-one_started profile G info_bytes tree_bytes = same_start profile G info_bytes tree_bytes
+pub one_started : (asked : Rules) (profile : Profile) (G : VerifyFn) (info_bytes : List ℕ) (tree_bytes : Option (List ℕ)) (s u : State)
+    → IsStarted asked profile G info_bytes tree_bytes s → IsStarted asked profile G info_bytes tree_bytes u → s ≡ u
+one_started asked profile G info_bytes tree_bytes = same_start asked profile G info_bytes tree_bytes

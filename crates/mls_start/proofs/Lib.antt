@@ -1,12 +1,16 @@
 pub mod InOrder
 pub mod StrictStarts
+pub mod AddedOnce
+pub mod AddedRules
 pub mod StartsOnce
 pub mod StartsExist
 pub mod FindingsOnce
 pub mod FindingsExist
+pub mod ResumedWith
 pub mod FirstStates
 pub mod Hashes
 pub mod StartLists
 pub mod LeavesLeft
 pub mod Starting
+pub mod StrictFindings
 pub mod Learnt

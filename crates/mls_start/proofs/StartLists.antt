@@ -5,7 +5,6 @@ use Rattle.mls_tree.specs.RatchetTree.{RatchetTree}
 use Rattle.mls_tree.specs.Tree.{Tree, leaf_at}
 use Rattle.mls_check.specs.LeafValidation.{all_leaves, has_unique_signature_key, member_rule, LeavesAreValid}
 use Rattle.mls_check.specs.Signatures.{VerifyFn}
-use Rattle.mls_msgs.specs.Rules.{plain_rules}
 use Rattle.mls_msgs.specs.declared.group_info.GroupInfo.{GroupInfo}
 use Rattle.mls_nodes.specs.declared.required_capabilities.RequiredCapabilities.{RequiredCapabilities}
 use Rattle.mls_signatures.proofs.DistinctStarts.{start_signatures_are_distinct}
@@ -13,6 +12,7 @@ use Rattle.mls_signatures.proofs.SupportedContexts.{passes_context}
 use Rattle.mls_signatures.specs.SignaturesToVerify.{info_signatures, is_supported_info, start_signatures}
 use Rattle.mls_signatures.specs.declared.signature_to_verify.SignatureToVerify.{SignatureToVerify}
 use Rattle.mls_msgs.specs.declared.profile.Profile.{Profile}
+use Rattle.mls_msgs.specs.declared.rules.Rules.{Rules}
 use Rattle.mls_follow.specs.CoveredLogs.{all_good}
 use Rattle.mls_follow.specs.MessageSignatures.{state_signatures}
 use Rattle.mls_follow.specs.Start.{UsesTree, UsesNoTree, IsStart, initial_state}
@@ -46,11 +46,12 @@ unfolding member_rule
 own_keys G suite group_id required t h = h.rules 4
 
 -- the leaves are valid, so none is a duplicate
-pub start-has : (profile : Profile) (info : GroupInfo) (supplied : Option RatchetTree) (s : State) (signatures : List SignatureToVerify) → IsStart plain_rules profile all_good info supplied s
-    → AreInfoSignatures info supplied signatures → StartHasSignatures profile info supplied s (signatures ++ state_signatures s)
-start-has profile info supplied s signatures start of_info =
+pub start-has : (asked : Rules) (profile : Profile) (info : GroupInfo) (supplied : Option RatchetTree) (s : State) (signatures : List SignatureToVerify)
+    → IsStart asked profile all_good info supplied s → AreInfoSignatures info supplied signatures
+    → StartHasSignatures asked profile info supplied s (signatures ++ state_signatures s)
+start-has asked profile info supplied s signatures start of_info =
     let members = start.has_signer.has_members in
-    let first : State = initial_state plain_rules profile info start.tree start.interim in
+    let first : State = initial_state asked profile info start.tree start.interim in
     let whole : start_signatures info first.tree ≡ info_signatures info (leaf_at 0 start.tree.tree info.signer) ++ state_signatures first =
     start_signatures_are_distinct info start.tree.tree (own_keys all_good info.context.cipher_suite info.context.group_id start.has_signer.required start.tree.tree members.members)
     ∙ all_if (is_supported_info info) (info_signatures info (leaf_at 0 start.tree.tree info.signer) ++ state_signatures first) (passes_context info.context members.valid_tree.readable.has_tree.supported) in

@@ -2,10 +2,13 @@
 -- the state in which a follower starts or resumes. Used by contracts.
 use Rattle.std.specs.Prelude.{List, ℕ, true, ◌≡◌, ◌⊎◌}
 use Rattle.mls_check.specs.Signatures.{VerifyFn}
+use Rattle.mls_msgs.specs.Rules.{has_rule}
+use Rattle.mls_msgs.specs.declared.rules.Rules.{Rules}
 use Rattle.mls_follow.specs.State.{State}
 use Rattle.mls_follow.specs.StoredRuns.{is_unreadable}
+use Rattle.mls_follow.specs.StrictnessKept.{IsStrictState}
 use Rattle.mls_follow.specs.Validity.{IsValidState}
-use Rattle.mls_start.specs.Inputs.{Inputs}
+use Rattle.mls_start.specs.Inputs.{Inputs, asked_by}
 use Rattle.mls_start.specs.StartFindings.{IsFirstState, IsFindingOf, Declines}
 use Rattle.mls_start.specs.TreeFinding.{IsTreeFinding}
 use Rattle.mls_start.specs.declared.finding.Finding.{Finding}
@@ -25,15 +28,15 @@ AreAlike finding other = finding ≡ other
 -- Of the bytes of a context and of a tree one thing is found.
 abbrev pub TreeFindingIsUnique : Type 0
 TreeFindingIsUnique =
-    (G : VerifyFn) (context_bytes tree_bytes : List ℕ) (finding other : Finding)
-    → IsTreeFinding G context_bytes tree_bytes finding
-    → IsTreeFinding G context_bytes tree_bytes other → AreAlike finding other
+    (asked : Rules) (G : VerifyFn) (context_bytes tree_bytes : List ℕ) (finding other : Finding)
+    → IsTreeFinding asked G context_bytes tree_bytes finding
+    → IsTreeFinding asked G context_bytes tree_bytes other → AreAlike finding other
 
 -- Something is found of the bytes of a context and of a tree.
 abbrev pub TreeFindingExists : Type 0
 TreeFindingExists =
-    (G : VerifyFn) (context_bytes tree_bytes : List ℕ)
-    → (finding : Finding) × IsTreeFinding G context_bytes tree_bytes finding
+    (asked : Rules) (G : VerifyFn) (context_bytes tree_bytes : List ℕ)
+    → (finding : Finding) × IsTreeFinding asked G context_bytes tree_bytes finding
 
 -- ---- what a group is followed from
 
@@ -60,3 +63,10 @@ FirstStateOrFindingExists =
 -- are valid (RFC 9420, 7.3, 7.9.2 and 12.4.3.1).
 abbrev pub FirstStatesAreValid : Type 0
 FirstStatesAreValid = (G : VerifyFn) (i : Inputs) (s : State) → IsFirstState G i s → IsValidState G s
+
+-- The state in which a follower starts or resumes has each strict rule that is asked. It is a strict state: its context, its
+-- tree and its pending proposals meet its strict rules.
+abbrev pub FirstStatesAreStrict : Type 0
+FirstStatesAreStrict =
+    (G : VerifyFn) (i : Inputs) (s : State) → IsFirstState G i s
+    → ((n : ℕ) → has_rule (asked_by i) n ≡ true → has_rule s.rules n ≡ true) × IsStrictState s

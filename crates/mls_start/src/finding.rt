@@ -6,8 +6,9 @@ ghost use Rattle.mls_start.specs.Finding.{is_valid};
 ghost use Rattle.mls_start.specs.StartFindings.{started_of};
 
 use mls_check::{MemberFault, SignatureCheck, TreeFault};
-use mls_follow::{Follower, ResumeFault, StartFault};
+use mls_follow::{Follower, ResumeFault, StartFault, StrictRefused};
 use mls_nodes::{GroupContext, NodeFault};
+use mls_strict::StrictFault;
 use mls_tree::HashValue;
 use mls_wire::WireFault;
 
@@ -43,11 +44,15 @@ pub enum Finding {
     TreeRefused(TreeFault),
     /// The tree is valid, but not the members.
     MembersRefused(MemberFault),
+    /// The tree and the members are valid, but a strict rule that is asked is not met.
+    TreeNotStrict(StrictFault),
     /// No follower can start.
     StartRefused(StartFault),
     /// No follower resumes from the file of a state.
     StateRefused(ResumeFault),
-    /// The tree, which has this hash, and the members are valid.
+    /// A follower resumes from the file of a state, but the strict rules that are asked cannot be added to its own.
+    StateNotStrict(StrictRefused),
+    /// The tree, which has this hash, and the members are valid, and the strict rules that are asked are met.
     TreeValid(HashValue),
     /// A follower can start, or resumes.
     Starts(Started),

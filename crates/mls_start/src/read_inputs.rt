@@ -2,7 +2,6 @@
 
 ghost use Rattle.std.specs.Prelude.{◌≡◌, ◌≢◌, List, ℕ, Option, IfOk, IfErr, option_map};
 ghost use Rattle.mls_tree.specs.PublicTreeModel.{plain};
-ghost use Rattle.mls_msgs.specs.Rules.{plain_rules};
 ghost use Rattle.mls_follow.specs.FollowerModel.{checker_of, state_of};
 ghost use Rattle.mls_follow.specs.Start.{IsStart};
 ghost use Rattle.mls_start.specs.Inputs.{OfInfo};
@@ -15,11 +14,18 @@ use crate::start_bytes::StartFailure;
 use mls_check::SignatureCheck;
 use mls_follow::{Follower, StartFault};
 use mls_hash::{Suite, decode_with_leaf_hashes};
-use mls_msgs::{GroupInfo, Message, Profile, decode_message_in};
+use mls_msgs::{GroupInfo, Message, Profile, Rules, decode_message_in};
 use mls_nodes::NodeFault;
 use mls_tree::PublicTree;
 use mls_wire::CodecFault;
 use std::alloc::Global;
+
+/// How a group is followed from a GroupInfo: with these strict rules, in this profile.
+#[derive(Clone, Copy)]
+pub(crate) struct StartMode {
+    pub(crate) rules: Rules,
+    pub(crate) profile: Profile,
+}
 
 /// Decodes the GroupInfo in `profile`.
 fn read_info(alloc: Global, profile: Profile, bytes: &[u8]) -> Result<GroupInfo, StartFailure>
@@ -109,22 +115,24 @@ pub(crate) fn start_failure(fault: StartFault) -> StartFailure
     }
 }
 
-/// Starts a follower with this profile, and without strict rules, from the decoded inputs.
+/// Starts a follower from the decoded inputs.
 #[tactic(auto, using(crate::proofs::Starting::says_declines))]
 pub(crate) fn start_decoded<C: SignatureCheck>(
     alloc: Global,
-    profile: Profile,
+    mode: StartMode,
     inputs: ReadInputs,
     checker: C,
 ) -> Result<Follower<C>, StartFailure>
-    ensures started { IfOk result (λ f. IsStart plain_rules profile (C.meaning checker) inputs.info
+    ensures started { IfOk result (λ f. IsStart mode.rules mode.profile (C.meaning checker) inputs.info
         (option_map plain inputs.tree) (state_of f)) }
     ensures checker { IfOk result (λ f. C.meaning (checker_of f) ≡ C.meaning checker) }
     ensures refused { (info_bytes : List ℕ) (tree_bytes : Option (List ℕ))
-        → IsReadAs profile info_bytes tree_bytes inputs.info (option_map plain inputs.tree)
-        → IfErr result (Says (Declines (C.meaning checker) (OfInfo profile info_bytes tree_bytes))) }
+        → IsReadAs mode.profile info_bytes tree_bytes inputs.info (option_map plain inputs.tree)
+        → IfErr result (Says (Declines (C.meaning checker)
+        (OfInfo mode.rules mode.profile info_bytes tree_bytes))) }
 {
-    match Follower::start_in(alloc, profile, inputs.info, inputs.tree, checker) {
+    let (rules, profile) = (mode.rules, mode.profile);
+    match Follower::start_by(alloc, rules, profile, inputs.info, inputs.tree, checker) {
         Ok(follower) => Ok(follower),
         Err(refused) => {
             let fault = refused.fault;
@@ -134,22 +142,22 @@ pub(crate) fn start_decoded<C: SignatureCheck>(
     }
 }
 
-/// Starts a follower with this profile from the bytes of a GroupInfo, and of a tree if one is passed.
+/// Starts a follower from the bytes of a GroupInfo, and of a tree if one is passed.
 pub(crate) fn start_from<C: SignatureCheck>(
     alloc: Global,
-    profile: Profile,
+    mode: StartMode,
     info: Vec<u8>,
     tree: Option<Vec<u8>>,
     checker: C,
 ) -> Result<Follower<C>, StartFailure>
     ensures started { IfOk result (λ f. IsFirstState (C.meaning checker)
-        (OfInfo profile info.items (option_map (λ v. v.items) tree)) (state_of f)) }
+        (OfInfo mode.rules mode.profile info.items (option_map (λ v. v.items) tree)) (state_of f)) }
     ensures checker { IfOk result (λ f. C.meaning (checker_of f) ≡ C.meaning checker) }
     ensures refused { IfErr result (Says (Declines (C.meaning checker)
-        (OfInfo profile info.items (option_map (λ v. v.items) tree)))) }
+        (OfInfo mode.rules mode.profile info.items (option_map (λ v. v.items) tree)))) }
 {
-    match read_inputs(alloc, profile, info, tree) {
-        Ok(inputs) => start_decoded(alloc, profile, inputs, checker),
+    match read_inputs(alloc, mode.profile, info, tree) {
+        Ok(inputs) => start_decoded(alloc, mode, inputs, checker),
         Err(failure) => Err(failure),
     }
 }

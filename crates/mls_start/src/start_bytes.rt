@@ -1,6 +1,7 @@
 //! What a group is followed from, and the follower that it leads to.
 
 ghost use Rattle.std.specs.Prelude.{◌≡◌, ◌≢◌, IfOk, IfErr, option_map};
+ghost use Rattle.mls_follow.specs.AddedRules.{HasAddedRules};
 ghost use Rattle.mls_follow.specs.CoveredLogs.{all_good};
 ghost use Rattle.mls_follow.specs.FollowerModel.{checker_of, state_of};
 ghost use Rattle.mls_start.specs.Inputs.{inputs_of, OfInfo, OfState};
@@ -8,13 +9,14 @@ ghost use Rattle.mls_start.specs.StartFailures.{Says};
 ghost use Rattle.mls_start.specs.StartFindings.{IsFindingOf, IsFirstState, Declines};
 ghost use Rattle.mls_start.specs.StartSignatures.{StartsWith};
 ghost use Rattle.mls_start.specs.SignaturesLeft.{signatures_left};
+ghost use Rattle.mls_start.specs.StartSteps.{IsNotStrict};
 
 use crate::finding::{Finding, started_by};
-use crate::read_inputs::start_from;
+use crate::read_inputs::{StartMode, start_from};
 use crate::trusting_start::{TrustingStart, trusting_resumption, trusting_start};
 use mls_check::{OutOfMemory, SignatureCheck};
-use mls_follow::{Follower, ResumeFault};
-use mls_msgs::Profile;
+use mls_follow::{Follower, ResumeFault, StrictRefused};
+use mls_msgs::{Profile, Rules};
 use mls_wire::TryClone;
 use std::alloc::{AllocError, Global};
 
@@ -22,14 +24,18 @@ use std::alloc::{AllocError, Global};
 #[derive(Drop)]
 pub enum StartBytes {
     /// A GroupInfo (RFC 9420, 12.4.3), and the ratchet tree if it is passed apart from it (12.4.3.3). The group is followed in
-    /// `profile`.
+    /// `profile`, and with the strict rules `rules`.
     Info {
+        rules: Rules,
         profile: Profile,
         info: Vec<u8>,
         tree: Option<Vec<u8>>,
     },
-    /// The file of a state.
-    State(Vec<u8>),
+    /// The file of a state, to whose strict rules `rules` are added.
+    State {
+        rules: Rules,
+        bytes: Vec<u8>,
+    },
 }
 
 /// Why no follower has started or resumed.
@@ -52,18 +58,49 @@ fn resume_failure(fault: ResumeFault) -> StartFailure
     }
 }
 
-/// Resumes a follower from the bytes of a state's file.
+/// Returns why the strict rules cannot be added to those of a follower that has resumed.
+fn added_failure(refused: StrictRefused) -> StartFailure
+    ensures { Says (λ finding. (refused ≢ StrictRefused.OutOfMemory)
+        × (finding ≡ Finding.StateNotStrict refused)) result }
+{
+    match refused {
+        StrictRefused::OutOfMemory => StartFailure::OutOfMemory,
+        _ => StartFailure::Found(Finding::StateNotStrict(refused)),
+    }
+}
+
+/// Adds strict rules to those of a follower that has resumed from these bytes.
+fn with_rules<C: SignatureCheck>(
+    rules: Rules,
+    follower: Follower<C>,
+) -> Result<Follower<C>, StartFailure>
+    ensures added { IfOk result (λ f. HasAddedRules rules (state_of follower) (state_of f)) }
+    ensures checker { IfOk result (λ f. C.meaning (checker_of f) ≡ C.meaning (checker_of follower)) }
+    ensures refused { IfErr result (Says (IsNotStrict rules (state_of follower))) }
+{
+    let mut follower = follower;
+    match follower.make_strict(rules) {
+        Ok(()) => Ok(follower),
+        Err(refused) => {
+            drop(follower);
+            Err(added_failure(refused))
+        }
+    }
+}
+
+/// Resumes a follower from the bytes of a state's file, and adds strict rules to those of the state.
 pub(crate) fn resume_from<C: SignatureCheck>(
     alloc: Global,
+    rules: Rules,
     bytes: Vec<u8>,
     checker: C,
 ) -> Result<Follower<C>, StartFailure>
-    ensures resumed { IfOk result (λ f. IsFirstState (C.meaning checker) (OfState bytes.items) (state_of f)) }
+    ensures resumed { IfOk result (λ f. IsFirstState (C.meaning checker) (OfState rules bytes.items) (state_of f)) }
     ensures checker { IfOk result (λ f. C.meaning (checker_of f) ≡ C.meaning checker) }
-    ensures refused { IfErr result (Says (Declines (C.meaning checker) (OfState bytes.items))) }
+    ensures refused { IfErr result (Says (Declines (C.meaning checker) (OfState rules bytes.items))) }
 {
     match Follower::resume(alloc, bytes.as_slice(), checker) {
-        Ok(follower) => Ok(follower),
+        Ok(follower) => with_rules(rules, follower),
         Err(refused) => {
             let fault = refused.fault;
             drop(refused);
@@ -88,8 +125,8 @@ impl StartBytes {
     /// # Errors
     ///
     /// - `Found` if none starts or resumes. From a GroupInfo: it, or after it the tree, is not decodable, or the message is not
-    ///   a GroupInfo; then the first condition of [`Follower::start_in`] that fails. From the file of a state: the first
-    ///   condition of [`Follower::resume`] that fails.
+    ///   a GroupInfo; then the first condition of [`Follower::start_by`] that fails. From the file of a state: the first
+    ///   condition of [`Follower::resume`] that fails; then why [`Follower::make_strict`] cannot add the strict rules.
     /// - `OutOfMemory`.
     pub fn follower<C: SignatureCheck>(
         self,
@@ -103,11 +140,12 @@ impl StartBytes {
     {
         match self {
             StartBytes::Info {
+                rules,
                 profile,
                 info,
                 tree,
-            } => start_from(alloc, profile, info, tree, checker),
-            StartBytes::State(bytes) => resume_from(alloc, bytes, checker),
+            } => start_from(alloc, StartMode { rules, profile }, info, tree, checker),
+            StartBytes::State { rules, bytes } => resume_from(alloc, rules, bytes, checker),
         }
     }
 
@@ -124,11 +162,12 @@ impl StartBytes {
     {
         match self {
             StartBytes::Info {
+                rules,
                 profile,
                 info,
                 tree,
-            } => trusting_start(alloc, profile, info, tree),
-            StartBytes::State(bytes) => trusting_resumption(alloc, bytes),
+            } => trusting_start(alloc, StartMode { rules, profile }, info, tree),
+            StartBytes::State { rules, bytes } => trusting_resumption(alloc, rules, bytes),
         }
     }
 
@@ -166,6 +205,7 @@ impl StartBytes {
     {
         match self {
             StartBytes::Info {
+                rules,
                 profile,
                 info,
                 tree,
@@ -173,6 +213,7 @@ impl StartBytes {
                 let info = info.clone()?;
                 match copy_of(alloc, tree) {
                     Ok(tree) => Ok(StartBytes::Info {
+                        rules: *rules,
                         profile: *profile,
                         info,
                         tree,
@@ -183,7 +224,10 @@ impl StartBytes {
                     }
                 }
             }
-            StartBytes::State(bytes) => Ok(StartBytes::State(bytes.clone()?)),
+            StartBytes::State { rules, bytes } => Ok(StartBytes::State {
+                rules: *rules,
+                bytes: bytes.clone()?,
+            }),
         }
     }
 }

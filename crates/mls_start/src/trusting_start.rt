@@ -2,22 +2,22 @@
 
 ghost use Rattle.std.specs.Prelude.{◌≡◌, List, ℕ, Option, None, ◌++◌, IfOk, IfErr, option_map};
 ghost use Rattle.mls_tree.specs.PublicTreeModel.{plain};
+ghost use Rattle.mls_msgs.specs.declared.rules.Rules.{Rules};
 ghost use Rattle.mls_follow.specs.CoveredLogs.{all_good};
 ghost use Rattle.mls_follow.specs.FollowerModel.{state_of};
-ghost use Rattle.mls_follow.specs.Resumption.{IsResumed};
 ghost use Rattle.mls_start.specs.Inputs.{OfInfo, OfState};
 ghost use Rattle.mls_start.specs.SignaturesLeft.{signatures_left};
 ghost use Rattle.mls_start.specs.StartFailures.{Says};
-ghost use Rattle.mls_start.specs.StartFindings.{IsReadAs, Declines};
+ghost use Rattle.mls_start.specs.StartFindings.{IsReadAs, IsResumedWith, Declines};
 ghost use Rattle.mls_start.specs.StartSignatures.{StartsWith};
 ghost use Rattle.mls_start.specs.StartSteps.{AreInfoSignatures};
 
-use crate::read_inputs::{ReadInputs, read_inputs, start_decoded};
+use crate::read_inputs::{ReadInputs, StartMode, read_inputs, start_decoded};
 use crate::signatures_left::SignaturesLeft;
 use crate::start_bytes::{StartFailure, resume_from};
 use mls_check::{OutOfMemory, Trusting};
 use mls_follow::{Follower, StartFault, tree_in};
-use mls_msgs::{GroupInfo, Profile};
+use mls_msgs::{GroupInfo, Rules};
 use mls_signatures::{SignatureToVerify, info_signatures, resumption_signatures};
 use mls_tree::PublicTree;
 use std::alloc::Global;
@@ -64,20 +64,20 @@ fn used_info_signatures(
 /// Starts a follower that accepts every signature. `info_signatures` is that of the GroupInfo.
 fn start_with(
     alloc: Global,
-    profile: Profile,
+    mode: StartMode,
     inputs: ReadInputs,
     info_signatures: Vec<SignatureToVerify>,
 ) -> Result<TrustingStart, StartFailure>
     requires { AreInfoSignatures inputs.info (option_map plain inputs.tree) info_signatures.items }
     ensures starts { (info_bytes : List ℕ) (tree_bytes : Option (List ℕ))
-        → IsReadAs profile info_bytes tree_bytes inputs.info (option_map plain inputs.tree)
-        → IfOk result (λ start. StartsWith (OfInfo profile info_bytes tree_bytes) (state_of start.follower)
+        → IsReadAs mode.profile info_bytes tree_bytes inputs.info (option_map plain inputs.tree)
+        → IfOk result (λ start. StartsWith (OfInfo mode.rules mode.profile info_bytes tree_bytes) (state_of start.follower)
         (signatures_left (state_of start.follower) start.signatures)) }
     ensures refused { (info_bytes : List ℕ) (tree_bytes : Option (List ℕ))
-        → IsReadAs profile info_bytes tree_bytes inputs.info (option_map plain inputs.tree)
-        → IfErr result (Says (Declines all_good (OfInfo profile info_bytes tree_bytes))) }
+        → IsReadAs mode.profile info_bytes tree_bytes inputs.info (option_map plain inputs.tree)
+        → IfErr result (Says (Declines all_good (OfInfo mode.rules mode.profile info_bytes tree_bytes))) }
 {
-    match start_decoded(alloc, profile, inputs, Trusting) {
+    match start_decoded(alloc, mode, inputs, Trusting) {
         Ok(follower) => Ok(TrustingStart {
             follower,
             signatures: SignaturesLeft::Start {
@@ -95,19 +95,19 @@ fn start_with(
 /// Starts a follower that accepts every signature from decoded inputs.
 fn trust_decoded(
     alloc: Global,
-    profile: Profile,
+    mode: StartMode,
     inputs: ReadInputs,
 ) -> Result<TrustingStart, StartFailure>
     ensures starts { (info_bytes : List ℕ) (tree_bytes : Option (List ℕ))
-        → IsReadAs profile info_bytes tree_bytes inputs.info (option_map plain inputs.tree)
-        → IfOk result (λ start. StartsWith (OfInfo profile info_bytes tree_bytes) (state_of start.follower)
+        → IsReadAs mode.profile info_bytes tree_bytes inputs.info (option_map plain inputs.tree)
+        → IfOk result (λ start. StartsWith (OfInfo mode.rules mode.profile info_bytes tree_bytes) (state_of start.follower)
         (signatures_left (state_of start.follower) start.signatures)) }
     ensures refused { (info_bytes : List ℕ) (tree_bytes : Option (List ℕ))
-        → IsReadAs profile info_bytes tree_bytes inputs.info (option_map plain inputs.tree)
-        → IfErr result (Says (Declines all_good (OfInfo profile info_bytes tree_bytes))) }
+        → IsReadAs mode.profile info_bytes tree_bytes inputs.info (option_map plain inputs.tree)
+        → IfErr result (Says (Declines all_good (OfInfo mode.rules mode.profile info_bytes tree_bytes))) }
 {
     match used_info_signatures(alloc, &inputs) {
-        Ok(signatures) => start_with(alloc, profile, inputs, signatures),
+        Ok(signatures) => start_with(alloc, mode, inputs, signatures),
         Err(OutOfMemory) => {
             drop(inputs);
             Err(StartFailure::OutOfMemory)
@@ -115,22 +115,22 @@ fn trust_decoded(
     }
 }
 
-/// Starts a follower with this profile that accepts every signature (RFC 9420, 12.4.3.1). The signatures are that of the
+/// Starts a follower that accepts every signature (RFC 9420, 12.4.3.1). The signatures are that of the
 /// GroupInfo, and those of the follower's leaves from left to right.
 pub(crate) fn trusting_start(
     alloc: Global,
-    profile: Profile,
+    mode: StartMode,
     info: Vec<u8>,
     tree: Option<Vec<u8>>,
 ) -> Result<TrustingStart, StartFailure>
     ensures starts { IfOk result (λ start.
-        StartsWith (OfInfo profile info.items (option_map (λ v. v.items) tree)) (state_of start.follower)
+        StartsWith (OfInfo mode.rules mode.profile info.items (option_map (λ v. v.items) tree)) (state_of start.follower)
         (signatures_left (state_of start.follower) start.signatures)) }
     ensures refused { IfErr result
-        (Says (Declines all_good (OfInfo profile info.items (option_map (λ v. v.items) tree)))) }
+        (Says (Declines all_good (OfInfo mode.rules mode.profile info.items (option_map (λ v. v.items) tree)))) }
 {
-    match read_inputs(alloc, profile, info, tree) {
-        Ok(inputs) => trust_decoded(alloc, profile, inputs),
+    match read_inputs(alloc, mode.profile, info, tree) {
+        Ok(inputs) => trust_decoded(alloc, mode, inputs),
         Err(failure) => Err(failure),
     }
 }
@@ -140,8 +140,8 @@ fn with_signatures(
     alloc: Global,
     follower: Follower<Trusting>,
 ) -> Result<TrustingStart, StartFailure>
-    ensures starts { (bytes : List ℕ) → IsResumed all_good bytes (state_of follower) → IfOk result (λ start.
-        StartsWith (OfState bytes) (state_of start.follower)
+    ensures starts { (asked : Rules) (bytes : List ℕ) → IsResumedWith asked all_good bytes (state_of follower)
+        → IfOk result (λ start. StartsWith (OfState asked bytes) (state_of start.follower)
         (signatures_left (state_of start.follower) start.signatures)) }
     ensures memory { IfErr result (λ failure. failure ≡ StartFailure.OutOfMemory) }
 {
@@ -158,16 +158,18 @@ fn with_signatures(
     }
 }
 
-/// Resumes a follower that accepts every signature from the bytes of a state's file.
+/// Resumes a follower that accepts every signature from the bytes of a state's file, and adds strict rules to those of the
+/// state.
 pub(crate) fn trusting_resumption(
     alloc: Global,
+    rules: Rules,
     bytes: Vec<u8>,
 ) -> Result<TrustingStart, StartFailure>
-    ensures starts { IfOk result (λ start. StartsWith (OfState bytes.items) (state_of start.follower)
+    ensures starts { IfOk result (λ start. StartsWith (OfState rules bytes.items) (state_of start.follower)
         (signatures_left (state_of start.follower) start.signatures)) }
-    ensures refused { IfErr result (Says (Declines all_good (OfState bytes.items))) }
+    ensures refused { IfErr result (Says (Declines all_good (OfState rules bytes.items))) }
 {
-    match resume_from(alloc, bytes, Trusting) {
+    match resume_from(alloc, rules, bytes, Trusting) {
         Ok(follower) => with_signatures(alloc, follower),
         Err(failure) => Err(failure),
     }

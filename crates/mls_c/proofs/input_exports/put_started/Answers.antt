@@ -2,6 +2,7 @@ use Rattle.std.proofs.Common.{◌≡◌, ◌≢◌, ◌∙◌, List, ℕ, Option
 use Rattle.std.specs.Prelude.{Some}
 use Rattle.mls_check.specs.Signatures.{VerifyFn}
 use Rattle.mls_msgs.specs.declared.profile.Profile.{Profile}
+use Rattle.mls_msgs.specs.declared.rules.Rules.{Rules}
 use Rattle.mls_follow.specs.State.{State}
 use Rattle.mls_start.specs.Inputs.{Inputs, OfInfo, OfState}
 use Rattle.mls_start.specs.StartFindings.{IsFirstState}
@@ -14,11 +15,11 @@ use Rattle.mls_c.proofs.input_exports.put_started.Goals as goal
 
 module _ (profile : Profile) (G : VerifyFn) (held : Option GroupFollower) (v : InputVerdict) where
   -- a follower that starts has the profile of the inputs, so this one has resumed
-  differs : (i : Inputs) (s : State) → ((own : Profile) (info : List ℕ) (tree : Option (List ℕ)) → i ≡ OfInfo own info tree → own ≡ profile)
+  differs : (i : Inputs) (s : State) → ((asked : Rules) (own : Profile) (info : List ℕ) (tree : Option (List ℕ)) → i ≡ OfInfo asked own info tree → own ≡ profile)
       → IsFirstState G i s → s.profile ≢ profile → v ≡ plain_verdict other_profile → Starts profile G i held held v
-  differs (OfInfo own info tree) s agrees start other is =
-      absurd (other (ap (λ (z : State). z.profile) start.start.state ∙ agrees own info tree refl))
-  differs (OfState bytes) s agrees resumed other is = Starts.differs bytes s refl resumed other is refl
+  differs (OfInfo asked own info tree) s agrees start other is =
+      absurd (other (ap (λ (z : State). z.profile) start.start.state ∙ agrees asked own info tree refl))
+  differs (OfState asked bytes) s agrees resumed other is = Starts.differs asked bytes s refl resumed other is refl
 
   starts-put : (new : Option GroupFollower) (f : GroupFollower) (i : Inputs) → meaning_in f ≡ G → IsFirstState G i (state_in f) → (state_in f).profile ≡ profile
       → ((v ≡ plain_verdict 0) × (new ≡ Some f)) ⊎ (RunsOut v × (new ≡ held)) → Starts profile G i held new v

@@ -14,7 +14,7 @@ returns-in-Ok-clause-starts c =
     let s = state_of c.in-Ok.follower in
     let info = c.args.inputs.info in
     let supplied = option_map plain c.args.inputs.tree in
-    let has = start-has c.args.profile info supplied s c.args.info_signatures.items c.in-Ok.ensures.started c.requires in
+    let has = start-has c.args.mode.rules c.args.mode.profile info supplied s c.args.info_signatures.items c.in-Ok.ensures.started c.requires in
     λ info_bytes tree_bytes is_read.
-    starts_with c.args.profile info_bytes tree_bytes info supplied is_read s _
-    (subst (λ (ws : List SignatureToVerify). StartHasSignatures c.args.profile info supplied s (c.args.info_signatures.items ++ ws)) (sym (leaves-first s)) has)
+    starts_with c.args.mode.rules c.args.mode.profile info_bytes tree_bytes info supplied is_read s _
+    (subst (λ (ws : List SignatureToVerify). StartHasSignatures c.args.mode.rules c.args.mode.profile info supplied s (c.args.info_signatures.items ++ ws)) (sym (leaves-first s)) has)

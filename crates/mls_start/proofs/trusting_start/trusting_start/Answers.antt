@@ -9,4 +9,4 @@ pub returns-in-Ok-clause-refused : goal.returns-in-Ok-clause-refused
 returns-in-Ok-clause-refused c = c.trust_decoded.ensures.refused _ _ c.in-Ok.ensures.read
 
 pub returns-in-Err-clause-refused : goal.returns-in-Err-clause-refused
-returns-in-Err-clause-refused c = says_unread _ _ _ all_good c.in-Err.failure c.in-Err.ensures.unread
+returns-in-Err-clause-refused c = says_unread _ _ _ _ all_good c.in-Err.failure c.in-Err.ensures.unread

@@ -3,6 +3,7 @@ use Rattle.mls_gate.specs.GateSteps.{phase_of}
 use Rattle.mls_gate.specs.declared.request.Request.{Request}
 use Rattle.mls_gate.specs.declared.request.Request.TheVariants.{Learn, Begin, Query, Process, Store}
 use Rattle.mls_gate.proofs.Replying.{all-behind, behind-letter, gives-behind, stops-answering, broken-body}
+use Rattle.mls_gate.proofs.QueryReplies.{record-answered}
 use Rattle.mls_gate.proofs.phase.GatePhase.answer.Goals as goal
 
 pub returns-in-None-clause-answered : goal.returns-in-None-clause-answered
@@ -18,6 +19,11 @@ pub returns-in-Some-Begin-clause-answered : goal.returns-in-Some-Begin-clause-an
 returns-in-Some-Begin-clause-answered g c =
     let is = sym c.request_of.ensures ∙ c.in-Some-Begin.is ∙ ap (λ (x : Request). Some x) c.in-Some-Begin.field-0-is in
     all-behind _ c.args.body.now (drop 1 c.args.body.now) refl (Some Begin) is _ c.begin.result _ (c.begin.ensures.answered (drop 1 c.args.body.now))
+
+pub returns-in-Some-Query-clause-answered : goal.returns-in-Some-Query-clause-answered
+returns-in-Some-Query-clause-answered g c =
+    let is = sym c.request_of.ensures ∙ c.in-Some-Query.is ∙ ap (λ (x : Request). Some x) c.in-Some-Query.field-0-is in
+    record-answered _ c.args.body.now _ (behind-letter c.args.body.now) (Some Query) is _ c.query.result _ _ c.query.ensures.answered
 
 pub returns-in-Some-Query-clause-effect_on_error : goal.returns-in-Some-Query-clause-effect_on_error
 returns-in-Some-Query-clause-effect_on_error g c =

@@ -1,6 +1,6 @@
 use Rattle.std.proofs.Common.{rules}
 use Rattle.mls_c.specs.Starts.{PutsTreeFinding}
-use Rattle.mls_c.proofs.input_exports.mls_validate_tree.Goals as goal
+use Rattle.mls_c.proofs.tree_exports.put_tree_finding.Goals as goal
 
 pub returns-in-Ok-tree_finding-clause-finds : goal.returns-in-Ok-tree_finding-clause-finds
 returns-in-Ok-tree_finding-clause-finds c =

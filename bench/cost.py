@@ -19,6 +19,7 @@ import large_shapes
 import list_shapes
 import repeated_shapes
 import small_shapes
+import strict_shapes
 from shape import SHAPES, Input
 
 

@@ -1,7 +1,7 @@
 #!/usr/bin/env python3
 """Makes a valid group to measure with, and a log of commits.
 
-    group.py FOLDER --members N [--commits C] [--unmerged U] [--log L] [--kind paths|mixed|adds|joins]
+    group.py FOLDER --members N [--commits C] [--unmerged U] [--log L] [--kind paths|mixed|adds|joins] [--suite 1|2]
 
 writes `tree`, `valid.context`, `other-hash.context` (the same with another tree hash), `info` (a
 GroupInfo without the tree) and `log` into the folder. The tree is made by C commits of members that are
@@ -9,7 +9,7 @@ spread evenly over it, and U members who were added since, who are unmerged. The
 with a path. Those of the kind `paths` have no proposals; those of the kind `mixed` add up to two members
 and remove up to two beside their path. In those of the kind `adds` the newest member adds one, and those of
 the kind `joins` are external commits, by each of which a client joins. Keys and signatures are bytes that
-mean nothing.
+mean nothing, but in cipher suite 2 the keys are points of P-256.
 """
 import argparse
 import collections
@@ -24,7 +24,14 @@ Leaf = collections.namedtuple("Leaf", "encryption signature credential capabilit
 Plan = collections.namedtuple("Plan", "committer removed joining renewed keys")
 
 BASIC = bytes.fromhex("020001 020001 00 00 020001")
-EXTERNAL_INIT = bytes.fromhex("0006 20") + bytes(32)
+# The u-coordinate 9, which is a point of X25519's group.
+BASE_25519 = bytes([9]) + bytes(31)
+EXTERNAL_INIT = bytes.fromhex("0006 20") + BASE_25519
+
+# The cipher suite, 1 or 2, and the curve of the latter: its prime, and the number b of its equation.
+SUITE = 1
+PRIME = 2**256 - 2**224 + 2**192 + 2**96 - 1
+COEFFICIENT = 0x5AC635D8AA3A93E7B3EBBD55769886BC651D06B0CC53B0F63BCE3C3E27D2604B
 
 
 def number(value, size):
@@ -47,16 +54,35 @@ def digest(body):
     return hashlib.sha256(body).digest()
 
 
+def point(x):
+    """The uncompressed point of P-256 with the least coordinate x from this one on."""
+    while True:
+        square = (x * x * x - 3 * x + COEFFICIENT) % PRIME
+        y = pow(square, (PRIME + 1) // 4, PRIME)
+        if y * y % PRIME == square:
+            return b"\x04" + number(x, 32) + number(y, 32)
+        x += 1
+
+
 def key(*name):
-    return digest(repr(name).encode())
+    body = digest(repr(name).encode())
+    return body if SUITE == 1 else point(int.from_bytes(body, "big") % 2**255)
+
+
+def kem_output():
+    return BASE_25519 if SUITE == 1 else KEM_OUTPUT
+
+
+KEM_OUTPUT = point(1)
 
 
 def optional(body):
     return b"\x00" if body is None else b"\x01" + body
 
 
-def new_leaf(*name, capabilities=BASIC):
+def new_leaf(*name, capabilities=None):
     credential = b"\x00\x01" + vector(repr(name).encode())
+    capabilities = capabilities or BASIC[:4] + number(SUITE, 2) + BASIC[6:]
     return Leaf(key("encryption", *name), key("signature", *name), credential, capabilities, b"")
 
 
@@ -66,7 +92,7 @@ def leaf_bytes(leaf, source):
 
 
 def key_package(leaf, init_key):
-    package = number(1, 2) + number(1, 2) + vector(init_key) + leaf_bytes(leaf, KEY_PACKAGE)
+    package = number(1, 2) + number(SUITE, 2) + vector(init_key) + leaf_bytes(leaf, KEY_PACKAGE)
     return package + b"\x00" + vector(bytes(64))
 
 
@@ -209,7 +235,7 @@ class Group:
     def path_bytes(self, index, path, added):
         """A path, in which each node has a ciphertext for each node that stands for its other half, but for
         the leaves that were just added."""
-        ciphertext = vector(bytes(32)) + vector(bytes(48))
+        ciphertext = vector(kem_output()) + vector(bytes(48))
         nodes = []
         for encryption_key, level, at in path:
             count = self.sizes[level][at] - sum(other >> level == at for other in added)
@@ -258,7 +284,7 @@ class Group:
         return self.hashes[self.depth][0]
 
     def context(self, tree_hash):
-        numbers = number(1, 2) + number(1, 2) + vector(self.NAME) + number(self.epoch, 8)
+        numbers = number(1, 2) + number(SUITE, 2) + vector(self.NAME) + number(self.epoch, 8)
         return numbers + vector(tree_hash) + b"\x00\x00"
 
     def info(self):
@@ -304,7 +330,10 @@ def main():
     parser.add_argument("--unmerged", type=int, default=0)
     parser.add_argument("--log", type=int, default=0)
     parser.add_argument("--kind", choices=["paths", "mixed", "adds", "joins"], default="paths")
+    parser.add_argument("--suite", type=int, choices=[1, 2], default=1)
     args = parser.parse_args()
+    global SUITE
+    SUITE = args.suite
     group = Group(args.members, args.commits, args.unmerged)
     files = {
         "tree": group.tree(),

@@ -14,9 +14,14 @@ def shape(make):
 class Input:
     """Where an input is written, and how many times its least size it has."""
 
-    def __init__(self, folder, times):
+    def __init__(self, folder, times, rules=()):
         self.folder = folder
         self.times = times
+        self.rules = rules
+
+    def asking(self, *rules):
+        """The same, for a follower that has the strict rules which these arguments ask."""
+        return Input(self.folder, self.times, rules)
 
     def size(self, least):
         return max(round(least * self.times), 2)
@@ -41,6 +46,7 @@ class Input:
         log = b"".join(vector(body) for body in messages)
         words = [command, "--info", self.write("info", group.info()), "--tree", self.write("tree", group.tree())]
         words += ["--profile", "full"] if profile == "full" else []
+        words += self.rules
         words += ["--trust", "--log"] if command == "replay" else ["--log"]
         self.lists([*words, self.write("log", log)], [*words, self.write("empty", b"")])
         told = [len(log) + (len(group.tree()) if touches_all else 0)]

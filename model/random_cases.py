@@ -230,7 +230,7 @@ def make_case(seed, number, count, is_strict=False):
 def strictly(maker, plain, info, tree):
     """Strict rules by chance, and a follower with those of them that the start meets."""
     share = maker.chosen.choice([0.3, 0.6, 1])
-    rules = frozenset(rule for rule in sorted(strict.CHECKED) if maker.chosen.random() < share)
+    rules = frozenset(rule for rule in sorted(strict.ALL) if maker.chosen.random() < share)
     unmet = {rule for rule, _ in strict.start_faults(rules, info, tree)}
     return rules, Follower(plain.good, plain.full, rules - unmet)
 

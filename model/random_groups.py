@@ -24,6 +24,7 @@ For each group the program must print what follower.py and signatures.py give:
 - `signatures`
 - `validate`, on the model's GroupInfo and tree of each epoch that a commit begins, and on a start that does not meet
   the strict rules
+- `replay` and `validate` from the file of the plain state at the start, to which the strict rules are added
 
 The script ends with 1 if a group differs, and keeps the folder of that group.
 """
@@ -96,11 +97,13 @@ class Runs:
             self.compare([line], "validate", *self.files, *strict_words(case.rules), *self.trust())
 
     def replays(self):
-        """The whole log, then its two parts. A follower with strict rules has no state file."""
+        """The whole log, then its two parts. A follower with strict rules has no state file: the whole log again, from the
+        file of the plain state at the start, to which the rules are added."""
         steps, trust = self.case.steps, self.trust()
         log = write(self.folder, "log", log_of(steps))
         self.compare(replay_lines(steps), "replay", *self.start, "--log", log, *trust)
         if self.case.follower.rules:
+            self.additions(log)
             return
         cut = len(steps) // 2
         first = write(self.folder, "first", log_of(steps[:cut]))
@@ -108,6 +111,18 @@ class Runs:
         state = os.path.join(self.folder, "state")
         self.compare(replay_lines(steps[:cut]), "replay", *self.start, "--log", first, "--save", state, *trust)
         self.compare(replay_lines(steps[cut:]), "replay", "--state", state, "--log", second, *trust)
+
+    def additions(self, log):
+        """From the file of the plain state at the start: the log by the rules that it meets, and the start by all."""
+        case, trust, state = self.case, self.trust(), os.path.join(self.folder, "plain")
+        context = case.state.context
+        none = [f"accepted 0 refused 0 broken 0 epoch {context.epoch}"]
+        self.compare(none, "replay", *self.files, "--log", write(self.folder, "none", b""), "--save", state, *trust)
+        added = ["--state", state, *strict_words(case.follower.rules)]
+        self.compare(replay_lines(case.steps), "replay", *added, "--log", log, *trust)
+        tree = case.state.tree
+        line = group_line("state refused 10", strict.group_faults(case.rules, context, tree), context, tree)
+        self.compare([line], "validate", "--state", state, *strict_words(case.rules), *trust)
 
     def gate(self):
         """A gate that learns the receipts of the good signatures that it lists."""
@@ -162,14 +177,20 @@ class Runs:
 
 def strict_words(rules):
     """The options of a command that checks these strict rules."""
-    return ["--strict", "--allow", ",".join(str(rule) for rule in sorted(strict.ALL - rules))] if rules else []
+    allowed = ",".join(str(rule) for rule in sorted(strict.ALL - rules))
+    return (["--strict"] + (["--allow", allowed] if allowed else [])) if rules else []
 
 
 def start_line(rules, info, tree):
     """What `validate` prints of a start that meets all other conditions."""
-    for rule, place in strict.start_faults(rules, info, tree):
-        return f"start refused 9 Strict {rule} {strict.NAMES[rule]}" + ("" if place is None else f" {place}")
-    context, members = info.context, len(trees.members(tree))
+    return group_line("start refused 9", strict.start_faults(rules, info, tree), info.context, tree)
+
+
+def group_line(refused, faults, context, tree):
+    """What `validate` prints of a group: the first fault, or that it is valid."""
+    for rule, place in faults:
+        return f"{refused} Strict {rule} {strict.NAMES[rule]}" + ("" if place is None else f" {place}")
+    members = len(trees.members(tree))
     return f"valid epoch {context.epoch} members {members} tree {context.tree_hash.hex()}"
 
 

@@ -5,6 +5,7 @@ import strict
 import tree as trees
 from layouts import BYTES, Ciphertext, Extension, EXTENSIONS_CHANGE, KEY_PACKAGE, Lifetime, REINIT, RESUMPTION_PSK
 from random_messages import LISTED, Maker
+from strict import DER_BITS, DER_INTEGER, DER_SEQUENCE, DER_VERSION, X509
 
 HPKE_KEYS = ("encryption", "init", "path", "kem_output")
 
@@ -21,8 +22,17 @@ def bad_numbers(curve, is_signature, top):
     return [2] + low_order + [top + number for number in low_order if curve.bits == 255]
 
 
+def other_points(suite, key):
+    """What has the form of a point, made from one: three are not on the curve, and the last one is, with y negated."""
+    size = strict.POINTS[suite] // 2
+    x, y = int.from_bytes(key[1:1 + size], "big"), int.from_bytes(key[1 + size:], "big")
+    negated = strict.point(suite, x, -y % strict.POINT_CURVES[suite].prime)
+    return [key[:-1] + bytes([key[-1] ^ 1]), strict.point(suite, y, x), strict.point(suite, 0, 0), negated]
+
+
 class StrictMaker(Maker):
-    """A maker whose keys, tags and ciphertexts have the forms of the suite. `odds` is the chance of another form."""
+    """A maker whose keys, tags and ciphertexts have the forms of the suite, and certificates the signature key. `odds` is
+    the chance of another form."""
 
     def __init__(self, chosen, suite, trusting):
         self.odds = chosen.choice([0, 0, 0, 0.003])
@@ -49,7 +59,8 @@ class StrictMaker(Maker):
     def bad_key(self, key, is_signature):
         """A key of the right length."""
         if self.suite in strict.POINTS:
-            return self.chosen.choice([b"\x02", b"\x03", b"\x00"]) + key[1:]
+            others = [] if is_signature else other_points(self.suite, key)
+            return self.chosen.choice([bytes([form]) + key[1:] for form in (0, 2, 3)] + others)
         number = self.chosen.choice(bad_numbers(strict.CURVES[self.suite], is_signature, 1 << 8 * len(key) - 1))
         return number.to_bytes(len(key), "little")
 
@@ -73,7 +84,26 @@ class StrictMaker(Maker):
 
     # ---- leaves, packages and proposals
 
+    def credential(self):
+        """Certificates of a key that `signed_leaf` replaces."""
+        kind, body = super().credential()
+        return kind, (self.certificate(b""), *body[1:]) if kind == X509 else body
+
+    def certificate(self, key):
+        self.made += 1
+        return certificate_of(key, b"%d" % self.made)
+
+    def leaf(self, *source, **changes):
+        """A client that comes back with its certificate has its signature key too."""
+        kind, body = changes.get("credential", (None, None))
+        if kind == X509 and body and "signature_key" not in changes:
+            changes["signature_key"] = strict.certificate_key(body[0]) or b""
+        return super().leaf(*source, **changes)
+
     def signed_leaf(self, leaf, index=0):
+        kind, body = leaf.credential
+        if kind == X509 and body and strict.certificate_key(body[0]) != leaf.signature_key:
+            leaf = leaf._replace(credential=(kind, (self.certificate(leaf.signature_key), *body[1:])))
         if self.odd():
             changes = self.chosen.choice(self.leaf_faults(leaf))
             leaf = leaf._replace(**changes)
@@ -93,9 +123,19 @@ class StrictMaker(Maker):
                  {"capabilities": able._replace(extensions=able.extensions + (self.chosen.choice(OTHERS),))},
                  {"capabilities": able._replace(proposals=(self.chosen.randrange(9),))}]
         kinds += [{"capabilities": able._replace(extensions=fewer)}] * 5
+        if leaf.credential[0] == X509:
+            kinds += [{"credential": (X509, body)} for body in self.bad_certificates(leaf)] * 3
         if leaf.source[0] == KEY_PACKAGE:
             kinds += [{"source": (KEY_PACKAGE, Lifetime(5, self.chosen.choice([4, 4, 5])))}] * 3
         return kinds
+
+    def bad_certificates(self, leaf):
+        """Lists of certificates, the first of which has not the leaf's signature key, and one whose first has it."""
+        right = self.certificate(leaf.signature_key)
+        cut = self.chosen.randrange(len(right))
+        first = [self.certificate(self.chosen.randbytes(32)), right + b"\x00", right[:cut], b"issuer",
+                 certificate_of(leaf.signature_key, b"short", unused=1), certificate_of(b"", leaf.signature_key), right]
+        return [()] + [(each, b"issuer") for each in first]
 
     def signed_package(self, package):
         if self.odd():
@@ -124,10 +164,32 @@ class StrictMaker(Maker):
         return EXTENSIONS_CHANGE, extensions
 
 
+def element(tag, *parts):
+    """An element of DER (X.690, 8.1)."""
+    body = b"".join(parts)
+    if len(body) < 0x80:
+        return bytes([tag, len(body)]) + body
+    digits = len(body).to_bytes((len(body).bit_length() + 7) // 8, "big")
+    return bytes([tag, 0x80 + len(digits)]) + digits + body
+
+
+def certificate_of(key, name, unused=0):
+    """A certificate of a key (RFC 5280, 4.1), perhaps without the version, of an issuer with this name."""
+    algorithm = element(DER_SEQUENCE, element(0x06, b"\x2b\x65\x70"))
+    version = [element(DER_VERSION, element(DER_INTEGER, b"\x02"))] * (len(name) % 2)
+    info = element(DER_SEQUENCE, algorithm, element(DER_BITS, bytes([unused]), key))
+    fields = [*version, element(DER_INTEGER, b"\x01"), algorithm, element(DER_SEQUENCE, element(0x04, name)),
+              element(DER_SEQUENCE), element(DER_SEQUENCE), info]
+    return element(DER_SEQUENCE, element(DER_SEQUENCE, *fields), algorithm, element(DER_BITS, b"\x00", b"signature"))
+
+
 def right_key(suite, is_signature, seed):
-    """A key of the form of the suite."""
+    """A key of the form of the suite. One of its KEM is a point."""
     if suite in strict.POINTS:
-        return b"\x04" + hashlib.shake_256(seed).digest(strict.POINTS[suite] - 1)
+        digits = hashlib.shake_256(seed).digest(strict.POINTS[suite] - 1)
+        if is_signature:
+            return b"\x04" + digits
+        return strict.next_point(suite, int.from_bytes(digits, "big") % strict.POINT_CURVES[suite].prime)
     curve = strict.CURVES[suite]
     key = hashlib.shake_256(seed).digest((curve.bits + 7) // 8)
     return key + bytes([key[0] & 0x80]) if is_signature and curve.bits % 8 == 0 else key

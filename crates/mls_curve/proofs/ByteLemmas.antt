@@ -22,18 +22,28 @@ byte_weight (suc n) =
     let e : 8 * suc n ≡ 8 * n + 8 = omega arith in
     ap (λ k. 256 ^ k) e ∙ pow-add 256 (8 * n) 8 ∙ (λ j. byte_weight n j * 2 ^ 64) ∙ sym (pow-suc (2 ^ 64) n)
 
--- a byte more
-pub next_byte : (bytes : List ℕ) (i n old new carry : ℕ) → i < length bytes → length bytes ≤ 8 * n → get_or bytes i 0 < 256 → old < 256 ^ i
-    → new + carry * limb_weight n ≡ old * 256 + get_or bytes i 0
-    → (new < 256 ^ (i + 1)) × (new ≡ old * 256 + get_or bytes i 0)
-next_byte bytes i n old new carry h fit byte below e =
+-- one byte more of a number that is a multiple of a weight, and digits below it
+pub more_digits : (v w d byte i : ℕ) → byte < 256 → v * w + d < 256 ^ i → v * (w * 256) + (d * 256 + byte) < 256 ^ (i + 1)
+more_digits v w d byte i small below =
     let more : 256 ^ (i + 1) ≡ 256 ^ i * 256 = rw add-one (pow-suc 256 i) in
-    let room : 256 ^ (i + 1) ≤ 256 ^ (8 * n) = pow-le-pow_right (omega arith) (omega arith) in
-    let weight = byte_weight n in
-    let small : old * 256 + get_or bytes i 0 < limb_weight n = omega arith in
+    omega arith
+
+same_number : (v w d byte : ℕ) → v * (w * 256) + (d * 256 + byte) ≡ (v * w + d) * 256 + byte
+same_number v w d byte = omega arith
+
+pub same_digits : (bytes : List ℕ) (i v w d : ℕ) → i < length bytes
+    → big_endian (v * (w * 256) + (d * 256 + get_or bytes i 0)) (drop (i + 1) bytes) ≡ big_endian (v * w + d) (drop i bytes)
+same_digits bytes i v w d h =
+    ap (λ n. big_endian n (drop (i + 1) bytes)) (same_number v w d (get_or bytes i 0)) ∙ sym (big_endian_drop bytes i (v * w + d) h)
+
+-- a number of i bytes leaves no carry where the limbs hold that many
+pub no_carry : (i len n new carry : ℕ) → i ≤ 8 * len → n < 256 ^ i → new + carry * limb_weight len ≡ n → new ≡ n
+no_carry i len n new carry fit below e =
+    let room : 256 ^ i ≤ 256 ^ (8 * len) = pow-le-pow_right (omega arith) fit in
+    let weight = byte_weight len in
     elim (eq-zero-or-pos carry) [
-      | inl z ↦ let none : carry * limb_weight n ≡ 0 = ap (λ k. k * limb_weight n) z ∙ omega arith in (omega arith, omega arith)
-      | inr p ↦ let over : 1 * limb_weight n ≤ carry * limb_weight n = mul-le-mul_right (limb_weight n) p in absurd (omega arith)
+      | inl z ↦ let none : carry * limb_weight len ≡ 0 = ap (λ k. k * limb_weight len) z ∙ omega arith in omega arith
+      | inr p ↦ let over : 1 * limb_weight len ≤ carry * limb_weight len = mul-le-mul_right (limb_weight len) p in absurd (omega arith)
     ]
 
 pub big_endian_end : (bytes : List ℕ) (i n : ℕ) → length bytes ≤ i → big_endian n (drop i bytes) ≡ n

@@ -54,15 +54,26 @@ pub(crate) fn shift_up(limbs: &mut [u64; LIMBS], len: usize) -> u64
 }
 
 /// Returns the number that the bytes encode, the highest byte first. It must fit: `bytes` has at most 8 * `len` bytes.
+///
+/// Seven bytes at a time are read into one number, so that all limbs are multiplied once for the seven.
 pub(crate) fn from_bytes(bytes: &[u8], len: usize) -> [u64; LIMBS]
     requires limbs { len ≤ 9 }
     requires bytes { length bytes.now ≤ 8 * len }
     ensures { value_below result len ≡ big_endian 0 bytes.now }
 {
     let mut limbs = [0; LIMBS];
+    let mut weight = 1;
+    let mut digits = 0;
     for byte in bytes {
-        multiply(&mut limbs, len, 256, u64::from(*byte));
+        weight *= 256;
+        digits = digits * 256 + u64::from(*byte);
+        if weight >= 0x0100_0000_0000_0000 {
+            multiply(&mut limbs, len, weight, digits);
+            weight = 1;
+            digits = 0;
+        }
     }
+    multiply(&mut limbs, len, weight, digits);
     limbs
 }
 

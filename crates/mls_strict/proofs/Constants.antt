@@ -1,13 +1,14 @@
 -- The bytes of the coordinates encode the numbers that the definitions have.
-use Rattle.std.proofs.Common.{◌≡◌, ◌∙◌, ℕ, zero, suc, ◌%◌, ◌^◌, Bool, true, List, [], ◌∷◌, length, get_or, set, refl, ap, arith}
+use Rattle.std.proofs.Common.{◌≡◌, ◌∙◌, ℕ, zero, suc, ◌%◌, ◌^◌, Bool, true, List, [], ◌∷◌, length, get_or, set, refl, sym, ap, arith}
 use Rattle.std.specs.Prelude.{◌==◌, ◌-◌, ◌||◌, false, map, nat_le, nat_lt, not}
 use Rattle.std.specs.List.{list_any}
 use Rattle.std.specs.Str.{bytes_eq}
+use Rattle.std.proofs.lemmas.Bool.{false≢true}
 use Rattle.std.proofs.lemmas.List.{length-set}
 use Rattle.std.proofs.lemmas.Nat.{mod_below}
 use Rattle.mls_wire.specs.IntegersExact.{IsBytes}
 use Rattle.mls_strict.specs.KeyForms.{is_canonical, le_number, low_order_25519, low_order_448, prime_25519, prime_448}
-use Rattle.mls_strict.specs.declared.coordinates.TheConstants.{LOW_ORDER_25519, LOW_ORDER_448, PRIME_25519, PRIME_448, UNSIGNED_25519, UNSIGNED_448}
+use Rattle.mls_strict.specs.declared.coordinates.TheConstants.{LOW_ORDER_25519, LOW_ORDER_448, LOW_ORDER_FIRST_25519, LOW_ORDER_FIRST_448, PRIME_25519, PRIME_448, UNSIGNED_25519, UNSIGNED_448}
 use Rattle.mls_strict.proofs.Booleans.{and_false, and_true, or_false, same_either_way}
 use Rattle.mls_strict.proofs.LittleEndian.{any_number, are_bytes, has_top_bit, le_number-cleared, top_bit}
 
@@ -74,6 +75,34 @@ unsigned_25519-found key l h = cleared-found 31 key l h UNSIGNED_25519 refl (1 �
 pub unsigned_448-found : (key : List ℕ) → length key ≡ 57 → IsBytes key
     → list_any (λ c. bytes_eq c (set key 56 (get_or key 56 0 % 128))) UNSIGNED_448 ≡ list_any (λ u. u == le_number key % 2 ^ 455) (1 ∷ (prime_448 - 1) ∷ [])
 unsigned_448-found key l h = cleared-found 56 key l h UNSIGNED_448 refl (1 ∷ (prime_448 - 1) ∷ []) unsigned_numbers_448
+
+-- ---- told apart by the first byte
+
+neither : (a b : Bool) → (a || b) ≡ false → (a ≡ false) × (b ≡ false)
+neither false b h = (refl, h)
+neither true b h = absurd (false≢true (sym h))
+
+-- a list that begins otherwise than each of them is none of them
+begins_otherwise : (x : ℕ) (xs : List ℕ) (cs : List (List ℕ)) → list_any (λ n. n == x) (map (λ c. get_or c 0 0) cs) ≡ false
+    → list_any (λ c. bytes_eq c (x ∷ xs)) cs ≡ false
+begins_otherwise x xs [] h = refl
+begins_otherwise x xs ([] ∷ cs) h = begins_otherwise x xs cs (neither (0 == x) (list_any (λ n. n == x) (map (λ c. get_or c 0 0) cs)) h).1
+begins_otherwise x xs ((y ∷ ys) ∷ cs) h =
+    let parts = neither (y == x) (list_any (λ n. n == x) (map (λ c. get_or c 0 0) cs)) h in
+    rw parts.0 (begins_otherwise x xs cs parts.1)
+
+pub low_order_25519-otherwise : (key : List ℕ) → length key ≡ 32 → IsBytes key
+    → list_any (λ n. n == get_or key 0 0) LOW_ORDER_FIRST_25519 ≡ false
+    → list_any (λ u. u == le_number key % 2 ^ 255) low_order_25519 ≡ false
+low_order_25519-otherwise [] l h e = absurd (omega arith)
+low_order_25519-otherwise (x ∷ xs) l h e =
+    sym (low_order_25519-found (x ∷ xs) l h) ∙ begins_otherwise x (set xs 30 (get_or xs 30 0 % 128)) LOW_ORDER_25519 e
+
+pub low_order_448-otherwise : (key : List ℕ) → length key ≡ 56 → IsBytes key
+    → list_any (λ n. n == get_or key 0 0) LOW_ORDER_FIRST_448 ≡ false
+    → list_any (λ u. u == le_number key) low_order_448 ≡ false
+low_order_448-otherwise [] l h e = absurd (omega arith)
+low_order_448-otherwise (x ∷ xs) l h e = sym (low_order_448-found (x ∷ xs) l h) ∙ begins_otherwise x xs LOW_ORDER_448 e
 
 -- ---- canonical encodings
 

@@ -1,7 +1,7 @@
 -- The forms of keys (RFC 9420, 5.1.1). A key is a list of bytes. Used by contracts.
-use Rattle.std.specs.Prelude.{ℕ, ◌+◌, ◌-◌, ◌*◌, ◌%◌, ◌^◌, ◌==◌, nat_le, nat_lt, Bool, true, false, ◌&&◌, ◌||◌, not, if◌then◌else◌, List, [], ◌∷◌, length, Option, Some, None}
+use Rattle.std.specs.Prelude.{ℕ, ◌+◌, ◌-◌, ◌*◌, ◌%◌, ◌^◌, ◌==◌, nat_le, nat_lt, Bool, true, ◌&&◌, ◌||◌, not, if◌then◌else◌, List, [], ◌∷◌, length, Option, Some, None}
 use Rattle.std.specs.List.{list_any}
-use Rattle.mls_curve.specs.Curves.{is_on_curve}
+use Rattle.mls_curve.specs.Curves.{begins_with, is_on_curve}
 use Rattle.mls_curve.specs.declared.curve.Curve.{Curve}
 use Rattle.mls_curve.specs.declared.curve.Curve.TheVariants.{P256, P384, P521}
 use Rattle.mls_hash.specs.Suites.{hpke_key_length, signature_key_length}
@@ -13,11 +13,6 @@ has_curve25519 suite = (suite == 1) || (suite == 3)
 -- `has_curve448 suite`: the suite has X448 and Ed448 (RFC 9420, 17.1).
 abbrev pub has_curve448 : ℕ → Bool
 has_curve448 suite = (suite == 4) || (suite == 6)
-
--- `begins_with n b`: the first byte is n.
-abbrev pub begins_with : ℕ → List ℕ → Bool
-begins_with n [] = false
-begins_with n (x ∷ xs) = x == n
 
 -- `le_number b` is the number that the bytes encode, the least byte first (RFC 7748, 5; RFC 8032, 5.1.2).
 unfoldable pub le_number : List ℕ → ℕ

@@ -35,6 +35,9 @@ pub(crate) const LOW_ORDER_25519: [[u8; 32]; 7] = [
     ],
 ];
 
+/// The first bytes of `LOW_ORDER_25519`.
+pub(crate) const LOW_ORDER_FIRST_25519: [u8; 7] = [0x00, 0x01, 0xec, 0xed, 0xee, 0xe0, 0x5f];
+
 /// The coordinates u of the points of low order of Curve448 (RFC 7748, 6.2).
 pub(crate) const LOW_ORDER_448: [[u8; 56]; 5] = [
     [0; 56],
@@ -60,6 +63,9 @@ pub(crate) const LOW_ORDER_448: [[u8; 56]; 5] = [
         0xff, 0xff, 0xff, 0xff, 0xff, 0xff, 0xff, 0xff, 0xff, 0xff, 0xff, 0xff,
     ],
 ];
+
+/// The first bytes of `LOW_ORDER_448`.
+pub(crate) const LOW_ORDER_FIRST_448: [u8; 5] = [0x00, 0x01, 0xfe, 0xff, 0x00];
 
 /// The prime of the field of Ed25519: 2^255 - 19 (RFC 8032, 5.1).
 pub(crate) const PRIME_25519: [u8; 32] = [

@@ -2,10 +2,12 @@
 
 ghost use Rattle.std.specs.Prelude.{◌≡◌, ◌%◌, ◌^◌, ◌==◌, nat_lt, length};
 ghost use Rattle.std.specs.List.{list_any};
-ghost use Rattle.mls_strict.specs.KeyForms.{begins_with, curve_of, is_canonical, is_hpke_key, is_signature_key, is_suite_point, le_number, low_order_25519, low_order_448, prime_25519, prime_448};
+ghost use Rattle.mls_curve.specs.Curves.{begins_with};
+ghost use Rattle.mls_strict.specs.KeyForms.{curve_of, is_canonical, is_hpke_key, is_signature_key, is_suite_point, le_number, low_order_25519, low_order_448, prime_25519, prime_448};
 
 use crate::coordinates::{
-    LOW_ORDER_448, LOW_ORDER_25519, PRIME_448, PRIME_25519, UNSIGNED_448, UNSIGNED_25519,
+    LOW_ORDER_448, LOW_ORDER_25519, LOW_ORDER_FIRST_448, LOW_ORDER_FIRST_25519, PRIME_448,
+    PRIME_25519, UNSIGNED_448, UNSIGNED_25519,
 };
 use mls_curve::{Curve, is_on_curve};
 use mls_hash::Suite;
@@ -15,6 +17,9 @@ fn has_low_order_25519(key: &[u8]) -> bool
     requires { length key.now ≡ 32 }
     ensures { result ≡ list_any (λ u. u == le_number key.now % 2 ^ 255) low_order_25519 }
 {
+    if !LOW_ORDER_FIRST_25519.contains(&key[0]) {
+        return false;
+    }
     let mut u = [0; 32];
     u.copy_from_slice(key);
     u[31] %= 128;
@@ -26,6 +31,9 @@ fn has_low_order_448(key: &[u8]) -> bool
     requires { length key.now ≡ 56 }
     ensures { result ≡ list_any (λ u. u == le_number key.now) low_order_448 }
 {
+    if !LOW_ORDER_FIRST_448.contains(&key[0]) {
+        return false;
+    }
     let mut u = [0; 56];
     u.copy_from_slice(key);
     LOW_ORDER_448.contains(&u)

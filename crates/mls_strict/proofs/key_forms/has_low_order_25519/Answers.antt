@@ -1,12 +1,16 @@
-use Rattle.std.proofs.Common.{◌≡◌, ◌∙◌, ◌%◌, get_or, set}
+use Rattle.std.proofs.Common.{◌≡◌, ◌∙◌, sym, ◌%◌, get_or, set}
 use Rattle.std.specs.List.{list_any}
 use Rattle.std.specs.Str.{bytes_eq}
 use Rattle.mls_strict.specs.declared.coordinates.TheConstants.{LOW_ORDER_25519}
-use Rattle.mls_strict.proofs.Constants.{low_order_25519-found}
+use Rattle.mls_strict.proofs.Constants.{low_order_25519-found, low_order_25519-otherwise}
 use Rattle.mls_strict.proofs.key_forms.has_low_order_25519.Goals as goal
+
+pub returns-then-not-contains : goal.returns-then-not-contains
+returns-then-not-contains c =
+    sym (low_order_25519-otherwise c.args.key.now c.requires (λ k. (c.type_inv.key k).fits) (sym c.contains.ensures.value ∙ c.if-not-contains.true))
 
 pub returns : goal.returns
 returns c =
     let key = c.args.key.now in
-    let h : c.contains.result ≡ list_any (λ y. bytes_eq y (set c.copy_from_slice.new.self 31 (get_or c.copy_from_slice.new.self 31 0 % 128))) LOW_ORDER_25519 = c.contains.ensures.value in
+    let h : c.contains-2.result ≡ list_any (λ y. bytes_eq y (set c.copy_from_slice.new.self 31 (get_or c.copy_from_slice.new.self 31 0 % 128))) LOW_ORDER_25519 = c.contains-2.ensures.value in
     h ∙ rw c.copy_from_slice.ensures.after (low_order_25519-found key c.requires (λ k. (c.type_inv.key k).fits))

@@ -335,7 +335,8 @@ impl<C: SignatureCheck> Follower<C> {
     /// strict rules of the follower's set.
     ///
     /// After a commit the tree is checked from its changes. All leaves are visited only if the commit changes what the
-    /// group requires, or the types of the context's extensions and there is strict rule 51. A commit with a ReInit is applied as any other, and ends the group (RFC 9420, 11.2).
+    /// group requires, or the types of the context's extensions and there is strict rule 51. A commit with a ReInit is applied
+    /// as any other, and ends the group (RFC 9420, 11.2).
     ///
     /// # Errors
     ///

@@ -9,4 +9,4 @@ pub mod RecordsOnce
 pub mod Openings
 pub mod GateOnce
 pub mod GateExists
-mod QueryReplies
+pub mod QueryReplies

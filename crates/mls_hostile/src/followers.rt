@@ -172,7 +172,7 @@ fn start(alloc: Global, rules: Rules, profile: Profile) -> Result<(TrustingFollo
 
 /// Gets the signatures of a message from a follower, appends their receipts, and returns whether `signatures_to_verify`
 /// ran out of memory. The state must be `before`, whatever is returned. If it ran out of memory, it is called again.
-fn push_wanted(
+fn push_signatures(
     alloc: Global,
     follower: &mut TrustingFollower,
     message: &[u8],
@@ -243,7 +243,7 @@ fn pass(
         let message = message.as_slice();
         let before = state_anew(alloc, follower)?;
         let before = before.as_slice();
-        was_refused |= push_wanted(alloc, follower, message, before, &mut receipts)?;
+        was_refused |= push_signatures(alloc, follower, message, before, &mut receipts)?;
         was_refused |= hand_over(alloc, follower, message, before, &mut answers)?;
     }
     Ok(Followed {

@@ -88,13 +88,13 @@ const CALLS: &[(&str, Call, &str)] = &[
         START_RECEIPTS,
     ),
     (
-        "Follower::start, wanted and take, to a commit with a path",
+        "Follower::start, signatures_to_verify and take, to a commit with a path",
         Call::Follow(&[PROPOSAL, COMMIT, PATH_COMMIT], PATH_RECEIPTS),
         PATH_ANSWERS,
     ),
     (
-        "Follower::start, wanted and take, to commits that add a member to a full tree, add one under a set parent, \
-        and halve the tree",
+        "Follower::start, signatures_to_verify and take, to commits that add a member to a full tree, \
+        add one under a set parent, and halve the tree",
         Call::Follow(
             &[
                 PROPOSAL,
@@ -108,17 +108,17 @@ const CALLS: &[(&str, Call, &str)] = &[
         ADD_ANSWERS,
     ),
     (
-        "Follower::start, wanted and take, to a commit with a path that sets the context's extensions",
+        "Follower::start, signatures_to_verify and take, to a commit with a path that sets the context's extensions",
         Call::Follow(&[PROPOSAL, COMMIT, EXTENSIONS_COMMIT], EXTENSIONS_RECEIPTS),
         EXTENSIONS_ANSWERS,
     ),
     (
-        "Follower::start_in, wanted and take, to external commits that join and come back",
+        "Follower::start_in, signatures_to_verify and take, to external commits that join and come back",
         Call::FollowInFull(&[JOIN_COMMIT, RESYNC_COMMIT], JOIN_RECEIPTS),
         JOIN_ANSWERS,
     ),
     (
-        "Follower::start_by, wanted and take, by strict rules, to a commit with a path",
+        "Follower::start_by, signatures_to_verify and take, by strict rules, to a commit with a path",
         Call::FollowStrictly(&[PROPOSAL, COMMIT, PATH_COMMIT], PATH_RECEIPTS),
         PATH_ANSWERS,
     ),

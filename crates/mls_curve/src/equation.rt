@@ -14,6 +14,7 @@ use crate::limbs::{LIMBS, are_equal, multiply};
 use crate::residue::{add_multiple, is_below, product, reduced};
 
 /// Returns the scaled coordinate, or `None` if the coordinate is not below the prime.
+#[inline(always)]
 fn scaled(curve: Curve, coordinate: &[u64; LIMBS]) -> Option<[u64; LIMBS]>
     ensures some { IfSome result (λ s. value_below s (limb_count curve)
         ≡ scale_of curve * value_below coordinate.now (limb_count curve)) }
@@ -34,6 +35,7 @@ fn scaled(curve: Curve, coordinate: &[u64; LIMBS]) -> Option<[u64; LIMBS]>
 }
 
 /// Returns y^2 + 3x, scaled and modulo the scaled prime.
+#[inline(always)]
 fn left_side(
     curve: Curve,
     y: &[u64; LIMBS],
@@ -53,6 +55,7 @@ fn left_side(
 }
 
 /// Returns x^3 + b, scaled and modulo the scaled prime.
+#[inline(always)]
 fn right_side(curve: Curve, x: &[u64; LIMBS], scaled_x: &[u64; LIMBS]) -> [u64; LIMBS]
     ensures { ReducesTo (scale_of curve * prime curve)
         (value_below x.now (limb_count curve) * value_below x.now (limb_count curve)
@@ -69,6 +72,7 @@ fn right_side(curve: Curve, x: &[u64; LIMBS], scaled_x: &[u64; LIMBS]) -> [u64; 
 }
 
 /// Returns whether `a` and `b` are equal modulo the scaled prime.
+#[inline(always)]
 fn are_congruent(curve: Curve, a: &[u64; LIMBS], b: &[u64; LIMBS]) -> bool
     ensures { IsTrue result
         ↔ (value_below a.now (limb_count curve) % (scale_of curve * prime curve)
@@ -82,6 +86,7 @@ fn are_congruent(curve: Curve, a: &[u64; LIMBS], b: &[u64; LIMBS]) -> bool
 }
 
 /// Returns whether `x` and `y` are the coordinates of a point.
+#[inline(always)]
 pub(crate) fn is_point(curve: Curve, x: &[u64; LIMBS], y: &[u64; LIMBS]) -> bool
     ensures { result
         ≡ is_point curve (value_below x.now (limb_count curve)) (value_below y.now (limb_count curve)) }

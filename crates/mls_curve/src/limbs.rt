@@ -1,6 +1,6 @@
 //! Numbers of up to nine limbs of 64 bits, the lowest first. Of each array the first `len` limbs count.
 
-ghost use Rattle.std.specs.Prelude.{◌≡◌, ◌+◌, ◌*◌, ◌^◌, ◌<◌, ◌≤◌, ◌↔◌, IsTrue, length};
+ghost use Rattle.std.specs.Prelude.{◌≡◌, ℕ, ◌+◌, ◌*◌, ◌^◌, ◌<◌, ◌≤◌, ◌↔◌, IsTrue, drop, length};
 ghost use Rattle.mls_curve.specs.Curves.{big_endian};
 ghost use Rattle.mls_curve.specs.Limbs.{limb_weight, value_below};
 
@@ -8,6 +8,7 @@ ghost use Rattle.mls_curve.specs.Limbs.{limb_weight, value_below};
 pub(crate) const LIMBS: usize = 9;
 
 /// Replaces the number by `by` times the number plus `add`, and returns the carry.
+#[inline(always)]
 pub(crate) fn multiply(limbs: &mut [u64; LIMBS], len: usize, by: u64, add: u64) -> u64
     requires { len ≤ 9 }
     ensures { value_below limbs.new len + result * limb_weight len
@@ -23,6 +24,7 @@ pub(crate) fn multiply(limbs: &mut [u64; LIMBS], len: usize, by: u64, add: u64) 
 }
 
 /// Adds `by` times `limbs` to `sum`, and returns the carry.
+#[inline(always)]
 pub(crate) fn add_product(sum: &mut [u64; LIMBS], limbs: &[u64; LIMBS], by: u64, len: usize) -> u64
     requires { len ≤ 9 }
     ensures value { value_below sum.new len + result * limb_weight len
@@ -38,13 +40,14 @@ pub(crate) fn add_product(sum: &mut [u64; LIMBS], limbs: &[u64; LIMBS], by: u64,
     carry
 }
 
-/// Moves each limb up by one place, and returns the carry: the limb that was the highest.
-pub(crate) fn shift_up(limbs: &mut [u64; LIMBS], len: usize) -> u64
+/// Moves each limb up by one place, puts `lowest` into the lowest place, and returns the carry: the limb that was the highest.
+#[inline(always)]
+pub(crate) fn shift_up(limbs: &mut [u64; LIMBS], len: usize, lowest: u64) -> u64
     requires { len ≤ 9 }
     ensures { value_below limbs.new len + result * limb_weight len
-        ≡ value_below limbs.old len * 2 ^ 64 }
+        ≡ value_below limbs.old len * 2 ^ 64 + lowest }
 {
-    let mut carry = 0;
+    let mut carry = lowest;
     for i in 0..len {
         let limb = limbs[i];
         limbs[i] = carry;
@@ -53,31 +56,48 @@ pub(crate) fn shift_up(limbs: &mut [u64; LIMBS], len: usize) -> u64
     carry
 }
 
+/// Returns the limb that eight bytes from `i` on encode, the highest byte first.
+#[inline(always)]
+fn limb_from_bytes(bytes: &[u8], i: usize) -> u64
+    requires { i + 8 ≤ length bytes.now }
+    ensures { (n : ℕ) → big_endian n (drop i bytes.now) ≡ big_endian (n * 2 ^ 64 + result) (drop (i + 8) bytes.now) }
+{
+    u64::from_be_bytes([
+        bytes[i],
+        bytes[i + 1],
+        bytes[i + 2],
+        bytes[i + 3],
+        bytes[i + 4],
+        bytes[i + 5],
+        bytes[i + 6],
+        bytes[i + 7],
+    ])
+}
+
 /// Returns the number that the bytes encode, the highest byte first. It must fit: `bytes` has at most 8 * `len` bytes.
 ///
-/// Seven bytes at a time are read into one number, so that all limbs are multiplied once for the seven.
+/// All but the first few bytes are read eight at a time, a limb each.
+#[inline(always)]
 pub(crate) fn from_bytes(bytes: &[u8], len: usize) -> [u64; LIMBS]
     requires limbs { len ≤ 9 }
     requires bytes { length bytes.now ≤ 8 * len }
     ensures { value_below result len ≡ big_endian 0 bytes.now }
 {
     let mut limbs = [0; LIMBS];
-    let mut weight = 1;
-    let mut digits = 0;
-    for byte in bytes {
-        weight *= 256;
-        digits = digits * 256 + u64::from(*byte);
-        if weight >= 0x0100_0000_0000_0000 {
-            multiply(&mut limbs, len, weight, digits);
-            weight = 1;
-            digits = 0;
-        }
+    let mut i = 0;
+    while i < bytes.len() % 8 {
+        multiply(&mut limbs, len, 256, u64::from(bytes[i]));
+        i += 1;
     }
-    multiply(&mut limbs, len, weight, digits);
+    while i < bytes.len() {
+        shift_up(&mut limbs, len, limb_from_bytes(bytes, i));
+        i += 8;
+    }
     limbs
 }
 
 /// Returns whether `a` and `b` are equal.
+#[inline(always)]
 pub(crate) fn are_equal(a: &[u64; LIMBS], b: &[u64; LIMBS], len: usize) -> bool
     requires { len ≤ 9 }
     ensures { IsTrue result ↔ (value_below a.now len ≡ value_below b.now len) }

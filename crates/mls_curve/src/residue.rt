@@ -10,20 +10,27 @@ ghost use Rattle.mls_curve.specs.Residues.{ReducesTo, modulus};
 use crate::limbs::{LIMBS, add_product, shift_up};
 
 /// Removes the carry of a number: adds the complement `carry` times, until nothing is carried.
-pub(crate) fn fold(limbs: &mut [u64; LIMBS], complement: &[u64; LIMBS], carry: u64, len: usize)
+///
+/// The carry may be the sum of two limbs. It is taken in parts that fit a limb.
+#[inline(always)]
+pub(crate) fn fold(limbs: &mut [u64; LIMBS], complement: &[u64; LIMBS], carry: u128, len: usize)
     requires len { len ≤ 9 }
     requires complement { value_below complement.now len < limb_weight len }
+    requires carry { carry ≤ 2 ^ 65 }
     ensures { ReducesTo (modulus complement.now len)
         (value_below limbs.old len + carry * limb_weight len)
         (value_below limbs.new len) }
 {
     let mut top = carry;
     while top > 0 {
-        top = add_product(limbs, complement, top, len);
+        let part = top.min(0xffff_ffff_ffff_ffff);
+        let more = add_product(limbs, complement, part as u64, len);
+        top = top - part + u128::from(more);
     }
 }
 
 /// Adds `by` times `limbs` to `sum`, modulo the modulus.
+#[inline(always)]
 pub(crate) fn add_multiple(
     sum: &mut [u64; LIMBS],
     limbs: &[u64; LIMBS],
@@ -38,22 +45,13 @@ pub(crate) fn add_multiple(
         (value_below sum.new len) }
 {
     let carry = add_product(sum, limbs, by, len);
-    fold(sum, complement, carry, len);
+    fold(sum, complement, u128::from(carry), len);
 }
 
-/// Multiplies by 2^64, modulo the modulus.
-pub(crate) fn shift(limbs: &mut [u64; LIMBS], complement: &[u64; LIMBS], len: usize)
-    requires len { len ≤ 9 }
-    requires complement { value_below complement.now len < limb_weight len }
-    ensures { ReducesTo (modulus complement.now len)
-        (value_below limbs.old len * 2 ^ 64)
-        (value_below limbs.new len) }
-{
-    let carry = shift_up(limbs, len);
-    fold(limbs, complement, carry, len);
-}
-
-/// Returns the product of `a` and `b`, modulo the modulus. Goes through the limbs of `a` from the highest down.
+/// Returns the product of `a` and `b`, modulo the modulus.
+///
+/// Goes through the limbs of `a` from the highest down. The carries of a shift and of the sum after it are removed together.
+#[inline(always)]
 pub(crate) fn product(
     a: &[u64; LIMBS],
     b: &[u64; LIMBS],
@@ -70,13 +68,16 @@ pub(crate) fn product(
     let mut i = len;
     while i > 0 {
         i -= 1;
-        shift(&mut result, complement, len);
-        add_multiple(&mut result, b, a[i], complement, len);
+        let highest = shift_up(&mut result, len, 0);
+        let carry = add_product(&mut result, b, a[i], len);
+        let carries = u128::from(highest) + u128::from(carry);
+        fold(&mut result, complement, carries, len);
     }
     result
 }
 
 /// Returns whether the number is below the modulus.
+#[inline(always)]
 pub(crate) fn is_below(limbs: &[u64; LIMBS], complement: &[u64; LIMBS], len: usize) -> bool
     requires len { len ≤ 9 }
     requires complement { value_below complement.now len < limb_weight len }
@@ -87,6 +88,7 @@ pub(crate) fn is_below(limbs: &[u64; LIMBS], complement: &[u64; LIMBS], len: usi
 }
 
 /// Returns the residue of the number. The modulus must be at least half of 2^(64 * len), so it is subtracted once at most.
+#[inline(always)]
 pub(crate) fn reduced(limbs: &[u64; LIMBS], complement: &[u64; LIMBS], len: usize) -> [u64; LIMBS]
     requires len { len ≤ 9 }
     requires complement { 2 * value_below complement.now len ≤ limb_weight len }

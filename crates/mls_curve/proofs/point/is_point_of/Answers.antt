@@ -3,8 +3,8 @@ use Rattle.std.proofs.lemmas.List.{length-take}
 use Rattle.mls_curve.specs.Curves.{coordinate_length}
 use Rattle.mls_curve.proofs.CurveLemmas.{coordinate_fits}
 use Rattle.mls_curve.proofs.PointLemmas.{no_point_by_form, no_point_by_length, point_by_coordinates}
-use Rattle.mls_curve.proofs.point.is_on_curve.Goals as goal
-use Rattle.mls_curve.proofs.point.is_on_curve.Goals.{then-point-coordinate_len-via-then-point-coordinate_len, then-point-coordinate_len-via-else-point-coordinate_len+then-point-ne4}
+use Rattle.mls_curve.proofs.point.is_point_of.Goals as goal
+use Rattle.mls_curve.proofs.point.is_point_of.Goals.{then-point-coordinate_len-via-then-point-coordinate_len, then-point-coordinate_len-via-else-point-coordinate_len+then-point-ne4}
 
 pub returns-then-point-coordinate_len : goal.returns-then-point-coordinate_len
 returns-then-point-coordinate_len c =

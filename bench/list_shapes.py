@@ -2,9 +2,9 @@
 import json
 import os
 
-from group import KEY_PACKAGE, Group, key, leaf_bytes, new_leaf, number, vector
-from messages import (EXTENSION, Sparse, add, bare_add, bare_leaf, bare_update, commit, false_path, false_path_above,
-                      inline, many_extensions, proposal, psk, reinit, remove, renew_paths, state_file)
+from group import KEY_PACKAGE, Group, leaf_bytes, new_leaf, number, vector
+from messages import (EXTENSION, Sparse, add, bare_add, bare_leaf, bare_update, commit, content_of, false_path,
+                      false_path_above, inline, many_extensions, proposal, psk, reinit, remove, renew_paths, state_file)
 from shape import shape
 
 # A credential of one certificate without content.
@@ -199,19 +199,103 @@ def extensions_before_a_psk(put):
 # ---- states
 
 
+def validated_state(put, group, entries, added=None):
+    """A state from which `validate` resumes."""
+    return put.files(["validate", "--state", "STATE", "--trust"], {"STATE": state_file(group, entries, added)})
+
+
 @shape
 def state_of_small_proposals(put):
-    """A state whose pending proposals have few bytes each, and are refused."""
-    entries = [vector(b"") + b"\x03" + many_extensions(1)] * put.size(60_000)
-    return put.files(["validate", "--state", "STATE", "--trust"], {"STATE": state_file(Group(2), entries)})
+    """A state whose pending proposals have few bytes each, of which the second is refused, since it is pending already."""
+    group = Group(2)
+    return validated_state(put, group, [content_of(group, 0, remove(1))] * put.size(40_000))
+
+
+@shape
+def state_of_small_contents(put):
+    """A state whose entries have few bytes each, and are no proposals: the first is refused. A list of what is read may not
+    take much more memory than the items."""
+    content = number(1, 2) + vector(b"") + number(0, 8) + b"\x03" + vector(b"") + b"\x01" + vector(b"") * 2
+    return validated_state(put, Group(2), [content] * put.size(100_000))
+
+
+@shape
+def state_of_known_proposals(put):
+    """A state of many pending proposals of few bytes, all of them accepted."""
+    group = Group(2)
+    entries = [content_of(group, 0, remove(1), b"%d" % at) for at in range(put.size(20_000))]
+    return validated_state(put, group, entries)
+
+
+@shape
+def saved_known_proposals(put):
+    """What `--save` takes in addition to the replay of many pending proposals of few bytes."""
+    group = Group(2)
+    log = [proposal(group, 0, remove(1), b"%d" % at)[0] for at in range(put.size(20_000))]
+    return saved(put, group, log)
 
 
 @shape
 def state_of_many_extensions(put):
     """A state whose pending proposal has many extensions of the context. The list of the file and that of the group may
     not take the memory of two large ones."""
-    entry = vector(key("reference")) + b"\x01" + number(0, 4) + many_extensions(put.size(100_000))
-    return put.files(["validate", "--state", "STATE", "--trust"], {"STATE": state_file(Group(2), [entry])})
+    group = Group(2)
+    return validated_state(put, group, [content_of(group, 0, many_extensions(put.size(100_000)))])
+
+
+@shape
+def state_of_empty_references(put):
+    """A state whose last commit added many, by references without content: the first is refused. Such a reference may not
+    take much more memory than its byte."""
+    return validated_state(put, Group(2), [], [b""] * put.size(250_000))
+
+
+# ---- large authenticated data, and a large signature
+
+
+def data_and_signature(put):
+    """The authenticated data and the signature of a proposal, both large."""
+    return bytes(put.size(1_000_000)), bytes(put.size(1_000_000))
+
+
+def saved(put, group, messages):
+    """What `--save` takes in addition to the replay of a log."""
+    log = b"".join(vector(body) for body in messages)
+    words = ["replay", "--info", put.write("info", group.info()), "--tree", put.write("tree", group.tree())]
+    words += ["--trust", "--log", put.write("log", log)]
+    put.lists([*words, "--save", os.path.join(put.folder, "saved")], words)
+    return [len(log)]
+
+
+@shape
+def data_and_signature_proposed(put):
+    """A pending proposal with large authenticated data and a large signature, and no commit. The message's bytes and the
+    pending ones may not be held more often."""
+    group = Group(2)
+    return put.replay(group, [proposal(group, 0, remove(1), *data_and_signature(put))[0]])
+
+
+@shape
+def saved_data_and_signature(put):
+    """What `--save` takes in addition to the replay of such a proposal."""
+    group = Group(2)
+    return saved(put, group, [proposal(group, 0, remove(1), *data_and_signature(put))[0]])
+
+
+@shape
+def state_of_data_and_signature(put):
+    """A state whose pending proposal has large authenticated data and a large signature. The bytes of the file, those of
+    the message and the pending ones may not take much memory together."""
+    group = Group(2)
+    return validated_state(put, group, [content_of(group, 0, remove(1), *data_and_signature(put))])
+
+
+@shape
+def signatures_of_a_state_of_data_and_signature(put):
+    """The same state for `signatures`, which prints the content and the signature."""
+    group = Group(2)
+    entry = content_of(group, 0, remove(1), *data_and_signature(put))
+    return put.files(["signatures", "--state", "STATE"], {"STATE": state_file(group, [entry])})
 
 
 # ---- trees of blank nodes, and of nodes without content

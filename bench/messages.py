@@ -83,11 +83,16 @@ def message(frame, auth):
     return number(1, 2) + frame + auth + vector(b"")
 
 
-def proposal(group, sender, body, data=b""):
+def content_of(group, sender, body, data=b"", signature=b""):
+    """The AuthenticatedContent of a proposal: an entry of the file of a state."""
+    return framed(group, sender, b"\x02" + body, data) + vector(signature)
+
+
+def proposal(group, sender, body, data=b"", signature=b""):
     """A proposal's message, and the item of a commit that names it."""
-    frame = framed(group, sender, b"\x02" + body, data)
-    reference = digest(vector(b"MLS 1.0 Proposal Reference") + vector(frame + vector(b"")))
-    return message(frame, vector(b"")), b"\x02" + vector(reference)
+    content = content_of(group, sender, body, data, signature)
+    reference = digest(vector(b"MLS 1.0 Proposal Reference") + vector(content))
+    return message(content, b""), b"\x02" + vector(reference)
 
 
 def commit(group, items, path=None, committer=0):
@@ -181,8 +186,11 @@ def bare_add(leaf, extensions=b""):
     return number(1, 2) * 3 + vector(b"") + leaf + vector(extensions) + vector(b"")
 
 
-def state_file(group, entries):
-    """The file of a state in the full profile. An entry is a pending proposal: its reference, sender and body."""
+def state_file(group, entries, added=None):
+    """The file of a state in the full profile. An entry is a pending proposal, as `content_of` has it. Those that the last
+    commit added are given by their references; there are none if no commit was accepted."""
     context = group.context(group.tree_hash())
-    state = b"\x02\x00" + context + vector(bytes(32)) + group.tree() + vector(b"".join(entries))
-    return number(1, 2) + vector(digest(state)) + state
+    references = None if added is None else vector(b"".join(vector(reference) for reference in added))
+    state = b"\x02\x00" + number(0, 2) + context + vector(bytes(32)) + group.tree()
+    state += vector(b"".join(entries)) + optional(references)
+    return number(2, 2) + vector(digest(state)) + state

@@ -1,10 +1,10 @@
 """Shapes for cost.py: many small messages or items that each touch something large."""
-from group import EXTERNAL_INIT, Group, key, leaf_bytes, new_leaf, number, vector
+from group import EXTERNAL_INIT, Group, leaf_bytes, new_leaf, number, vector
 from large_shapes import refused_by
-from messages import (EXTENSION, Sparse, add, bare_leaf, bare_update, commit, commit_with_path, extensions_of,
-                      external_commit, false_path, far_members, frozen, inline, inline_adds, many_extensions, proposal,
-                      psk, put_leaves, reinit, remove, renew_paths, small_leaf, state_file, updated_group,
-                      with_capabilities)
+from messages import (EXTENSION, Sparse, add, bare_leaf, bare_update, commit, commit_with_path, content_of,
+                      extensions_of, external_commit, false_path, far_members, frozen, inline, inline_adds,
+                      many_extensions, proposal, psk, put_leaves, reinit, remove, renew_paths, small_leaf, state_file,
+                      updated_group, with_capabilities)
 from shape import shape
 
 # Capabilities that list both types of credentials, and those that list the type of EXTENSION.
@@ -39,12 +39,12 @@ def large_leaf(size):
 # ---- a large context
 
 
-def external_proposals(put, extensions, least):
+def external_proposals(put, extensions, least, command="replay"):
     """Proposals of an external sender whom the context does not list, in a group with these extensions."""
     group = Extended(extensions)
     head = vector(group.NAME) + number(group.epoch, 8) + b"\x02" + number(2**32 - 1, 4) + vector(b"")
     sent = number(1, 2) * 2 + head + b"\x02" + remove(1) + vector(b"")
-    return put.replay(group, [sent] * put.size(least), profile="full")
+    return put.replay(group, [sent] * put.size(least), command, profile="full")
 
 
 @shape
@@ -52,6 +52,12 @@ def external_proposals_and_many_senders(put):
     """Proposals of an external sender whom the context does not list, though it lists many. The list may not be decoded
     for each proposal."""
     return external_proposals(put, external_senders(put.size(40_000)), 100)
+
+
+@shape
+def signatures_of_external_proposals_and_many_senders(put):
+    """The signatures of such proposals. The list may not be decoded for each proposal either."""
+    return external_proposals(put, external_senders(put.size(40_000)), 100, "signatures")
 
 
 @shape
@@ -66,7 +72,9 @@ def state_of_external_proposals(put):
     """A state of many external senders, and of many pending proposals of one of them. The senders may not be decoded
     for each proposal."""
     group = Extended(external_senders(put.size(15_000)))
-    entries = [vector(key("reference", at)) + b"\x02" + number(0, 4) + remove(1) for at in range(put.size(300))]
+    head = number(1, 2) + vector(group.NAME) + number(group.epoch, 8) + b"\x02" + number(0, 4)
+    rest = b"\x02" + remove(1) + vector(b"")
+    entries = [head + vector(b"%d" % at) + rest for at in range(put.size(300))]
     return put.files(["validate", "--state", "STATE", "--trust"], {"STATE": state_file(group, entries)})
 
 
@@ -276,6 +284,14 @@ def signatures_of_a_state_of_a_long_group_id(put):
     """A state of members whose leaves each sign the group's long id. Their contents may not be held at once."""
     group = updated_group(put.size(250), bytes(96_000))
     return put.files(["signatures", "--state", "STATE"], {"STATE": state_file(group, [])})
+
+
+@shape
+def signatures_of_a_state_of_a_long_context(put):
+    """A state of pending proposals that each sign the group's long context. Their contents may not be held at once."""
+    group = Extended(EXTENSION * 32_000)
+    entries = [content_of(group, 0, remove(1), b"%d" % at) for at in range(put.size(250))]
+    return put.files(["signatures", "--state", "STATE"], {"STATE": state_file(group, entries)})
 
 
 @shape

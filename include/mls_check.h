@@ -57,8 +57,7 @@ enum mls_number {
     MLS_NO_FOLLOWER = 102,          /* the handle has no follower */
     MLS_UNSUPPORTED_PROFILE = 103,  /* the profile is no mls_profile */
     MLS_BAD_RECEIPTS = 104,         /* the length of the receipts is no multiple of 32 */
-    MLS_TOO_LONG = 105,             /* the state has no file: it would have more than 268,435,456 bytes, or the follower has
-                                       strict rules */
+    MLS_TOO_LONG = 105,             /* the state has no file: it would have more than 268,435,456 bytes */
     MLS_INFO_UNREADABLE = 106,      /* the GroupInfo is no message: inner is an mls_decode_fault, place the offset */
     MLS_NOT_GROUP_INFO = 107,       /* the message is no GroupInfo */
     MLS_TREE_UNREADABLE = 108,      /* the tree is no ratchet_tree: inner is an mls_decode_fault, place the offset or index */
@@ -115,8 +114,8 @@ enum mls_start_fault {
 };
 
 /*
- * Why no follower resumes from a state: the first that applies. From 10 on: why strict rules cannot be added to those of a
- * follower (mls_follower_make_strict).
+ * Why no follower resumes from a state: the first that applies, where 12 comes before 10 and 11. 10 and 11 are also why
+ * strict rules cannot be added to those of a follower (mls_follower_make_strict).
  */
 enum mls_resume_fault {
     MLS_RESUME_UNREADABLE = 1,              /* inner is an mls_decode_fault, place the offset or index */
@@ -127,12 +126,16 @@ enum mls_resume_fault {
     MLS_RESUME_TREE = 6,                    /* inner is an mls_tree_fault, place the node index */
     MLS_RESUME_MEMBER = 7,                  /* inner is an mls_member_fault, place the leaf index */
     MLS_RESUME_INTERIM_LENGTH = 8,          /* the interim transcript hash has not the length of the suite's hashes (8.2) */
-    MLS_RESUME_KNOWN_INVALID = 9,           /* place is the number of the pending proposal, from 0 on */
-    MLS_RESUME_STRICT = 10,                 /* the GroupContext or the tree does not meet one: inner is the first of them,
-                                               an mls_refusal from 40 on, place the node index, or 2^64 - 1 if it is no
-                                               node that does not meet it */
-    MLS_RESUME_KNOWN_STRICT = 11            /* a pending proposal does not meet one: place is the number of the first
-                                               such proposal, from 0 on */
+    MLS_RESUME_KNOWN_INVALID = 9,           /* a pending proposal is none that a follower in this state, with those before
+                                               it, accepts, its signature included: place is its number, from 0 on */
+    MLS_RESUME_STRICT = 10,                 /* the GroupContext or the tree does not meet a strict rule: inner is the first
+                                               of them, an mls_refusal from 40 on, place the node index, or 2^64 - 1 if it
+                                               is no node that does not meet it */
+    MLS_RESUME_KNOWN_STRICT = 11,           /* a pending proposal does not meet a strict rule: place is the number of the
+                                               first such proposal, from 0 on */
+    MLS_RESUME_ADDED_INVALID = 12           /* a KeyPackageRef of those that the last commit added has not the length of
+                                               the suite's hashes (5.2), or there are no more members than its number:
+                                               place is this number, from 0 on */
 };
 
 /* Why a tree is not valid (RFC 9420, 7.8, 7.9.2 and 12.4.3.1). */
@@ -295,6 +298,20 @@ mls_verdict mls_start_query(const uint8_t *info, size_t info_len, const uint8_t 
                             size_t *needed);
 
 /*
+ * Lists the signatures of a resumption from a state (mls_follower_state) that have no receipt: that of each leaf node, then
+ * of each pending proposal that of its message, of an Add those of the leaf node and the KeyPackage, and of an Update that of
+ * the leaf node. They are listed, as records (mls_start_query), if a follower resumes once each of them is good. Otherwise
+ * the verdict is that of such a resumption. The state names the profile and the strict rules.
+ *
+ * Without receipts (MLS_EMPTY) all of them are listed. So a caller that has lost its receipts, or does not trust who kept
+ * them, verifies each signature again.
+ *
+ * Returns 0, or an mls_resume_fault, or MLS_BAD_RECEIPTS, MLS_BUFFER_TOO_SMALL, MLS_OUT_OF_MEMORY.
+ */
+mls_verdict mls_resume_query(const uint8_t *state, size_t state_len, const uint8_t *receipts, size_t receipts_len,
+                             uint8_t *records, size_t records_len, size_t *needed);
+
+/*
  * Starts a follower with this mls_profile from a GroupInfo (RFC 9420, 12.4.3) and a tree, by these receipts, and puts it
  * into the handle. The follower accepts exactly the signatures that have a receipt. `tree` of length 0 is none: the tree is
  * then the one in the GroupInfo.
@@ -315,8 +332,6 @@ mls_verdict mls_follower_start(const uint8_t *info, size_t info_len, const uint8
  * by MLS_RULES_STRICT. The GroupInfo and the tree have to meet the strict rules too: this is the last condition of a start,
  * and MLS_START_STRICT its fault. If none starts, the handle is unchanged.
  *
- * A follower with strict rules has no state file in this version (mls_follower_state).
- *
  * Returns 0, or an mls_start_fault, or MLS_UNSUPPORTED_PROFILE, MLS_UNSUPPORTED_RULES, MLS_BAD_RECEIPTS,
  * MLS_INFO_UNREADABLE, MLS_NOT_GROUP_INFO, MLS_TREE_UNREADABLE, MLS_OUT_OF_MEMORY. The profile is checked before the rules,
  * and the rules before the receipts.
@@ -327,14 +342,14 @@ mls_verdict mls_follower_start_by(const uint8_t *info, size_t info_len, const ui
 
 /*
  * Resumes a follower from a state (mls_follower_state), by these receipts, and puts it into the handle, as
- * mls_follower_start does. A state names the profile of its follower: `profile` has to be this one. The follower has no
- * strict rules; mls_follower_make_strict adds some.
+ * mls_follower_start does. A state names the profile of its follower: `profile` has to be this one. The follower has the
+ * strict rules of the state, whatever they are; mls_follower_make_strict adds others.
  *
- * Whoever wrote the state, the follower's tree is valid and its pending proposals satisfy their rules. That the transcript
- * hash and the pending proposals are those of the group rests on who stored the state.
+ * Whoever wrote the state, the follower's tree is valid, and its pending proposals satisfy their rules and are signed by
+ * their senders. That the GroupContext, the tree and the transcript hash are those of the group, and that the pending
+ * proposals are those that were accepted, in this order, rests on who stored the state.
  *
- * Returns 0, or an mls_resume_fault below 10, or MLS_UNSUPPORTED_PROFILE, MLS_OTHER_PROFILE, MLS_BAD_RECEIPTS,
- * MLS_OUT_OF_MEMORY.
+ * Returns 0, or an mls_resume_fault, or MLS_UNSUPPORTED_PROFILE, MLS_OTHER_PROFILE, MLS_BAD_RECEIPTS, MLS_OUT_OF_MEMORY.
  */
 mls_verdict mls_follower_resume(const uint8_t *state, size_t state_len, const uint8_t *receipts, size_t receipts_len,
                                 uint32_t profile, mls_follower *follower);
@@ -360,7 +375,7 @@ uint32_t mls_follower_rules(mls_follower *follower, uint16_t *rules);
 /*
  * Adds the strict rules of the set `rules` to those of the follower. Only those that it lacks are checked, and none is taken
  * away. The GroupContext and the tree have to meet them, and then each pending proposal. Otherwise the follower is
- * unchanged. With strict rules it has no state file in this version (mls_follower_state).
+ * unchanged.
  *
  * Returns 0, or MLS_RESUME_STRICT or MLS_RESUME_KNOWN_STRICT, or MLS_UNSUPPORTED_RULES, MLS_NO_FOLLOWER,
  * MLS_OUT_OF_MEMORY. The rules are checked before the handle.
@@ -408,8 +423,8 @@ mls_judgement mls_follower_judge(mls_follower *follower, const uint8_t *message,
                                  size_t reference_len);
 
 /*
- * Writes the state as a file (docs/FORMATS.md), from which mls_follower_resume resumes. The receipts are no part of it. A
- * follower with strict rules has no file in this version: the number is MLS_TOO_LONG, as for a state that is too long.
+ * Writes the state as a file (docs/FORMATS.md), from which mls_follower_resume resumes. It has the profile, the strict rules,
+ * and what was signed of each pending proposal. The receipts are no part of it: mls_resume_query lists those that it needs.
  *
  * Returns 0, or MLS_NO_FOLLOWER, MLS_TOO_LONG, MLS_BUFFER_TOO_SMALL, MLS_OUT_OF_MEMORY.
  */

@@ -8,11 +8,11 @@ import collections
 
 import strict
 import tree as trees
-from layouts import (ADD, APPLICATION_USE, BY_REFERENCE, BYTES, COMMIT, CREDENTIAL, EXTENSIONS_CHANGE, EXTERNAL,
-                     EXTERNAL_INIT, EXTERNAL_SENDERS, first_of, FramedContent, GroupContext, GroupInfo, IS_APPLICATION,
-                     IS_COMMIT, IS_PROPOSAL, KEY_PACKAGE, KeyPackage, LeafNode, MEMBER, Message, NEW_COMMITTER,
-                     NEW_PROPOSER, PSK, PUBLIC, REINIT, REMOVE, REPLACE, Requirements, RESUMPTION_PSK, U16, U32,
-                     Unreadable, UPDATE, whole)
+from layouts import (ADD, APPLICATION_USE, AuthenticatedContent, BY_REFERENCE, BYTES, COMMIT, CREDENTIAL, EXTENSIONS_CHANGE,
+                     EXTERNAL, EXTERNAL_INIT, EXTERNAL_SENDERS, first_of, FramedContent, GroupContext, GroupInfo,
+                     IS_APPLICATION, IS_COMMIT, IS_PROPOSAL, KEY_PACKAGE, KeyPackage, LeafNode, MEMBER, Message,
+                     NEW_COMMITTER, NEW_PROPOSER, PSK, PUBLIC, PublicMessage, REINIT, REMOVE, REPLACE, Requirements,
+                     RESUMPTION_PSK, U16, U32, Unreadable, UPDATE, whole)
 
 NAMES = """Malformed NotPublic WrongGroup WrongEpoch SenderNotMember NotHandshake BadSignature KnownProposal AddInvalid
     UpdateInvalid RemoveInvalid LastEpoch UnknownReference UpdateByCommitter RemovesCommitter SameLeafTwice PathMissing
@@ -24,9 +24,10 @@ MEMBER_NAMES = "ExtensionUnlisted RequirementUnmet CredentialUnsupported Signatu
 LAST_EPOCH = 2**64 - 1
 MOST_LEAVES = 2**20
 
-# What a follower knows. A pending proposal is its reference, its sender and itself.
-State = collections.namedtuple("State", "context tree interim pending ended")
-Pending = collections.namedtuple("Pending", "reference sender proposal")
+# What a follower knows. A pending proposal is its reference, its sender, itself, and what else of its message the signature
+# needs. `added` are the KeyPackageRefs of the Adds of the last commit, None before the first one.
+State = collections.namedtuple("State", "context tree interim pending ended added")
+Pending = collections.namedtuple("Pending", "reference sender proposal authenticated_data signature")
 
 # A proposal of a list, with who sent it and whether the commit includes it by value.
 Item = collections.namedtuple("Item", "sender proposal by_value")
@@ -92,9 +93,24 @@ def framed_content(framed, context):
     return sign_content(b"FramedContentTBS", body)
 
 
+def ref_hash(suite, label, body):
+    return trees.digest(suite, BYTES.write(b"MLS 1.0 " + label) + BYTES.write(body))
+
+
 def reference_of(suite, message):
-    body = U16.write(PUBLIC) + FramedContent.write(message.framed) + BYTES.write(message.signature)
-    return trees.digest(suite, BYTES.write(b"MLS 1.0 Proposal Reference") + BYTES.write(body))
+    content = AuthenticatedContent(PUBLIC, message.framed, message.signature, None)
+    return ref_hash(suite, b"Proposal Reference", AuthenticatedContent.write(content))
+
+
+def package_reference(package):
+    return ref_hash(package.suite, b"KeyPackage Reference", KeyPackage.write(package))
+
+
+def content_of(context, pending):
+    """The AuthenticatedContent of a pending proposal, which was sent in the group and the epoch of the context."""
+    framed = FramedContent(context.group_id, context.epoch, pending.sender, pending.authenticated_data,
+                           (IS_PROPOSAL, pending.proposal))
+    return AuthenticatedContent(PUBLIC, framed, pending.signature, None)
 
 
 def interim_hash(suite, confirmed, confirmation_tag):
@@ -182,6 +198,13 @@ def is_join_list(entries):
     return set(kinds) <= {EXTERNAL_INIT, REMOVE, PSK} and kinds.count(EXTERNAL_INIT) == 1 and kinds.count(REMOVE) <= 1
 
 
+def message_of(content):
+    """The bytes of a PublicMessage of an AuthenticatedContent. Which membership tag it has makes no difference here."""
+    tag = b"" if content.framed.sender[0] == MEMBER else None
+    public = PublicMessage(content.framed, content.signature, content.confirmation_tag, tag)
+    return Message.write(Message(1, (PUBLIC, public)))
+
+
 class Follower:
     """The rules. `good` says whether a signature over a content is good under a key. `rules` are the strict rules."""
 
@@ -209,7 +232,7 @@ class Follower:
 
     def start(self, context, tree, confirmation_tag):
         interim = interim_hash(context.suite, context.confirmed, confirmation_tag)
-        return State(context, tree, interim, (), False)
+        return State(context, tree, interim, (), False, None)
 
     def take(self, state, data):
         message = self.read(data)
@@ -293,7 +316,8 @@ class Follower:
         sender = message.framed.sender
         for rule in (9, 10, 11, 27, 31, 32, 33):
             self.check_proposal(rule, state, sender, proposal)
-        return state._replace(pending=state.pending + (Pending(reference, sender, proposal),))
+        accepted = Pending(reference, sender, proposal, message.framed.authenticated_data, message.signature)
+        return state._replace(pending=state.pending + (accepted,))
 
     def check_proposal(self, rule, state, sender, proposal):
         """The rule for a type of proposal, which holds for the other types."""
@@ -416,7 +440,9 @@ class Follower:
         context = context._replace(epoch=context.epoch + 1, tree_hash=trees.tree_hash(context.suite, tree),
                                    confirmed=confirmed)
         ended = any(item.proposal[0] == REINIT for item in items)
-        return State(context, tree, interim_hash(context.suite, confirmed, message.confirmation_tag), (), ended)
+        added = tuple(package_reference(item.proposal[1]) for item in items if item.proposal[0] == ADD)
+        interim = interim_hash(context.suite, confirmed, message.confirmation_tag)
+        return State(context, tree, interim, (), ended, added)
 
 
 def line_of(former, state):

@@ -1,7 +1,8 @@
-"""The layouts of RFC 9420 that a follower reads, for follower.py: each reads and writes its values.
+"""The layouts of RFC 9420 that a follower reads, for follower.py, and that of a state file (docs/FORMATS.md): each reads and
+writes its values.
 
 A structure is a named tuple. A choice is a pair of its tag and the value after the tag. A vector `<V>` is bytes, a
-list in a vector a tuple. What cannot be read raises Unreadable.
+list in a vector a tuple. What cannot be read raises Unreadable, with the words for the first fault.
 """
 import collections
 
@@ -9,7 +10,11 @@ LIMIT = 2**30
 
 
 class Unreadable(Exception):
-    pass
+    """The kind of the fault, the tag if it is one, and the number of bytes before what is wrong."""
+
+    def __init__(self, *words):
+        super().__init__(*words)
+        self.words = " ".join(str(word) for word in words)
 
 
 class Reader:
@@ -22,26 +27,30 @@ class Reader:
 
     def take(self, count):
         if self.end - self.at < count:
-            raise Unreadable
+            raise Unreadable("Truncated", self.at)
         self.at += count
         return self.data[self.at - count:self.at]
 
     def part(self):
         """A reader of the body of a vector, whose length must be in its shortest form (2.1.2)."""
-        first = self.take(1)[0]
+        at, first = self.at, self.take(1)[0]
         width = 1 << (first >> 6)
         if width == 8:
-            raise Unreadable
+            raise Unreadable("BadPrefix", at)
+        if self.end - at < width:
+            raise Unreadable("Truncated", at)
         size = int.from_bytes(bytes([first & 63]) + self.take(width - 1), "big")
         if size < {1: 0, 2: 64, 4: 16_384}[width]:
-            raise Unreadable
+            raise Unreadable("NotShortest", at)
+        if self.end - self.at < size:
+            raise Unreadable("Truncated", at)
         start = self.at
         self.take(size)
         return Reader(self.data, start, self.at)
 
     def done(self):
         if self.at != self.end:
-            raise Unreadable
+            raise Unreadable("Trailing", self.at)
 
 
 class Number:
@@ -52,9 +61,9 @@ class Number:
         self.among = among
 
     def read(self, reader):
-        value = int.from_bytes(reader.take(self.size), "big")
+        at, value = reader.at, int.from_bytes(reader.take(self.size), "big")
         if self.among and value not in self.among:
-            raise Unreadable
+            raise Unreadable("BadTag", value, at)
         return value
 
     def write(self, value):
@@ -101,7 +110,10 @@ class Maybe:
         self.item = item
 
     def read(self, reader):
-        return self.item.read(reader) if Number(1, (0, 1)).read(reader) else None
+        at, present = reader.at, U8.read(reader)
+        if present > 1:
+            raise Unreadable("BadOptional", at)
+        return self.item.read(reader) if present else None
 
     def write(self, value):
         return b"\x00" if value is None else b"\x01" + self.item.write(value)
@@ -209,6 +221,39 @@ class PublicMessages:
         return FramedContent.write(value.framed) + BYTES.write(value.signature) + b"".join(tags)
 
 
+class AuthenticatedContents:
+    """An AuthenticatedContent (6). A confirmation tag that is not there is None."""
+
+    make = collections.namedtuple("AuthenticatedContent", "wire_format framed signature confirmation_tag")
+
+    def __call__(self, *values):
+        return self.make(*values)
+
+    def read(self, reader):
+        wire_format, framed, signature = WIRE_FORMAT.read(reader), FramedContent.read(reader), BYTES.read(reader)
+        return self.make(wire_format, framed, signature, BYTES.read(reader) if framed.content[0] == IS_COMMIT else None)
+
+    def write(self, value):
+        tag = b"" if value.confirmation_tag is None else BYTES.write(value.confirmation_tag)
+        return WIRE_FORMAT.write(value.wire_format) + FramedContent.write(value.framed) + BYTES.write(value.signature) + tag
+
+
+class Modes:
+    """A profile, and whether the group is over, which no group of the members' profile is."""
+
+    make = collections.namedtuple("Mode", "full ended")
+
+    def __call__(self, *values):
+        return self.make(*values)
+
+    def read(self, reader):
+        full = Number(1, (1, 2)).read(reader) == 2
+        return self.make(full, Number(1, (0, 1) if full else (0,)).read(reader) == 1)
+
+    def write(self, value):
+        return U8.write(2 if value.full else 1) + U8.write(value.ended)
+
+
 class Rest:
     """All the bytes that are left: a body that is not read."""
 
@@ -223,6 +268,13 @@ PublicMessage = PublicMessages()
 PUBLIC, PRIVATE, WELCOME, GROUP_INFO, PACKAGE = 1, 2, 3, 4, 5
 BODIES = Choice(2, _1=PublicMessage, _2=Rest(), _3=Rest(), _4=GroupInfo, _5=KeyPackage)
 Message = Record("Message", version=Number(2, (1,)), body=BODIES)
+
+WIRE_FORMAT = Number(2, (1, 2))
+AuthenticatedContent = AuthenticatedContents()
+Mode = Modes()
+FollowerState = Record("FollowerState", mode=Mode, rules=Number(2, range(2**13)), context=GroupContext, interim=BYTES,
+                       tree=BYTES, known=Many(AuthenticatedContent), added=Maybe(Many(BYTES)))
+StateFile = Record("StateFile", version=Number(2, (2,)), checksum=BYTES, state=FollowerState)
 
 
 def first_of(kind, extensions):

@@ -5,14 +5,16 @@ import random
 # These two put their faults into FAULTS.
 import commit_faults
 import message_faults
+import signatures
 import strict
 import tree as trees
 from faults import FAULTS
 from layouts import (ADD, BY_VALUE, EXTENSIONS_CHANGE, EXTERNAL, EXTERNAL_INIT, GroupContext, IS_COMMIT, IS_PROPOSAL,
                      MEMBER, Message, NEW_COMMITTER, NEW_PROPOSER, PSK, PUBLIC, REINIT, REMOVE, REPLACE, Unreadable,
                      whole)
-from follower import Follower, Item, Refused, StrictRefused, line_of, reference_of, refusal_line
+from follower import Follower, Item, Refused, StrictRefused, content_of, line_of, message_of, reference_of, refusal_line
 from random_messages import Maker
+from stored_states import NotResumed, content_of_state, file_of, file_with, resumed
 from strict_messages import StrictMaker
 
 SENDERS = {MEMBER: "member", EXTERNAL: "external sender", NEW_PROPOSER: "new member", NEW_COMMITTER: "joining client"}
@@ -35,6 +37,12 @@ Case = collections.namedtuple("Case", "maker follower state info tree steps rule
 
 class Mismatch(Exception):
     pass
+
+
+def cut_of(case):
+    """Where the log is cut in two, and the state there."""
+    cut = len(case.steps) // 2
+    return cut, case.steps[cut].before
 
 
 def new_group(chosen, full, make):
@@ -254,3 +262,44 @@ def check_step(plain, follower, step):
         plain.made_strict(step.after, follower.rules)
     except StrictRefused as fault:
         raise Mismatch(f"after {step.answer} the state does not meet {fault.rule} at {fault.place}") from fault
+
+
+# ---- resumptions
+
+def check_resumption(case):
+    """The state where the log is cut is resumed from its file as the same state, by the signatures that are listed and by no
+    fewer. Without that of a pending proposal's content it is refused as 9 at this proposal, and so it is if the content is
+    changed."""
+    follower, (_, state) = case.follower, cut_of(case)
+    listed, file = signatures.of_state(state, follower.full), file_of(follower, state)
+    again, found = resumed_by(listed, file)
+    if found != state or again.rules != follower.rules or again.full != follower.full:
+        raise Mismatch(f"resumed is {found} by {again and again.rules}, not {state} by {follower.rules}")
+    for left_out in case.maker.chosen.sample(listed, min(3, len(listed))):
+        if resumed_by([each for each in listed if each != left_out], file)[0]:
+            raise Mismatch("the state is resumed without a signature that is listed")
+    for position, pending in enumerate(state.pending):
+        own = signatures.of_message(state, follower.full, message_of(content_of(state.context, pending)))[0]
+        words = f"refused 9 KnownInvalid {position}"
+        without = resumed_by([each for each in listed if each != own], file)
+        changed = resumed_by(listed, with_other_data(follower, state, position))
+        if without != (None, words) or changed != (None, words):
+            raise Mismatch(f"wanted {words}, found {without} without the signature, and {changed} with other data")
+
+
+def resumed_by(good, file):
+    """The follower and the state, or None and why there is none."""
+    good = set(good)
+    try:
+        return resumed(lambda *signature: signature in good, file)
+    except NotResumed as fault:
+        return None, str(fault)
+
+
+def with_other_data(follower, state, position):
+    """The file with other authenticated data of a pending proposal."""
+    content = content_of_state(follower, state)
+    entry = content.known[position]
+    framed = entry.framed._replace(authenticated_data=entry.framed.authenticated_data + b"x")
+    known = content.known[:position] + (entry._replace(framed=framed),) + content.known[position + 1:]
+    return file_with(content._replace(known=known))

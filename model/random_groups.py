@@ -19,12 +19,16 @@ follows from its followers without strict rules and with each rule alone.
 
 For each group the program must print what follower.py and signatures.py give:
 
-- `replay`, also of the log in two parts, the second from the state that the first stores
+- `replay`, also of the log in two parts, the second from the file that the first stores, which has to be the model's
 - `gate`, which is sent the receipts of the good signatures that it lists, message by message
 - `signatures`
+- `gate`, `signatures` and `validate` from that file, also without the receipt of a signature of each pending proposal
 - `validate`, on the model's GroupInfo and tree of each epoch that a commit begins, and on a start that does not meet
   the strict rules
 - `replay` and `validate` from the file of the plain state at the start, to which the strict rules are added
+
+Of each group the model's state in the middle of the log is stored and resumed: as the same state, by the signatures that are
+listed, and by no fewer.
 
 The script ends with 1 if a group differs, and keeps the folder of that group.
 """
@@ -42,8 +46,9 @@ import signatures
 import strict
 import tree as trees
 from layouts import BYTES, Message, U16, whole
-from follower import Follower, Refused, short
-from random_cases import Mismatch, answer, kind_of, make_case
+from follower import Follower, Refused, content_of, message_of, short
+from random_cases import Mismatch, answer, check_resumption, cut_of, kind_of, make_case
+from stored_states import file_of
 
 
 def write(folder, name, body):
@@ -97,20 +102,53 @@ class Runs:
             self.compare([line], "validate", *self.files, *strict_words(case.rules), *self.trust())
 
     def replays(self):
-        """The whole log, then its two parts. A follower with strict rules has no state file: the whole log again, from the
-        file of the plain state at the start, to which the rules are added."""
+        """The whole log, then its two parts, the second from the file that the first stores. Of a follower with strict rules
+        also from the file of the plain state at the start, to which the rules are added."""
         steps, trust = self.case.steps, self.trust()
         log = write(self.folder, "log", log_of(steps))
         self.compare(replay_lines(steps), "replay", *self.start, "--log", log, *trust)
-        if self.case.follower.rules:
-            self.additions(log)
-            return
-        cut = len(steps) // 2
+        cut, stored = cut_of(self.case)
         first = write(self.folder, "first", log_of(steps[:cut]))
         second = write(self.folder, "second", log_of(steps[cut:]))
-        state = os.path.join(self.folder, "state")
-        self.compare(replay_lines(steps[:cut]), "replay", *self.start, "--log", first, "--save", state, *trust)
+        state = self.state_file()
+        if cut:
+            self.compare(replay_lines(steps[:cut]), "replay", *self.start, "--log", first, "--save", state, *trust)
+            self.compare_file(state, file_of(self.case.follower, stored))
         self.compare(replay_lines(steps[cut:]), "replay", "--state", state, "--log", second, *trust)
+        if self.case.follower.rules:
+            self.additions(log)
+
+    def state_file(self):
+        """The model's file of the state in the middle of the log."""
+        return write(self.folder, "state", file_of(self.case.follower, cut_of(self.case)[1]))
+
+    def compare_file(self, path, wanted):
+        with open(path, "rb") as file:
+            found = file.read()
+        if found != wanted:
+            raise Mismatch(f"wanted the file {wanted.hex()}, found {found.hex()} (in {self.folder})")
+
+    def resumptions(self):
+        """From the file of the state in the middle of the log: its signatures, the gate with them, and, without that of a
+        pending proposal's content, the refusal."""
+        case, suite, state = self.case, self.case.maker.suite, self.state_file()
+        _, stored = cut_of(case)
+        listed = signatures.of_state(stored, case.follower.full)
+        lines = [signature_line(suite, each) for each in listed]
+        self.compare(lines, "signatures", "--state", state)
+        context, members = stored.context, len(trees.members(stored.tree))
+        receipts = [receipt(suite, each) for each in listed]
+        sent = [b"r" + bytes.fromhex("".join(receipts)), b"b", b"s"]
+        wanted = [f"verify {line}" for line in lines] + [f"queried {len(lines)}"]
+        wanted.append(f"ready epoch {context.epoch} members {members} tree {context.tree_hash.hex()}")
+        wanted.append(f"state {file_of(case.follower, stored).hex()}")
+        self.compare(wanted, "gate", "--state", state, sent=b"".join(BYTES.write(record) for record in sent))
+        for position, pending in enumerate(stored.pending):
+            own = signatures.of_message(stored, case.follower.full, message_of(content_of(context, pending)))[0]
+            others = [each for each in receipts if each != receipt(suite, own)]
+            file = write(self.folder, "others", "".join(line + "\n" for line in others).encode())
+            line = f"state refused 9 KnownInvalid {position}"
+            self.compare([line], "validate", "--state", state, "--receipts", file)
 
     def additions(self, log):
         """From the file of the plain state at the start: the log by the rules that it meets, and the start by all."""
@@ -228,9 +266,10 @@ def run(program, seed, number, count, is_strict):
             words = step.answer.split()
             answers[kind_of(step.message), "accepted" if words[0] == "accepted" else int(words[1])] += 1
             answers["epochs"] += step.answer.startswith("accepted commit")
+        check_resumption(case)
         if program:
             runs = Runs(program, folder, case)
-            for each in (runs.starts, runs.replays, runs.gate, runs.signatures, runs.epochs):
+            for each in (runs.starts, runs.replays, runs.gate, runs.signatures, runs.resumptions, runs.epochs):
                 each()
     except Mismatch as differs:
         return f"group {number}: {differs}", answers

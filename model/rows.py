@@ -126,12 +126,28 @@ def wanted_answer(text, names):
     return " ".join(words)
 
 
+def added_text(state):
+    """The KeyPackageRefs of those that the last commit added."""
+    return "none" if state.added is None else " ".join(reference.hex() for reference in state.added)
+
+
+def added_words(text, names):
+    """The same, as a row has it."""
+    found, text = [], text.strip()
+    while text and text != "none":
+        word = first_word(text)
+        found.append(value_of(word, names).hex())
+        text = text[len(word):].strip()
+    return text or " ".join(found)
+
+
 def agrees(line, names):
     """Whether the model gives the result of a story."""
     row, result = line.split("=", 1)
     answers, state = told(row.split("|"), names)
     result, _, at_end = result.partition("/ state")
     result, _, nodes = result.partition("/ tree")
+    result, is_added, references = result.partition("/ added")
     wanted = [wanted_answer(part, names) for part in result.split("/") if part.strip()]
     ends = True
     if at_end.strip():
@@ -139,6 +155,8 @@ def agrees(line, names):
         ends = value_of(re.split(" of | ended", at_end)[0], names)[:len(known)] == known
     if nodes.strip():
         ends = value_of(first_word(nodes), names) == state.context.tree_hash
+    if is_added:
+        ends = added_words(references, names) == added_text(state)
     return ends and answers[len(answers) - len(wanted):] == wanted
 
 

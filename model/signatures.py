@@ -1,11 +1,12 @@
-"""Which signatures of a start and of messages have to be verified, by the text of docs/FORMATS.md, for
-random_groups.py.
+"""Which signatures of a start, of a resumption and of messages have to be verified, by the text of docs/FORMATS.md, for
+random_groups.py and run_rows.py.
 
 A signature is its key, its SignContent and itself. None depends on whether others are good.
 """
 import tree as trees
 from layouts import ADD, BY_REFERENCE, IS_PROPOSAL, MEMBER, REPLACE
-from follower import Follower, Item, Refused, applied, info_content, is_join_list, leaf_content, package_content
+from follower import (Follower, Item, Refused, applied, content_of, info_content, is_join_list, leaf_content, message_of,
+                      package_content)
 
 
 def without_repeats(signatures):
@@ -19,8 +20,19 @@ def of_leaf(leaf, group_id, index):
 def of_start(info, tree):
     """That of the GroupInfo, then those of the leaves."""
     key = trees.leaf(tree, info.signer).signature_key
-    leaves = [of_leaf(trees.leaf(tree, index), info.context.group_id, index) for index in trees.members(tree)]
-    return without_repeats([(key, info_content(info), info.signature), *leaves])
+    return without_repeats([(key, info_content(info), info.signature), *of_leaves(info.context, tree)])
+
+
+def of_leaves(context, tree):
+    return [of_leaf(trees.leaf(tree, index), context.group_id, index) for index in trees.members(tree)]
+
+
+def of_state(state, full):
+    """Those of the leaves, then those of the message of each pending proposal."""
+    found = of_leaves(state.context, state.tree)
+    for pending in state.pending:
+        found += of_message(state, full, message_of(content_of(state.context, pending)))
+    return without_repeats(found)
 
 
 def of_proposal(group_id, sender, proposal):

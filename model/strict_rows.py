@@ -3,7 +3,8 @@
 
     strict_rows.py
 
-It reads the rows of keys and of commands in crates/mls_rows/data: keys.rows, points.rows, certificates.rows and strict.rows.
+It reads the rows of keys, of commands and of state files in crates/mls_rows/data: keys.rows, points.rows, certificates.rows and
+strict.rows.
 From the files strict_trees.rt and added_rules.rt of crates/mls_library_tests it reads the tables of examples and of their
 results, and does with a table what its test does. It prints each example that has another result, and how many have the
 one that is written there.
@@ -18,6 +19,7 @@ import tree as trees
 from layouts import BYTES, EXTENSIONS, first_of, GroupContext, Message, whole
 from follower import Follower, StrictRefused
 from rows import DATA, entries, tree_of, value_of
+from stored_states import bits_of, rules_of
 
 TESTS = os.path.join(os.path.dirname(os.path.abspath(__file__)), "..", "crates", "mls_library_tests", "src")
 TRUST = lambda *_: True
@@ -115,10 +117,6 @@ def fault_text(fault):
     return str(fault.rule) if fault.place is None else f"{fault.rule} at {fault.place}"
 
 
-def rules_of(bits):
-    return frozenset(rule for rule in strict.ALL if bits >> (rule - 40) & 1)
-
-
 def start_with(leaf, *changes):
     """The GroupInfo of the group of one leaf, with changes."""
     tree_hash = hash_of(1, "010000000001 " + leaf)
@@ -158,7 +156,7 @@ def key_result(kind, suite, key):
 
 
 def program(examples):
-    """The rows of strict.rows, which are commands."""
+    """The rows of strict.rows: commands and state files."""
     for where, line, names in rows_of("strict"):
         examples.compare(where, *run_rows.agree(line, names))
 
@@ -192,7 +190,7 @@ def added_rules(examples):
         for more, wanted in sets:
             try:
                 follower = follower.made_strict(state, rules_of(more))
-                found = f"{sum(1 << rule - 40 for rule in follower.rules):x}"
+                found = f"{bits_of(follower.rules):x}"
             except StrictRefused as fault:
                 found = f"group {fault_text(fault)}" if fault.rule else f"known {fault.place}"
             examples.compare((bits, more), wanted, found)

@@ -1,7 +1,8 @@
 #!/bin/sh
 # Drives the live gate over the real group of this folder, with true signatures: each message is first sent forged, and has to
-# be refused, and then as it is. The answers to these have to be those of `replay`. Run it by hand, from anywhere: neither
-# `rt ci` nor any test runs it. It needs Debian's python3-cryptography.
+# be refused, and then as it is. The answers to these have to be those of `replay`. Then the same is done in two parts, the
+# second from the state that the first stores. Run it by hand, from anywhere: neither `rt ci` nor any test runs it. It needs
+# Debian's python3-cryptography.
 set -eu
 
 cd -- "$(dirname -- "$0")/.."
@@ -21,3 +22,22 @@ cmp "$made/answers" "$made/wanted"
 cmp "$made/gate" "$made/plain"
 grep -q '^ready epoch 1 members 2 tree ' "$made/gate"
 echo "the gate answers $(wc -l <"$made/answers") messages as replay does, and refuses each of them forged"
+
+# The same from the state after the first four messages, the last of which is a proposal that is pending then.
+python3 - "$made" "$log" <<'EOF_PYTHON'
+import sys
+
+sys.path.insert(0, "examples")
+from gate import record, records
+
+folder, log = sys.argv[1:]
+messages = [record(body) for body in records(open(log, "rb").read())]
+for name, part in (("front", messages[:4]), ("back", messages[4:])):
+    with open(f"{folder}/{name}.log", "wb") as file:
+        file.write(b"".join(part))
+EOF_PYTHON
+examples/gate.py --info "$info" --log "$made/front.log" --save "$made/group.state" >"$made/front"
+examples/gate.py --forge --state "$made/group.state" --log "$made/back.log" >"$made/back"
+{ sed 1d "$made/front"; sed 1d "$made/back"; } >"$made/answers"
+cmp "$made/answers" "$made/wanted"
+echo "the gate answers them so too if its state is stored and resumed with a pending proposal"

@@ -29,9 +29,11 @@ type Signature struct {
 	Key, Content, Signature []byte
 }
 
-// Refused says why a call on a group's inputs has no result. If Number is 9 of a start or a tree, or 10 of MakeStrict, a
-// strict rule is not met: Inner is its number, and Place the node index, or 2^64 - 1 if it is no node that does not meet it.
-// If Number is 11 of MakeStrict, Place is the number of the pending proposal that does not meet one, from 0 on.
+// Refused says why a call on a group's inputs has no result. If Number is 9 of a start or a tree, or 10 of MakeStrict or a
+// resumption, a strict rule is not met: Inner is its number, and Place the node index, or 2^64 - 1 if it is no node that does
+// not meet it. If Number is 11 of MakeStrict or a resumption, Place is the number of the pending proposal that does not meet
+// one, from 0 on. If Number is 9 of a resumption, Place is the number of the pending proposal that is not valid or has no
+// receipt, and if it is 12, that of the KeyPackageRef of the last commit that is not valid.
 type Refused struct {
 	Number, Inner uint32
 	Place         uint64
@@ -188,6 +190,16 @@ func StartQuery(info, tree []byte, receipts [][32]byte) ([]Signature, error) {
 	return signatures(records), err
 }
 
+// ResumeQuery returns the signatures of a resumption from a state that have no receipt: those of the leaf nodes and of the
+// pending proposals. The state names the profile and the strict rules.
+func ResumeQuery(state []byte, receipts [][32]byte) ([]Signature, error) {
+	good := joined(receipts)
+	records, err := filledOrRefused(func(buffer []byte, needed *C.size_t) C.mls_verdict {
+		return C.mls_resume_query(at(state), size(state), at(good), size(good), at(buffer), size(buffer), needed)
+	})
+	return signatures(records), err
+}
+
 // A Profile says in which handshakes a group is followed.
 type Profile uint32
 
@@ -235,7 +247,8 @@ func Resume(state []byte, receipts [][32]byte) (*Follower, error) {
 	return ResumeIn(Members, state, receipts)
 }
 
-// ResumeIn resumes a follower from a state of this profile, by these receipts. It has no strict rules. Close frees it.
+// ResumeIn resumes a follower from a state of this profile, by these receipts, with the strict rules of the state. Close
+// frees it.
 func ResumeIn(profile Profile, state []byte, receipts [][32]byte) (*Follower, error) {
 	f, good := new(Follower), joined(receipts)
 	return begun(f, C.mls_follower_resume(at(state), size(state), at(good), size(good), C.uint32_t(profile), &f.handle))
@@ -292,8 +305,7 @@ func (f *Follower) ConfirmedHash() ([]byte, error) {
 	})
 }
 
-// State returns the state as a file, from which Resume resumes. A follower with strict rules has none: the error is a Fault
-// of 105.
+// State returns the state as a file, from which Resume resumes. It has the strict rules, and no receipts.
 func (f *Follower) State() ([]byte, error) {
 	return filled(func(state []byte, needed *C.size_t) uint32 {
 		return uint32(C.mls_follower_state(&f.handle, at(state), size(state), needed))

@@ -127,6 +127,57 @@ func expect(t *testing.T, err, expected error) {
 	}
 }
 
+// Resumes from a state with three leaf nodes and a pending Remove proposal, by true signatures.
+func TestStateSignatures(t *testing.T) {
+	info := file(t, "real/epoch-1.info")
+	wanted, _ := StartQuery(info, nil, nil)
+	group, err := Start(info, nil, verified(wanted))
+	if err != nil {
+		t.Fatal(err)
+	}
+	defer group.Close()
+	for _, message := range messages(t)[:4] {
+		judged(t, group, message)
+	}
+	state, err := group.State()
+	expect(t, err, nil)
+	wanted, err = ResumeQuery(state, nil)
+	expect(t, err, nil)
+	var fronts []string
+	for _, w := range wanted {
+		fronts = append(fronts, hex.EncodeToString(w.Receipt[:4]))
+	}
+	if got := strings.Join(fronts, " "); got != "b40a5210 8239c971 311cfcb5 efd6a6ad" {
+		t.Fatal(got)
+	}
+	good := verified(wanted)
+	left, err := ResumeQuery(state, good)
+	expect(t, err, nil)
+	if len(good) != 4 || len(left) != 0 {
+		t.Fatal(good, left)
+	}
+	other, err := Resume(state, good)
+	expect(t, err, nil)
+	defer other.Close()
+	again, err := other.State()
+	expect(t, err, nil)
+	if !bytes.Equal(again, state) {
+		t.Fatal(again)
+	}
+	for i, refusal := range []Refused{{7, 5, 0}, {7, 5, 1}, {7, 5, 2}, {9, 0, 0}} {
+		others := append(append([][32]byte{}, good[:i]...), good[i+1:]...)
+		left, err := ResumeQuery(state, others)
+		expect(t, err, nil)
+		if len(left) != 1 || left[0].Receipt != good[i] {
+			t.Fatal(left)
+		}
+		_, err = Resume(state, others)
+		expect(t, err, refusal)
+	}
+	_, err = ResumeQuery(nil, nil)
+	expect(t, err, Refused{1, 1, 0})
+}
+
 // Follows the group by all strict rules: each message, and before it the same with a byte less in its membership tag.
 func TestStrictRules(t *testing.T) {
 	info := file(t, "real/epoch-1.info")
@@ -143,8 +194,16 @@ func TestStrictRules(t *testing.T) {
 	if group.Epoch() != 8 || group.Rules() != Strict {
 		t.Fatal(group.Epoch(), group.Rules())
 	}
-	_, err = group.State()
-	expect(t, err, Fault(105))
+	state, err := group.State()
+	expect(t, err, nil)
+	wanted, err = ResumeQuery(state, nil)
+	expect(t, err, nil)
+	other, err := Resume(state, verified(wanted))
+	expect(t, err, nil)
+	defer other.Close()
+	if other.Rules() != Strict {
+		t.Fatal(other.Rules())
+	}
 	if Strict&^Rule(47) != 0x1f7f || Rule(40)|Rule(52) != 0x1001 {
 		t.Fatal("a rule has another bit")
 	}

@@ -61,9 +61,11 @@ def _bits(rules):
 class Refused(Exception):
     """Why a call on a group's inputs has no result: number, inner and place.
 
-    If the number is 9 of a start or a tree, or 10 of make_strict, a strict rule is not met: `inner` is its number, and
-    `place` the node index, or 2**64 - 1 if it is no node that does not meet it. If it is 11 of make_strict, `place` is
-    the number of the pending proposal that does not meet one, from 0 on.
+    If the number is 9 of a start or a tree, or 10 of make_strict or a resumption, a strict rule is not met: `inner` is its
+    number, and `place` the node index, or 2**64 - 1 if it is no node that does not meet it. If it is 11 of make_strict or
+    a resumption, `place` is the number of the pending proposal that does not meet one, from 0 on. If it is 9 of a
+    resumption, `place` is the number of the pending proposal that is not valid or has no receipt, and if it is 12, that of
+    the KeyPackageRef of the last commit that is not valid.
     """
 
     def __init__(self, number, inner, place):
@@ -103,6 +105,7 @@ def _load():
         ("mls_validate_tree", _Verdict, sized * 4 + [size]),
         ("mls_validate_tree_strict", _Verdict, sized * 3 + [rules] + sized + [size]),
         ("mls_start_query", _Verdict, sized * 4 + [size]),
+        ("mls_resume_query", _Verdict, sized * 3 + [size]),
         ("mls_follower_start", _Verdict, sized * 3 + [number, handle]),
         ("mls_follower_start_by", _Verdict, sized * 3 + [number, rules, handle]),
         ("mls_follower_resume", _Verdict, sized * 2 + [number, handle]),
@@ -194,6 +197,15 @@ def start_query(info, tree=b"", receipts=()):
     return _signatures(_filled_or_refused(_library.mls_start_query, info, len(info), tree, len(tree), good, len(good)))
 
 
+def resume_query(state, receipts=()):
+    """The signatures of a resumption from a state that have no receipt: those of the leaf nodes and pending proposals.
+
+    Raises Refused if no follower resumes though each were good. The state names the profile and the strict rules.
+    """
+    good = b"".join(receipts)
+    return _signatures(_filled_or_refused(_library.mls_resume_query, state, len(state), good, len(good)))
+
+
 class Follower:
     """A follower of a group, in a profile and with a set of strict rules."""
 
@@ -212,7 +224,7 @@ class Follower:
 
     @classmethod
     def resume(cls, state, receipts=(), profile=PROFILE_MEMBERS):
-        """Resumes from a state of this profile, by these receipts and without strict rules. Raises Refused."""
+        """Resumes from a state of this profile, by these receipts and its strict rules. Raises Refused."""
         follower, good = cls.__new__(cls), b"".join(receipts)
         follower._begin(_library.mls_follower_resume, state, len(state), good, len(good), profile)
         return follower
@@ -280,7 +292,7 @@ class Follower:
 
     @property
     def state(self):
-        """The state as a file, from which `resume` resumes. A follower with strict rules has none: Fault 105."""
+        """The state as a file, from which `resume` resumes. It has the strict rules, and no receipts."""
         return self._bytes(_library.mls_follower_state)
 
     def query(self, message):

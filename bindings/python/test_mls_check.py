@@ -3,6 +3,7 @@
     cd bindings/python && python3 -m unittest
 """
 
+import hashlib
 import os
 import sys
 import unittest
@@ -80,6 +81,18 @@ def every(wanted):
     return [w.receipt for w in wanted]
 
 
+def changed(state, rules=None, added=None):
+    """A state with other strict rules, or other KeyPackageRefs of the last commit, and the right checksum. The state has one
+    KeyPackageRef of 32 bytes."""
+    body = state[35:]
+    if rules is not None:
+        body = body[:2] + rules.to_bytes(2, "big") + body[4:]
+    if added is not None:
+        assert body[-35:-32] == b"\1\x21\x20"
+        body = body[:-35] + added
+    return state[:3] + hashlib.sha256(body).digest() + body
+
+
 class RealGroup(unittest.TestCase):
     def follow(self, good):
         with mls_check.Follower(INFO, receipts=good(mls_check.start_query(INFO))) as group:
@@ -104,6 +117,50 @@ class RealGroup(unittest.TestCase):
             self.assertEqual(other.state, group.state)
             other.close()
         self.assertEqual((group.epoch, group.members), (8, 3))
+
+    def test_signatures_of_a_state(self):
+        group = mls_check.Follower(INFO, receipts=RECEIPTS)
+        for message in MESSAGES[:4]:
+            self.assertIsInstance(group.judge(message), mls_check.Accepted)
+        state = group.state
+        wanted = mls_check.resume_query(state)
+        # Three leaf nodes, and a pending Remove proposal.
+        fronts = [w.receipt[:4].hex() for w in wanted]
+        self.assertEqual(fronts, ["b40a5210", "8239c971", "311cfcb5", "efd6a6ad"])
+        good = every(wanted) if is_good is None else verified(wanted)
+        self.assertEqual(good, listed(wanted))
+        self.assertEqual(mls_check.resume_query(state, good), [])
+        with mls_check.Follower.resume(state, good) as other:
+            self.assertEqual(other.state, state)
+        refusals = [(7, 5, 0), (7, 5, 1), (7, 5, 2), (9, 0, 0)]
+        for at, refusal in enumerate(refusals):
+            others = good[:at] + good[at + 1 :]
+            self.assertEqual(mls_check.resume_query(state, others), [wanted[at]])
+            self.refused(*refusal, mls_check.Follower.resume, state, others)
+
+    def test_changed_states(self):
+        group = mls_check.Follower(INFO, receipts=RECEIPTS)
+        for message in MESSAGES[:4]:
+            group.judge(message)
+        state = group.state
+        self.assertEqual(changed(state), state)
+        # Strict rules that the group meets, a number that is no set of them, and KeyPackageRefs of other numbers and lengths.
+        for rules in (mls_check.RULES_STRICT, mls_check.rule(47)):
+            with mls_check.Follower.resume(changed(state, rules), RECEIPTS) as other:
+                self.assertEqual(other.rules, rules)
+        for added in (b"\0", b"\1\0", b"\1\x40\x63" + 3 * (b"\x20" + bytes(32))):
+            self.assertEqual(mls_check.resume_query(changed(state, added=added), RECEIPTS), [])
+        refusals = [
+            ((1, 5, 37), changed(state, 0x2000)),
+            ((1, 4, len(state) - 35), changed(state, added=b"\2\0")),
+            ((2, 0, 0), state[:-1] + bytes([state[-1] ^ 1])),
+            ((12, 0, 3), changed(state, added=b"\1\x40\x84" + 4 * (b"\x20" + bytes(32)))),
+            ((12, 0, 0), changed(state, added=b"\1\x20\x1f" + bytes(31))),
+            ((12, 0, 0), changed(state, mls_check.RULES_STRICT, b"\1\1\0")),
+        ]
+        for refusal, other in refusals:
+            self.refused(*refusal, mls_check.resume_query, other)
+            self.refused(*refusal, mls_check.Follower.resume, other, RECEIPTS)
 
     def test_refusals(self):
         with self.assertRaises(mls_check.Refused) as refused:
@@ -146,9 +203,10 @@ class RealGroup(unittest.TestCase):
             self.assertEqual(judged(group, with_short_tag(message), every), "refused 40 TagLength")
             self.assertEqual(judged(group, message, every), judged(plain, message, every))
         self.assertEqual(group.rules, mls_check.RULES_STRICT)
-        with self.assertRaises(mls_check.Fault) as fault:
-            group.state
-        self.assertEqual(fault.exception.args, (105,))
+        self.assertEqual(group.state, changed(plain.state, mls_check.RULES_STRICT))
+        self.assertEqual(mls_check.resume_query(group.state), mls_check.resume_query(plain.state))
+        with mls_check.Follower.resume(group.state, RECEIPTS) as other:
+            self.assertEqual((other.rules, other.state), (mls_check.RULES_STRICT, group.state))
         plain.make_strict()
         self.assertEqual(plain.rules, mls_check.RULES_STRICT)
 
@@ -162,6 +220,13 @@ class RealGroup(unittest.TestCase):
         self.assertEqual(group.rules, mls_check.RULES_PLAIN)
         group.make_strict(no_tags & ~repeats)
         self.refused(11, 0, 1, group.make_strict, repeats)
+        # Its state has the rules, and three leaf nodes. With the rule 41 no follower resumes from it.
+        good = every(mls_check.resume_query(group.state))
+        self.assertEqual(len(good), 5)
+        with mls_check.Follower.resume(group.state, good) as other:
+            self.assertEqual(other.rules, no_tags & ~repeats)
+        self.refused(11, 0, 1, mls_check.resume_query, changed(group.state, no_tags))
+        self.refused(11, 0, 1, mls_check.Follower.resume, changed(group.state, repeats), good)
         self.assertEqual(judged(group, MESSAGES[4], every)[:8], "accepted")
         group.make_strict(repeats)
         self.assertEqual(group.rules, no_tags)
@@ -173,6 +238,7 @@ class RealGroup(unittest.TestCase):
         for rules, inner, place in ((mls_check.RULES_STRICT, 41, NO_NODE), (mls_check.rule(51), 51, 0)):
             self.refused(9, inner, place, mls_check.Follower.start_by, rules, info, receipts=good)
             self.refused(10, inner, place, group.make_strict, rules)
+            self.refused(10, inner, place, mls_check.resume_query, changed(group.state, rules))
         group.make_strict(mls_check.RULES_STRICT & ~mls_check.rule(41) & ~mls_check.rule(51))
 
     def test_strict_tree(self):

@@ -138,9 +138,10 @@ static void expect_no_follower(mls_follower *group) {
 static void refused_starts(void) {
     mls_follower group = MLS_NO_FOLLOWER_YET;
     long before = blocks;
-    uint8_t message[] = {0, 1, 0, 1, 0};
+    uint8_t message[] = {0, 1, 0, 1, 0}, out[1] = {7};
     struct bytes rest = log_bytes, handshake = take_vector(&rest);
     struct bytes odd = {receipts.at, 31}, unread = {message, sizeof message};
+    size_t needed = 7;
     expect_no_follower(&group);
     EXPECT(is(start(&group, nothing), MLS_START_MEMBER, MLS_MEMBER_LEAF_SIGNATURE, 0));
     expect_no_follower(&group);
@@ -166,6 +167,17 @@ static void refused_starts(void) {
     EXPECT(is(mls_follower_resume(MLS_EMPTY, MLS_EMPTY, MLS_PROFILE_MEMBERS, &group), MLS_RESUME_UNREADABLE,
               MLS_DECODE_TRUNCATED, 0));
     EXPECT(is(mls_follower_resume(info.at, info.len, MLS_EMPTY, 3, &group), MLS_UNSUPPORTED_PROFILE, 0, 0));
+    /* the receipts are checked before the state, and then the version of its file, which a GroupInfo has not */
+    EXPECT(is(mls_resume_query(MLS_EMPTY, odd.at, odd.len, out, sizeof out, &needed), MLS_BAD_RECEIPTS, 0, 0));
+    EXPECT(needed == 0);
+    needed = 7;
+    EXPECT(is(mls_resume_query(MLS_EMPTY, MLS_EMPTY, out, sizeof out, &needed), MLS_RESUME_UNREADABLE,
+              MLS_DECODE_TRUNCATED, 0));
+    EXPECT(needed == 0);
+    needed = 7;
+    EXPECT(is(mls_resume_query(info.at, info.len, receipts.at, receipts.len, out, sizeof out, &needed),
+              MLS_RESUME_UNREADABLE, MLS_DECODE_BAD_TAG, 0));
+    EXPECT(needed == 0 && out[0] == 7);
     expect_no_follower(&group);
     EXPECT(blocks == before);
 }
@@ -191,19 +203,14 @@ static void short_buffers(void) {
     memset(buffer, 0xaa, 1 << 16);
     EXPECT(mls_follower_tree_hash(&group, buffer, 31, &needed) == MLS_BUFFER_TOO_SMALL && needed == 32);
     EXPECT(mls_follower_confirmed_hash(&group, buffer, 31, &needed) == MLS_BUFFER_TOO_SMALL && needed == 32);
-    if (is_strict()) {
-        EXPECT(mls_follower_state(&group, buffer, 1 << 16, &size) == MLS_TOO_LONG && size == 0);
-    } else {
-        EXPECT(mls_follower_state(&group, buffer, 0, &size) == MLS_BUFFER_TOO_SMALL && size > 0);
-        EXPECT(mls_follower_state(&group, buffer, size - 1, &needed) == MLS_BUFFER_TOO_SMALL && needed == size);
-    }
+    EXPECT(mls_follower_state(&group, buffer, 0, &size) == MLS_BUFFER_TOO_SMALL && size > 0);
+    EXPECT(mls_follower_state(&group, buffer, size - 1, &needed) == MLS_BUFFER_TOO_SMALL && needed == size);
     EXPECT(is_judged(mls_follower_judge(&group, message.at, message.len, buffer, MLS_REFERENCE_SIZE - 1),
                      MLS_BUFFER_TOO_SMALL));
     for (size_t i = 0; i < 1 << 16; i++)
         if (buffer[i] != 0xaa)
             die("a buffer that is too small was written to");
-    if (!is_strict())
-        EXPECT(mls_follower_state(&group, buffer, size, &needed) == MLS_OK && needed == size && buffer[size] == 0xaa);
+    EXPECT(mls_follower_state(&group, buffer, size, &needed) == MLS_OK && needed == size && buffer[size] == 0xaa);
     EXPECT(mls_follower_judge(&group, message.at, message.len, reference, sizeof reference).number == MLS_OK);
     mls_follower_free(&group);
     free(buffer);
@@ -287,6 +294,7 @@ static void odd_messages(void) {
     EXPECT(mls_follower_query(&group, zeros, huge, reference, 0, &needed) == MLS_REFUSED_MALFORMED);
     EXPECT(start_from(&group, (struct bytes){zeros, huge}, nothing, MLS_PROFILE_MEMBERS).number == MLS_INFO_UNREADABLE);
     EXPECT(mls_follower_resume(zeros, huge, MLS_EMPTY, MLS_PROFILE_MEMBERS, &group).number == MLS_RESUME_UNREADABLE);
+    EXPECT(mls_resume_query(zeros, huge, MLS_EMPTY, reference, 0, &needed).number == MLS_RESUME_UNREADABLE && needed == 0);
     EXPECT(mls_follower_learn(&group, zeros, 32) == MLS_OK);
     munmap(zeros, huge);
     /* each front of the message, and each changed bit of it: it is refused, and the group goes on */
@@ -323,21 +331,10 @@ static struct bytes state_of(mls_follower *group) {
     return state;
 }
 
-/* The state as a file, or if the follower has strict rules, its epoch and both hashes. */
-static struct bytes picture_of(mls_follower *group) {
-    struct bytes picture;
-    size_t needed;
-    uint64_t epoch;
-    if (!is_strict())
-        return state_of(group);
-    picture.len = 8 + 2 * 64;
-    picture.at = allocate(picture.len);
-    memset(picture.at, 0, picture.len);
-    EXPECT(mls_follower_epoch(group, &epoch) == MLS_OK);
-    memcpy(picture.at, &epoch, 8);
-    EXPECT(mls_follower_tree_hash(group, picture.at + 8, 64, &needed) == MLS_OK);
-    EXPECT(mls_follower_confirmed_hash(group, picture.at + 8 + 64, 64, &needed) == MLS_OK);
-    return picture;
+static uint16_t rules_of(mls_follower *group) {
+    uint16_t found = 0;
+    EXPECT(mls_follower_rules(group, &found) == MLS_OK);
+    return found;
 }
 
 static void stored_states(void) {
@@ -351,7 +348,7 @@ static void stored_states(void) {
         EXPECT(is(mls_follower_resume(state.at, state.len, receipts.at, receipts.len, MLS_PROFILE_MEMBERS, &other),
                   MLS_OK, 0, 0));
         copy = state_of(&other);
-        EXPECT(copy.len == state.len && memcmp(copy.at, state.at, state.len) == 0);
+        EXPECT(copy.len == state.len && memcmp(copy.at, state.at, state.len) == 0 && rules_of(&other) == rules);
         memset(reference, 0, sizeof reference);
         memset(again, 0, sizeof again);
         one = mls_follower_judge(&group, message.at, message.len, reference, sizeof reference);
@@ -378,6 +375,104 @@ static void stored_states(void) {
     }
     mls_follower_free(&group);
     mls_follower_free(&other);
+}
+
+/* Returns the records of the signatures of a state that have no receipt. The buffer is first a byte too small. */
+static struct bytes records_of(struct bytes state, struct bytes good) {
+    uint8_t none[1] = {0xaa};
+    struct bytes records;
+    size_t needed;
+    mls_verdict verdict = mls_resume_query(state.at, state.len, good.at, good.len, none, 0, &records.len);
+    records.at = allocate(records.len + 1);
+    memset(records.at, 0xaa, records.len + 1);
+    if (records.len > 0) {
+        EXPECT(is(verdict, MLS_BUFFER_TOO_SMALL, 0, 0) && none[0] == 0xaa);
+        EXPECT(is(mls_resume_query(state.at, state.len, good.at, good.len, records.at, records.len - 1, &needed),
+                  MLS_BUFFER_TOO_SMALL, 0, 0));
+        EXPECT(needed == records.len && records.at[0] == 0xaa);
+        verdict = mls_resume_query(state.at, state.len, good.at, good.len, records.at, records.len + 1, &needed);
+        EXPECT(needed == records.len && records.at[records.len] == 0xaa);
+    }
+    EXPECT(is(verdict, MLS_OK, 0, 0));
+    return records;
+}
+
+/* Queries a state: a signature is listed for each member's leaf node and for each pending proposal, none of which is an Add
+   or an Update. A follower resumes by the receipts of all of them, and not without one of these. */
+static void query_state(struct bytes state, uint32_t members, uint32_t pending) {
+    mls_follower group = MLS_NO_FOLLOWER_YET;
+    struct bytes good = receipts_of(records_of(state, nothing)), others, left;
+    EXPECT(good.len == (members + pending) * MLS_RECEIPT_SIZE);
+    left = records_of(state, good);
+    EXPECT(left.len == 0);
+    free(left.at);
+    EXPECT(is(mls_follower_resume(state.at, state.len, good.at, good.len, MLS_PROFILE_MEMBERS, &group), MLS_OK, 0, 0));
+    mls_follower_free(&group);
+    others.at = allocate(good.len);
+    others.len = good.len - MLS_RECEIPT_SIZE;
+    for (uint32_t i = 0; i < members + pending; i++) {
+        size_t at = i * MLS_RECEIPT_SIZE;
+        mls_verdict verdict;
+        memcpy(others.at, good.at, at);
+        memcpy(others.at + at, good.at + at + MLS_RECEIPT_SIZE, others.len - at);
+        left = receipts_of(records_of(state, others));
+        EXPECT(left.len == MLS_RECEIPT_SIZE && memcmp(left.at, good.at + at, MLS_RECEIPT_SIZE) == 0);
+        free(left.at);
+        verdict = mls_follower_resume(state.at, state.len, others.at, others.len, MLS_PROFILE_MEMBERS, &group);
+        if (i < members)
+            EXPECT(verdict.number == MLS_RESUME_MEMBER && verdict.inner == MLS_MEMBER_LEAF_SIGNATURE);
+        else
+            EXPECT(is(verdict, MLS_RESUME_KNOWN_INVALID, 0, i - members));
+        EXPECT(group.at == NULL);
+    }
+    free(others.at);
+    free(good.at);
+}
+
+/* The state before each message, and each front of it, each of its bytes changed, and receipts that are too short. */
+static void queried_states(void) {
+    mls_follower group = MLS_NO_FOLLOWER_YET;
+    struct bytes rest = log_bytes, state;
+    uint8_t reference[MLS_REFERENCE_SIZE], *buffer = allocate(1 << 16);
+    uint32_t members, pending = 0;
+    size_t needed;
+    EXPECT(is(start(&group, receipts), MLS_OK, 0, 0));
+    memset(buffer, 0xaa, 1 << 16);
+    while (rest.len > 0) {
+        struct bytes message = take_vector(&rest);
+        long before;
+        state = state_of(&group);
+        before = blocks;
+        EXPECT(mls_follower_members(&group, &members) == MLS_OK);
+        query_state(state, members, pending);
+        for (size_t len = 0; len < state.len; len++) {
+            needed = 7;
+            EXPECT(mls_resume_query(state.at, len, MLS_EMPTY, buffer, 1 << 16, &needed).number == MLS_RESUME_UNREADABLE);
+            EXPECT(needed == 0);
+        }
+        for (size_t i = 0; i < state.len; i++) {
+            mls_verdict verdict;
+            state.at[i] ^= (uint8_t)(1 << i % 8);
+            needed = 7;
+            verdict = mls_resume_query(state.at, state.len, receipts.at, receipts.len, buffer, 1 << 16, &needed);
+            EXPECT(verdict.number == MLS_RESUME_UNREADABLE || is(verdict, MLS_RESUME_CHECKSUM_DIFFERS, 0, 0));
+            EXPECT(needed == 0);
+            state.at[i] ^= (uint8_t)(1 << i % 8);
+        }
+        needed = 7;
+        EXPECT(is(mls_resume_query(state.at, state.len, receipts.at, 31, buffer, 1 << 16, &needed), MLS_BAD_RECEIPTS, 0,
+                  0));
+        EXPECT(needed == 0 && blocks == before);
+        free(state.at);
+        pending = mls_follower_judge(&group, message.at, message.len, reference, sizeof reference).kind == MLS_PROPOSAL
+                      ? pending + 1
+                      : 0;
+    }
+    for (size_t i = 0; i < 1 << 16; i++)
+        if (buffer[i] != 0xaa)
+            die("a refused query wrote to the buffer");
+    mls_follower_free(&group);
+    free(buffer);
 }
 
 /* ---- a tree */
@@ -434,12 +529,6 @@ static struct bytes with_repeated_extensions(struct bytes message) {
     return replaced(message, message.len - 105, 6, proposal, sizeof proposal);
 }
 
-static uint16_t rules_of(mls_follower *group) {
-    uint16_t found = 0;
-    EXPECT(mls_follower_rules(group, &found) == MLS_OK);
-    return found;
-}
-
 /* A tag that is too short is refused by rule 40 alone. */
 static void short_tags(void) {
     mls_follower group = MLS_NO_FOLLOWER_YET;
@@ -470,6 +559,7 @@ static void short_tags(void) {
 static void added_rules(void) {
     mls_follower group = MLS_NO_FOLLOWER_YET;
     struct bytes rest = log_bytes, message, copy;
+    uint32_t members;
     EXPECT(is(mls_follower_start(info.at, info.len, MLS_EMPTY, receipts.at, receipts.len, MLS_PROFILE_MEMBERS, &group),
               MLS_OK, 0, 0));
     EXPECT(is(mls_follower_make_strict(&group, MLS_RULES_PLAIN), MLS_OK, 0, 0) && rules_of(&group) == MLS_RULES_PLAIN);
@@ -485,6 +575,11 @@ static void added_rules(void) {
     EXPECT(is(mls_follower_make_strict(&group, MLS_RULES_STRICT & ~MLS_RULE(41)), MLS_OK, 0, 0));
     EXPECT(is(mls_follower_make_strict(&group, MLS_RULE(41)), MLS_RESUME_KNOWN_STRICT, 0, 1));
     EXPECT(rules_of(&group) == (MLS_RULES_STRICT & ~MLS_RULE(41)));
+    free(copy.at);
+    /* the state has the rules, and the signatures of both proposals */
+    copy = state_of(&group);
+    EXPECT(mls_follower_members(&group, &members) == MLS_OK);
+    query_state(copy, members, 2);
     free(copy.at);
     /* in the next epoch the proposal is no more pending */
     message = take_vector(&rest);
@@ -538,11 +633,11 @@ static void groups_that_are_not_strict(void) {
 /* ---- memory that is refused: each allocation of a call in turn */
 
 static void refused_memory(void) {
-    mls_follower group = MLS_NO_FOLLOWER_YET;
+    mls_follower group = MLS_NO_FOLLOWER_YET, other = MLS_NO_FOLLOWER_YET;
     uint8_t reference[MLS_REFERENCE_SIZE], *buffer = allocate(1 << 16);
     struct bytes rest = log_bytes;
     long total = 0;
-    size_t needed;
+    size_t needed, wanted;
     for (long n = 1; refused = 0, until_refused = n, 1; n++) {
         long before = blocks;
         mls_verdict verdict = start(&group, receipts);
@@ -555,7 +650,7 @@ static void refused_memory(void) {
         EXPECT(is(verdict, MLS_OUT_OF_MEMORY, 0, 0) && group.at == NULL && blocks == before);
     }
     while (rest.len > 0) {
-        struct bytes message = take_vector(&rest), picture = picture_of(&group), copy;
+        struct bytes message = take_vector(&rest), state = state_of(&group), copy;
         for (long n = 1; refused = 0, until_refused = n, 1; n++) {
             long before = blocks;
             uint32_t number = mls_follower_query(&group, message.at, message.len, buffer, 1 << 16, &needed);
@@ -576,21 +671,50 @@ static void refused_memory(void) {
             }
             total++;
             EXPECT(is_judged(judgement, MLS_OUT_OF_MEMORY));
-            copy = picture_of(&group);
-            EXPECT(copy.len == picture.len && memcmp(copy.at, picture.at, picture.len) == 0);
+            copy = state_of(&group);
+            EXPECT(copy.len == state.len && memcmp(copy.at, state.at, state.len) == 0);
             free(copy.at);
+        }
+        /* a list that gets no room ahead takes the room that it needs, so some refusals do no harm */
+        EXPECT(is(mls_resume_query(state.at, state.len, MLS_EMPTY, buffer, 1 << 16, &wanted), MLS_OK, 0, 0) && wanted > 0);
+        for (long n = 1; refused = 0, until_refused = n, 1; n++) {
+            long before = blocks;
+            mls_verdict verdict = mls_resume_query(state.at, state.len, MLS_EMPTY, buffer, 1 << 16, &needed);
+            until_refused = 0;
+            EXPECT(blocks == before);
+            if (verdict.number == MLS_OK)
+                EXPECT(needed == wanted);
+            else
+                EXPECT(is(verdict, MLS_OUT_OF_MEMORY, 0, 0) && refused && needed == 0);
+            if (!refused)
+                break;
+            total++;
+        }
+        for (long n = 1; refused = 0, until_refused = n, 1; n++) {
+            long before = blocks;
+            mls_verdict verdict = mls_follower_resume(state.at, state.len, receipts.at, receipts.len,
+                                                      MLS_PROFILE_MEMBERS, &other);
+            until_refused = 0;
+            if (verdict.number == MLS_OK)
+                mls_follower_free(&other);
+            else
+                EXPECT(is(verdict, MLS_OUT_OF_MEMORY, 0, 0) && refused && other.at == NULL);
+            EXPECT(blocks == before);
+            if (!refused)
+                break;
+            total++;
         }
         for (long n = 1; refused = 0, until_refused = n, 1; n++) {
             uint32_t number = mls_follower_state(&group, buffer, 1 << 16, &needed);
             until_refused = 0;
             if (!refused) {
-                EXPECT(number == (is_strict() ? MLS_TOO_LONG : MLS_OK));
+                EXPECT(number == MLS_OK);
                 break;
             }
             total++;
             EXPECT(number == MLS_OUT_OF_MEMORY && needed == 0);
         }
-        free(picture.at);
+        free(state.at);
     }
     for (long n = 1; refused = 0, until_refused = n, 1; n++) {
         uint8_t some[3200];
@@ -649,7 +773,7 @@ static void refused_memory(void) {
 static void kept_as_they_are(void) {
     mls_follower group = MLS_NO_FOLLOWER_YET, other = MLS_NO_FOLLOWER_YET;
     uint8_t reference[MLS_REFERENCE_SIZE], other_reference[MLS_REFERENCE_SIZE];
-    struct bytes rest = log_bytes, picture, other_picture;
+    struct bytes rest = log_bytes, state, other_state;
     EXPECT(is(start(&other, receipts), MLS_OK, 0, 0));
     kept_blocks = 0;
     keeps_blocks = 1;
@@ -665,11 +789,11 @@ static void kept_as_they_are(void) {
         EXPECT(judgement.number == expected.number && judgement.kind == expected.kind && judgement.epoch == expected.epoch);
     }
     EXPECT(kept_blocks > 0);
-    picture = picture_of(&group);
-    other_picture = picture_of(&other);
-    EXPECT(picture.len == other_picture.len && memcmp(picture.at, other_picture.at, picture.len) == 0);
-    free(picture.at);
-    free(other_picture.at);
+    state = state_of(&group);
+    other_state = state_of(&other);
+    EXPECT(state.len == other_state.len && memcmp(state.at, other_state.at, state.len) == 0);
+    free(state.at);
+    free(other_state.at);
     mls_follower_free(&group);
     mls_follower_free(&other);
     printf("%ld blocks could not be made smaller\n", kept_blocks);
@@ -689,15 +813,15 @@ static void many_handles(void) {
     EXPECT(blocks == before);
 }
 
-/* With the present strict rules. A follower with some has no state file. */
+/* With the present strict rules. */
 static void try_all(void) {
     printf("strict rules: %s\n", is_strict() ? "all" : "none");
     refused_starts();
     short_buffers();
     unknown_signatures();
     odd_messages();
-    if (!is_strict())
-        stored_states();
+    stored_states();
+    queried_states();
     trees();
     short_tags();
     refused_memory();

@@ -119,8 +119,7 @@ impl Refusal {
     }
 }
 
-/// Memory ran out, or the state has no file, as that of a follower with strict rules. The follower is unchanged, but may
-/// have learnt some of the receipts.
+/// Memory ran out, or the state is too long for a file. The follower is unchanged, but may have learnt some of the receipts.
 #[derive(Clone, Copy, Debug, PartialEq, Eq)]
 pub struct Fault {
     pub number: u32,
@@ -176,6 +175,10 @@ mod sys {
         pub fn mls_start_query(
             info: *const u8, info_len: usize, tree: *const u8, tree_len: usize, receipts: *const u8,
             receipts_len: usize, records: *mut u8, records_len: usize, needed: *mut usize,
+        ) -> Verdict;
+        pub fn mls_resume_query(
+            state: *const u8, state_len: usize, receipts: *const u8, receipts_len: usize, records: *mut u8,
+            records_len: usize, needed: *mut usize,
         ) -> Verdict;
         pub fn mls_follower_start(
             info: *const u8, info_len: usize, tree: *const u8, tree_len: usize, receipts: *const u8,
@@ -322,6 +325,18 @@ pub fn start_query(info: &[u8], tree: Option<&[u8]>, receipts: &[Receipt]) -> Re
     Ok(signatures_in(&records))
 }
 
+/// Returns the signatures of a resumption from a state ([`Follower::state`]) that have no receipt: those of the leaf nodes
+/// and of the pending proposals. The state names the profile and the strict rules.
+pub fn resume_query(state: &[u8], receipts: &[Receipt]) -> Result<Vec<Signature>, Refused> {
+    let receipts = receipts.concat();
+    let records = filled_or_refused(|records, needed| unsafe {
+        sys::mls_resume_query(
+            state.as_ptr(), state.len(), receipts.as_ptr(), receipts.len(), records.as_mut_ptr(), records.len(), needed,
+        )
+    })?;
+    Ok(signatures_in(&records))
+}
+
 /// A follower of a group, in a profile and with a set of strict rules.
 pub struct Follower {
     handle: sys::Handle,
@@ -380,7 +395,10 @@ impl Follower {
         Follower::resume_in(Profile::Members, state, receipts)
     }
 
-    /// Resumes a follower from a state of this profile ([`Follower::state`]), by these receipts. It has no strict rules.
+    /// Resumes a follower from a state of this profile ([`Follower::state`]), by these receipts, with the strict rules of the
+    /// state. [`resume_query`] returns the signatures that need a receipt. The number of [`Refused`] is 9 if a pending
+    /// proposal is not valid or has no receipt, 10 or 11 if a strict rule is not met ([`Follower::make_strict`]), and 12 if a
+    /// KeyPackageRef of the last commit is not valid: of 9, 11 and 12 `place` is its number, from 0 on.
     pub fn resume_in(profile: Profile, state: &[u8], receipts: &[Receipt]) -> Result<Follower, Refused> {
         let mut follower = Follower::new();
         let receipts = receipts.concat();
@@ -489,8 +507,7 @@ impl Follower {
         }
     }
 
-    /// Returns the state as a file, from which [`Follower::resume`] resumes. A follower with strict rules has none: the
-    /// fault is 105.
+    /// Returns the state as a file, from which [`Follower::resume`] resumes. It has the strict rules, and no receipts.
     pub fn state(&mut self) -> Result<Vec<u8>, Fault> {
         let handle = &mut self.handle;
         filled(|state, needed| unsafe { sys::mls_follower_state(handle, state.as_mut_ptr(), state.len(), needed) })

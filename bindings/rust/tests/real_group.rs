@@ -1,7 +1,8 @@
 //! Follows the group in examples/real. A signature is good if its receipt is in the group's file of receipts.
 
 use mls_check::{
-    start_query, validate_tree, validate_tree_strict, Accepted, Fault, Follower, Profile, Receipt, Refused, Rules, Signature,
+    resume_query, start_query, validate_tree, validate_tree_strict, Accepted, Follower, Profile, Receipt, Refused, Rules,
+    Signature,
 };
 use std::fs;
 
@@ -84,6 +85,36 @@ fn resumes_after_each_message() {
     assert_eq!((group.epoch(), group.members()), (8, 3));
 }
 
+/// The first bytes of the receipts, in hexadecimal digits.
+fn fronts(wanted: &[Signature]) -> Vec<String> {
+    wanted.iter().map(|signature| hex(&signature.receipt[..4])).collect()
+}
+
+#[test]
+fn lists_the_signatures_of_a_state() {
+    let mut group = Follower::start(&file("real/epoch-1.info"), None, &receipts()).unwrap();
+    for message in &messages()[..4] {
+        assert!(group.judge(message).unwrap().is_ok());
+    }
+    // Three leaf nodes, and a pending Remove proposal.
+    let state = group.state().unwrap();
+    let wanted = resume_query(&state, &[]).unwrap();
+    assert_eq!(fronts(&wanted), ["b40a5210", "8239c971", "311cfcb5", "efd6a6ad"]);
+    let good = good(&wanted);
+    assert_eq!(resume_query(&state, &good), Ok(vec![]));
+    assert_eq!(Follower::resume(&state, &good).unwrap().state(), group.state());
+    for (at, signature) in wanted.iter().enumerate() {
+        let others = [&good[..at], &good[at + 1..]].concat();
+        assert_eq!(resume_query(&state, &others), Ok(vec![signature.clone()]));
+        let (number, inner, place) = if at < 3 { (7, 5, at as u64) } else { (9, 0, 0) };
+        assert_eq!(Follower::resume(&state, &others).err(), Some(Refused { number, inner, place }));
+    }
+    // A state that is damaged, and what is no state.
+    let damaged = [&state[..state.len() - 1], &[state[state.len() - 1] ^ 1]].concat();
+    assert_eq!(resume_query(&damaged, &good), Err(Refused { number: 2, inner: 0, place: 0 }));
+    assert_eq!(resume_query(&[], &[]), Err(Refused { number: 1, inner: 1, place: 0 }));
+}
+
 #[test]
 fn refuses_what_has_no_receipts() {
     let info = file("real/epoch-1.info");
@@ -164,7 +195,13 @@ fn follows_by_strict_rules() {
     }
     assert_eq!(group.epoch(), 8);
     assert_eq!(group.rules(), Rules::STRICT);
-    assert_eq!(group.state(), Err(Fault { number: 105 }));
+    // The two states differ in the checksum and the strict rules.
+    let (state, plain) = (group.state().unwrap(), plain.state().unwrap());
+    assert_eq!((&state[..3], &state[35..37], &state[39..]), (&plain[..3], &plain[35..37], &plain[39..]));
+    assert_eq!((&state[37..39], &plain[37..39]), (&[0x1f, 0xff][..], &[0, 0][..]));
+    assert_eq!(resume_query(&state, &[]), resume_query(&plain, &[]));
+    let mut other = Follower::resume(&state, &receipts()).unwrap();
+    assert_eq!((other.rules(), other.state()), (Rules::STRICT, Ok(state)));
 }
 
 #[test]

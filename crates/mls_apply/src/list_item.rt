@@ -8,6 +8,7 @@ use crate::psk_fingerprint::psk_fingerprint;
 use crate::refusal::Refusal;
 use mls_msgs::{Commit, Proposal, ProposalOrRef, Sender};
 use mls_tree::HashValue;
+use mls_wire::Opaque;
 use std::alloc::Global;
 use std::marker::Model;
 
@@ -97,6 +98,10 @@ pub struct KnownProposal {
     pub sender: Sender,
     /// The proposal.
     pub proposal: Proposal,
+    /// The authenticated data of the content (RFC 9420, 6).
+    pub authenticated_data: Opaque,
+    /// The signature of the content (RFC 9420, 6.1).
+    pub signature: Opaque,
 }
 
 /// Returns the item of an entry of a proposal list, if its reference, if it is one, is that of a

@@ -1,5 +1,5 @@
 -- What the call that adds strict rules returns.
-use Rattle.std.proofs.Common.{◌≡◌, ◌≢◌}
+use Rattle.std.proofs.Common.{◌≡◌}
 use Rattle.mls_msgs.specs.declared.rules.Rules.{Rules}
 use Rattle.mls_follow.specs.AddedRules.{IsStrictRefused}
 use Rattle.mls_follow.specs.declared.added_rules.StrictRefused.{StrictRefused}

@@ -182,8 +182,8 @@ start_verdict (starts.Member fault) = member_verdict 6 fault
 start_verdict (starts.Strict fault) = strict_verdict 9 fault
 start_verdict fault = plain_verdict (start_number_of fault)
 
--- `resume_verdict fault` is the verdict of a resumption that is refused: the number of the fault, from 1 on in the order of
--- the conditions, and what is wrong.
+-- `resume_verdict fault` is the verdict of a resumption that is refused: the number of the fault, and what is wrong. The
+-- conditions have the order of their numbers, except that 12 comes before 10 and 11.
 abbrev pub resume_verdict : ResumeFault → InputVerdict
 resume_verdict (resumes.Unreadable fault) = node_verdict 1 fault
 resume_verdict resumes.ChecksumDiffers = plain_verdict 2
@@ -194,6 +194,9 @@ resume_verdict (resumes.Tree fault) = tree_verdict 6 fault
 resume_verdict (resumes.Member fault) = member_verdict 7 fault
 resume_verdict resumes.InterimLength = plain_verdict 8
 resume_verdict (resumes.KnownInvalid n) = verdict 9 0 n
+resume_verdict (resumes.AddedInvalid n) = verdict 12 0 n
+resume_verdict (resumes.Strict fault) = strict_verdict 10 fault
+resume_verdict (resumes.KnownStrict n) = verdict 11 0 n
 resume_verdict resumes.OutOfMemory = plain_verdict out_of_memory
 
 -- `added_verdict e` is the verdict of strict rules that cannot be added to those of a follower: 10 and the first rule that

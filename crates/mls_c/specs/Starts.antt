@@ -54,16 +54,16 @@ pub record RefusesStart (G : VerifyFn) (i : Inputs) (v : InputVerdict) : Type 0 
   pub declines : Declines G i finding
   pub verdict_is : v ≡ verdict_of finding
 
--- `ListsStart G i records`: a follower starts if every signature is good, and these are the records of the signatures of
--- the start that `G` does not accept.
+-- `ListsStart G i records`: a follower starts or resumes if every signature is good, and these are the records of the
+-- signatures of the start or the resumption that `G` does not accept.
 pub record ListsStart (G : VerifyFn) (i : Inputs) (records : List ℕ) : Type 0 where
   pub state : State
   pub signatures : List SignatureToVerify
   pub starts : StartsWith i state signatures
   pub records_are : records ≡ query_records G signatures
 
--- `QueriesStart G i old new needed v`: the records of the signatures of the start that `G` does not accept were put into
--- the buffer; or no follower starts though every signature is good.
+-- `QueriesStart G i old new needed v`: the records of the signatures of the start or the resumption that `G` does not accept
+-- were put into the buffer; or no follower starts or resumes though every signature is good.
 pub data QueriesStart (G : VerifyFn) (i : Inputs) (old new : List ℕ) (needed : ℕ) (v : InputVerdict) : Type 0 where
   runs_out : RunsOut v → new ≡ old → needed ≡ 0 → QueriesStart G i old new needed v
   refuses : RefusesStart all_good i v → new ≡ old → needed ≡ 0 → QueriesStart G i old new needed v

@@ -1,4 +1,5 @@
-//! The calls that start and resume a follower, for a caller in another language.
+//! The calls that start and resume a follower, and list the signatures of a start or a resumption, for a caller in another
+//! language.
 
 ghost use Rattle.std.specs.Prelude.{◌≡◌, ◌↔◌, ◌⊎◌, List, ℕ, Option, Some, None, true, IfOk, IfErr};
 ghost use Rattle.mls_check.specs.Receipts.{listed};
@@ -53,8 +54,8 @@ fn are_equal(profile: Profile, other: Profile) -> bool
     }
 }
 
-/// Returns the records of the signatures of a start that the checker does not accept, if a follower starts, each signature
-/// being good.
+/// Returns the records of the signatures of a start or a resumption that the checker does not accept, if a follower starts or
+/// resumes, each signature being good.
 fn start_records<C: SignatureCheck>(
     alloc: Global,
     start: StartBytes,
@@ -79,7 +80,7 @@ fn start_records<C: SignatureCheck>(
     }
 }
 
-/// Puts the records of the signatures of a start that the checker does not accept into a buffer.
+/// Puts the records of the signatures of a start or a resumption that the checker does not accept into a buffer.
 fn put_start_records<C: SignatureCheck>(
     alloc: Global,
     start: StartBytes,
@@ -121,6 +122,32 @@ pub extern "C" fn mls_start_query(
         Err(verdict) => return verdict,
     };
     match info_copy(alloc, Rules::plain(), Profile::Members, info, tree) {
+        Ok(start) => put_start_records(alloc, start, &receipts, records, needed),
+        Err(_) => plain_verdict(OUT_OF_MEMORY),
+    }
+}
+
+/// Puts the records of the signatures of a resumption (own rule) that have no receipt into the buffer `records`, if a follower
+/// can resume from the file of a state once each of them is good. The file names the profile and the strict rules.
+#[unsafe(no_mangle)]
+pub extern "C" fn mls_resume_query(
+    alloc: Global,
+    state: &[u8],
+    receipts: &[u8],
+    records: &mut [u8],
+    needed: &mut usize,
+) -> InputVerdict
+    ensures not_whole { (AreWhole receipts.now → ⊥) → (result ≡ numbers.plain_verdict bad_receipts)
+        × (records.new ≡ records.old) × (needed.new ≡ 0) }
+    ensures queries { AreWhole receipts.now → QueriesStart (good_by receipts.now)
+        (OfState plain_rules state.now) records.old records.new needed.new result }
+{
+    *needed = 0;
+    let receipts = match receipts_in(alloc, receipts) {
+        Ok(receipts) => receipts,
+        Err(verdict) => return verdict,
+    };
+    match state_copy(alloc, state) {
         Ok(start) => put_start_records(alloc, start, &receipts, records, needed),
         Err(_) => plain_verdict(OUT_OF_MEMORY),
     }

@@ -18,8 +18,8 @@ pub struct InputVerdict {
     pub number: u32,
     /// The number of what is wrong inside, or 0.
     pub inner: u32,
-    /// The leaf index, the node index or the offset of what is wrong, or the number of a pending proposal from 0 on, or 0.
-    /// It is 18,446,744,073,709,551,615 if a strict rule is not met, and not by a node.
+    /// The leaf index, the node index or the offset of what is wrong, or the number of a pending proposal or of a
+    /// KeyPackageRef from 0 on, or 0. It is 18,446,744,073,709,551,615 if a strict rule is not met, and not by a node.
     pub place: u64,
 }
 
@@ -209,6 +209,17 @@ fn resume_verdict(fault: ResumeFault) -> InputVerdict
         ResumeFault::InterimLength => plain_verdict(8),
         ResumeFault::KnownInvalid(n) => InputVerdict {
             number: 9,
+            inner: 0,
+            place: n as u64,
+        },
+        ResumeFault::AddedInvalid(n) => InputVerdict {
+            number: 12,
+            inner: 0,
+            place: n as u64,
+        },
+        ResumeFault::Strict(fault) => strict_verdict(10, fault),
+        ResumeFault::KnownStrict(n) => InputVerdict {
+            number: 11,
             inner: 0,
             place: n as u64,
         },

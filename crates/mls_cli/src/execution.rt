@@ -306,8 +306,7 @@ fn execute_report<F: Files, K: Sink>(
 /// and `gate`.
 ///
 /// With `--save`, `replay` stores the state after its last whole message once its report is written whole, if a follower
-/// has started. If the state has no file or its file cannot be stored, the fault is `Write` too, after the whole report. A
-/// state with strict rules has no file.
+/// has started. If the state has no file or its file cannot be stored, the fault is `Write` too, after the whole report.
 pub fn execute_order<F: Files, K: Sink>(
     alloc: Global,
     order: &Order,

@@ -77,8 +77,8 @@ mlscheck validate
 
 const VALIDATE_HELP: &str = "\
 A group is followed from a GroupInfo, or from the file of a state, which names
-its profile. The full profile also has pre-shared keys, ReInit and external
-joins.
+its profile and its strict rules. The full profile also has pre-shared keys,
+ReInit and external joins.
 
 --strict also checks forms and lengths of keys and ciphertexts, lists of
 extensions and capabilities, points of curves and certificates (RFC 9420, 5.1.1,
@@ -103,10 +103,10 @@ mlscheck replay
 
 const REPLAY_HELP: &str = "\
 A group is followed from a GroupInfo, or from the file of a state, which names
-its profile. The full profile also has pre-shared keys, ReInit and external
-joins. With --save the state after the log is stored, after the report. A file
-of that name is replaced; what is no regular file is refused. A state with
-strict rules has no file, so --save is then a fault of writing.
+its profile and its strict rules. The full profile also has pre-shared keys,
+ReInit and external joins. With --save the state after the log is stored, after
+the report, with its strict rules. A file of that name is replaced; what is no
+regular file is refused.
 
 --strict also checks forms and lengths of keys and ciphertexts, lists of
 extensions and capabilities, points of curves and certificates (RFC 9420, 5.1.1,
@@ -135,10 +135,10 @@ Prints a line for each signature that has to be verified and has no receipt:
 If the signature is good, RECEIPT is its line in the list of good signatures
 (examples/receipts.py verifies the signatures and writes the list).
 A group is followed from a GroupInfo, or from the file of a state, which names
-its profile. The full profile also has pre-shared keys, ReInit and external
-joins. A log is processed as if each signature were good: give one whose
-messages another party has accepted, or remove the messages that a first replay
-refuses.
+its profile and its strict rules. The full profile also has pre-shared keys,
+ReInit and external joins. A log is processed as if each signature were good:
+give one whose messages another party has accepted, or remove the messages that
+a first replay refuses.
 
 --strict also checks forms and lengths of keys and ciphertexts, lists of
 extensions and capabilities, points of curves and certificates (RFC 9420, 5.1.1,
@@ -169,8 +169,8 @@ the letter. Each record is answered before the next is read:
 A receipt is the first word of the line of a signature, in bytes. Without
 --trust and --receipts no signature is known to be good at first.
 A group is followed from a GroupInfo, or from the file of a state, which names
-its profile. The full profile also has pre-shared keys, ReInit and external
-joins.
+its profile and its strict rules. The full profile also has pre-shared keys,
+ReInit and external joins.
 
 --strict also checks forms and lengths of keys and ciphertexts, lists of
 extensions and capabilities, points of curves and certificates (RFC 9420, 5.1.1,

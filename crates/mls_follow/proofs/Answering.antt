@@ -26,7 +26,7 @@ module _ (G : VerifyFn) (s : State) (bytes : List ℕ) where
       same_Some x y (sym a.after ∙ ap (next s) (one_message a.message b.message bytes a.encoded b.encoded) ∙ b.after)
 
   -- what is acceptable fails no rule
-  never_both : (e : Refusal) → IsAcceptable G s bytes → IsFirstRefusal G s bytes e → ⊥
+  pub never_both : (e : Refusal) → IsAcceptable G s bytes → IsFirstRefusal G s bytes e → ⊥
   never_both e a (inl none) = none.1 a.message a.encoded
   never_both e a (inr f) =
       none-some e (sym a.rules_hold

@@ -54,11 +54,11 @@ use Rattle.mls_follow.specs.declared.taken.Taken.{Taken}
 use Rattle.mls_follow.specs.declared.taken.Taken.TheVariants as takens
 use Rattle.mls_follow.proofs.StrictLists.{plain_kept}
 
--- ---- the rules of the profile don't depend on the set
+-- ---- the rules of the profile don't depend on the set, nor on whom the last commit added
 
-module _ (G : VerifyFn) (s : State) (asked : Rules) where
+module _ (G : VerifyFn) (s : State) (asked : Rules) (added : Option (List (List ℕ))) where
   abbrev t : State
-  t = with_rules s asked
+  t = record s { rules = asked; added = added }
 
   offers_alike : (a : AuthenticatedParts) (sender : Sender) (p : Proposal) → proposal_message_rules G t a sender p ≡ proposal_message_rules G s a sender p
   unfolding is_new_proposal
@@ -154,10 +154,10 @@ module _ (G : VerifyFn) (s : State) (asked : Rules) where
 -- ---- nor does the next state, but for the set
 
 module _ (s : State) (asked : Rules) where
-  proposed_alike : (sender : Sender) (p : Proposal) (o : Option (List ℕ))
-      → option_map (after_proposal (with_rules s asked) sender p) o ≡ option_map (step_with_rules asked) (option_map (after_proposal s sender p) o)
-  proposed_alike sender p None = refl
-  proposed_alike sender p (Some reference) = refl
+  proposed_alike : (a : AuthenticatedParts) (sender : Sender) (p : Proposal) (o : Option (List ℕ))
+      → option_map (after_proposal (with_rules s asked) a sender p) o ≡ option_map (step_with_rules asked) (option_map (after_proposal s a sender p) o)
+  proposed_alike a sender p None = refl
+  proposed_alike a sender p (Some reference) = refl
 
   module _ (a : AuthenticatedParts) where
     interims_alike : (u : Tree) (hash confirmed : List ℕ) (o : Option (List ℕ))
@@ -188,7 +188,7 @@ module _ (s : State) (asked : Rules) (a : AuthenticatedParts) where
 
   contents_alike : (i : ℕ) (c : Content) → after_content (with_rules s asked) a i c ≡ option_map (step_with_rules asked) (after_content s a i c)
   contents_alike i (contents.Application _) = refl
-  contents_alike i (contents.Proposal p) = proposed_alike s asked (senders.Member i) p (reference_of s.context a)
+  contents_alike i (contents.Proposal p) = proposed_alike s asked a (senders.Member i) p (reference_of s.context a)
   contents_alike i (contents.Commit c) = committed_alike (senders.Member i) c (resolved (senders.Member i) s.known c.proposals)
 
   joined_alike : (c : Content) → after_join (with_rules s asked) a c ≡ option_map (step_with_rules asked) (after_join s a c)
@@ -198,7 +198,7 @@ module _ (s : State) (asked : Rules) (a : AuthenticatedParts) where
 
   sent_alike : (sender : Sender) (c : Content) → after_outside (with_rules s asked) a sender c ≡ option_map (step_with_rules asked) (after_outside s a sender c)
   sent_alike sender (contents.Application _) = refl
-  sent_alike sender (contents.Proposal p) = proposed_alike s asked sender p (reference_of s.context a)
+  sent_alike sender (contents.Proposal p) = proposed_alike s asked a sender p (reference_of s.context a)
   sent_alike sender (contents.Commit _) = refl
 
   after_alike : (sender : Sender) → after_sender (with_rules s asked) a sender ≡ option_map (step_with_rules asked) (after_sender s a sender)
@@ -385,7 +385,7 @@ module _ (asked more : Rules) (includes : Includes more asked) (meets : StrictRu
 
 module _ (G : VerifyFn) (s : State) (required : RequiredCapabilities) where
   plain_same : (asked : Rules) (m : Message) → first_failing (message_rules G (with_rules s asked) required m) ≡ first_failing (message_rules G s required m)
-  plain_same asked m = ap first_failing (messages_alike G s asked required m)
+  plain_same asked m = ap first_failing (messages_alike G s asked s.added required m)
 
   least_failed : (asked : Rules) (m : Message) → first_failing (message_rules G s required m) ≡ None
       → first_failing (all_rules G (with_rules s asked) required m) ≡ option_map refusals.Strict (first_failed asked s m)
@@ -402,7 +402,7 @@ module _ (G : VerifyFn) (s : State) (required : RequiredCapabilities) where
   plain_kept_by : (asked : Rules) (m : Message) → first_failing (all_rules G (with_rules s asked) required m) ≡ None → first_failing (message_rules G s required m) ≡ None
   plain_kept_by asked m h = sym (plain_same asked m) ∙ plain_kept G (with_rules s asked) required m h
 
-no_plain_rule : (meets : StrictRule → Bool) (rs : List StrictRule) → first_unmet plain_rules meets rs ≡ None
+pub no_plain_rule : (meets : StrictRule → Bool) (rs : List StrictRule) → first_unmet plain_rules meets rs ≡ None
 no_plain_rule meets [] = refl
 no_plain_rule meets (r ∷ rs) = rw (has_rule-plain (strict_number r)) (no_plain_rule meets rs)
 

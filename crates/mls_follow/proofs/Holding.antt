@@ -53,7 +53,7 @@ module _ (G : VerifyFn) (s : State) (steady : IsSteady s) (bytes : List ℕ) whe
       let same = same_Some l.step step (sym l.is ∙ ap (next s) (one_message a.message n.message bytes a.encoded n.encoded) ∙ n.after) in
       subst (λ (t : Transition). IsSteady t.state) same (record { held = l.still; required = l.required; requires = l.requires })
 
-  taken_steady : (answer : Result Taken Refusal) (new : State) → IsTransition G s bytes answer new → IsSteady new
+  pub taken_steady : (answer : Result Taken Refusal) (new : State) → IsTransition G s bytes answer new → IsSteady new
   taken_steady (Ok taken) new h = accepted_steady (record { taken = taken; state = new }) h.0 h.1
   taken_steady (Err e) new h = subst IsSteady (sym h.0) steady
 

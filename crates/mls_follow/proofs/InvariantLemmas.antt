@@ -1,7 +1,6 @@
 -- A follower starts in a judged state, and what it takes leads from one to another.
-use Rattle.std.proofs.Common.{◌≡◌, ◌∙◌, ℕ, List, [], ◌∷◌, true, Option, Result, Ok, Err, sym, ap, subst, inl, inr}
+use Rattle.std.proofs.Common.{◌≡◌, ◌∙◌, ℕ, List, true, Option, Result, Ok, Err, sym, ap, subst, inl, inr}
 use Rattle.std.specs.Prelude.{◌⊎◌}
-use Rattle.std.proofs.lemmas.Bool.{false≢true}
 use Rattle.mls_nodes.specs.Requirements.{Requires}
 use Rattle.mls_nodes.specs.declared.context.GroupContext.{GroupContext}
 use Rattle.mls_nodes.specs.declared.required_capabilities.RequiredCapabilities.{RequiredCapabilities}
@@ -28,10 +27,9 @@ use Rattle.mls_follow.proofs.Answering.{one_message}
 use Rattle.mls_follow.proofs.StrictLists.{plain_kept}
 use Rattle.mls_follow.proofs.Supporting.{accepted_supports, strict_supports}
 use Rattle.mls_follow.proofs.Stepping.{Stays, Moves, IsCommit, stays_or_commits, moved_keys, moved_members}
-use Rattle.mls_state.specs.declared.known_entry.KnownEntry.{KnownEntry}
-use Rattle.mls_msgs.proofs.RuleSets.{has_rule-plain}
-use Rattle.mls_follow.specs.Resumption.{CanHoldEntries, IsResumed, base_state, with_pending}
-use Rattle.mls_follow.proofs.StoredRuns.{resumption_valid}
+use Rattle.mls_follow.specs.Resumption.{IsResumed}
+use Rattle.mls_follow.specs.StrictnessKept.{IsStrictState}
+use Rattle.mls_follow.proofs.Resumable.{resumed_resumable}
 use Rattle.mls_follow.proofs.Validity.{start_valid}
 use Rattle.mls_msgs.specs.declared.rules.Rules.{Rules}
 
@@ -96,13 +94,11 @@ start_checked asked profile G info supplied s h =
     (subst (λ (t : State). has_rule t.rules 51 ≡ true → supports_extensions t.context.extensions t.tree ≡ true) (sym h.state)
     (strict_supports asked info.context h.tree.tree h.strict))
 
--- what a file stores has no strict rules
-holds_rules : (G : VerifyFn) (s : State) (es : List KnownEntry) (new : State) → CanHoldEntries G s es new → new.rules ≡ s.rules
-holds_rules G s [] new h = ap (λ (t : State). t.rules) h
-holds_rules G s (e ∷ es) new h = holds_rules G (with_pending s h.0) es new h.3
+-- of a strict state
+pub strict_checked : (G : VerifyFn) (s : State) → IsValidState G s → IsStrictState s → HasUniqueKeysAndValidLeaves G s
+strict_checked G s v strict =
+    valid_checked G s v (strict_supports s.rules s.context s.tree strict.group)
 
 pub resumed_checked : (G : VerifyFn) (bytes : List ℕ) (s : State) → IsResumed G bytes s → HasUniqueKeysAndValidLeaves G s
 resumed_checked G bytes s h =
-    valid_checked G s (resumption_valid G bytes s h)
-    (λ has. absurd (false≢true (sym (has_rule-plain 51)
-    ∙ ap (λ (r : Rules). has_rule r 51) (sym (holds_rules G (base_state h.content h.tree) h.content.known s h.state.held)) ∙ has)))
+    let r = resumed_resumable G bytes s h in strict_checked G s r.valid r.strict

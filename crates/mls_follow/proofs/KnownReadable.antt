@@ -1,6 +1,6 @@
 -- What the proposals that a follower knows would require can be read, and so what is required after a commit.
-use Rattle.std.proofs.Common.{◌≡◌, ℕ, List, [], ◌∷◌, length, map, Bool, true, false, Option, Some, None, IsSome, is_some, refl, sym, ap, subst}
-use Rattle.std.specs.Prelude.{if◌then◌else◌, ◌&&◌, ◌==◌, not, option_map, option_and_then}
+use Rattle.std.proofs.Common.{◌≡◌, ℕ, List, [], ◌∷◌, Bool, true, false, Option, Some, None, IsSome, refl, sym, ap, subst}
+use Rattle.std.specs.Prelude.{if◌then◌else◌, ◌&&◌, option_map, option_and_then}
 use Rattle.std.specs.Str.{bytes_eq}
 use Rattle.std.proofs.lemmas.Bool.{false≢true}
 use Rattle.std.proofs.lemmas.List.Elements.{All-nil, All-head, All-tail, All-push}
@@ -23,15 +23,16 @@ use Rattle.mls_apply.specs.declared.list_item.KnownProposal.{KnownProposal}
 use Rattle.mls_apply.specs.ContextExtensions.{proposed_extensions, first_some, extensions_of}
 use Rattle.mls_apply.specs.JoinRules.{join_items}
 use Rattle.mls_apply.specs.ResolvedList.{find_known, item_of, entry_item, with_first, resolved}
-use Rattle.mls_apply.specs.ProposalRules.{checked_refusal, checked_rules, all_inline, holds_if_by_value, valid_if_extensions, are_valid_extensions}
+use Rattle.mls_apply.specs.ProposalRules.{proposal_rules, all_inline, holds_if_by_value, valid_if_extensions, are_valid_extensions}
 use Rattle.mls_apply.proofs.Merging.{came_from}
 use Rattle.mls_apply.proofs.RuleLists.{AreKept, passed}
 use Rattle.mls_nodes.specs.declared.context.GroupContext.{GroupContext}
-use Rattle.mls_hash.specs.SuiteHash.{hash_length, hash_of}
-use Rattle.mls_state.specs.declared.known_entry.KnownEntry.{KnownEntry}
+use Rattle.mls_hash.specs.SuiteHash.{hash_of}
 use Rattle.mls_follow.specs.State.{State}
-use Rattle.mls_follow.specs.StoredState.{stored_entry}
-use Rattle.mls_follow.specs.Resumption.{can_hold, is_receivable, with_pending, CanHoldEntries}
+use Rattle.mls_follow.specs.StoredState.{pending_contents}
+use Rattle.mls_follow.specs.StoredRuns.{bare_state}
+use Rattle.mls_follow.specs.Resumption.{HoldEntries}
+use Rattle.mls_follow.proofs.AcceptedProposals.{accepted_proposal}
 use Rattle.mls_follow.proofs.Resumable.{followers_resumable}
 use Rattle.mls_follow.specs.ReadableExtensions.{AreReadable, FollowersKnowReadable, CommitsAreReadable}
 use Rattle.mls_follow.specs.MessageRules.{required_after}
@@ -128,39 +129,26 @@ knows_none known none = subst AreReadable (sym none) (All-nil (λ k. valid_if_ex
 
 -- ---- pending proposals
 
-none-if : {A : Type 0} (o : Option A) → not (is_some o) ≡ true → o ≡ None
-none-if None e = refl
-none-if (Some x) e = absurd (false≢true e)
-
 module _ (G : VerifyFn) where
-  -- a proposal that was judged
-  judged-readable : (context : GroupContext) (t : Tree) (sender : Sender) (p : Proposal) → checked_refusal G context t sender p ≡ None
+  -- a proposal that satisfies its rules
+  kept-readable : (context : GroupContext) (t : Tree) (sender : Sender) (p : Proposal) → AreKept (proposal_rules G context t sender p)
       → valid_if_extensions p ≡ true
-  unfolding checked_refusal
-  judged-readable context t sender p none =
-      let kept : AreKept (checked_rules G context t sender p) = record { none = none } in
+  kept-readable context t sender p kept =
       let b = passed kept in
       let c = passed b.1 in
       let d = passed c.1 in
-      let e = passed d.1 in
-      (passed e.1).0
+      (passed d.1).0
 
-  can-hold-readable : (s : State) (k : KnownProposal) → can_hold G s k ≡ true → valid_if_extensions k.proposal ≡ true
-  unfolding can_hold
-  can-hold-readable s k can =
-      let a = is_receivable s k in
-      let b = length k.reference == hash_length s.context.cipher_suite in
-      let c = not (is_some (find_known s.known k.reference)) in
-      let judged = checked_refusal G s.context s.tree k.sender k.proposal in
-      judged-readable s.context s.tree k.sender k.proposal (none-if judged (both_true (a && b && c) (not (is_some judged)) can).1)
-
-  held-readable : (s : State) (es : List KnownEntry) (new : State) → AreReadable s.known → CanHoldEntries G s es new → AreReadable new.known
+  held-readable : (s : State) (es : List AuthenticatedParts) (new : State) → AreReadable s.known → HoldEntries G s es new → AreReadable new.known
   held-readable s [] new all h = subst (λ (u : State). AreReadable u.known) (sym h) all
-  held-readable s (e ∷ es) new all h =
-      held-readable (with_pending s h.0) es new
-      (All-push (λ k. valid_if_extensions k.proposal ≡ true) s.known h.0 all (can-hold-readable s h.0 h.2)) h.3
+  held-readable s (a ∷ es) new all h =
+      let one = accepted_proposal G s h.1.accepts.bytes h.1.accepts.reference h.0 h.1.accepts.accepted in
+      held-readable h.0 es new
+      (subst (λ (u : State). AreReadable u.known) (sym one.new_is)
+      (All-push (λ k. valid_if_extensions k.proposal ≡ true) s.known one.pending all
+      (kept-readable s.context s.tree one.pending.sender one.pending.proposal one.kept))) h.2
 
 pub followers_readable : FollowersKnowReadable
 followers_readable G first last calls initial run =
-    held-readable G (record last { known = [] }) (map stored_entry last.known) last (knows_none [] refl)
+    held-readable G (record (bare_state last) { known = [] }) (pending_contents last) (bare_state last) (knows_none [] refl)
     (followers_resumable G first last calls initial run).held

@@ -1,6 +1,6 @@
 -- In the members' profile the rules that are numbered above 27 hold, and states stay in the profile.
 use Rattle.std.proofs.Common.{◌≡◌, ◌∙◌, ℕ, List, [], ◌∷◌, ◌++◌, Bool, true, false, cond, not, Option, Some, None, refl, sym, ap, subst}
-use Rattle.std.specs.Prelude.{All, ◌==◌, ◌&&◌, ◌||◌, length, filter, filter_map, is_some, if◌then◌else◌, option_map, option_and_then}
+use Rattle.std.specs.Prelude.{All, ◌&&◌, ◌||◌, filter, filter_map, if◌then◌else◌, option_map, option_and_then}
 use Rattle.std.specs.List.{list_all}
 use Rattle.std.specs.Str.{bytes_eq}
 use Rattle.std.proofs.lemmas.Bool.{false≢true}
@@ -9,15 +9,12 @@ use Rattle.std.proofs.lemmas.Option.{none-some, same_Some, option_and_then_some}
 use Rattle.mls_nodes.specs.declared.leaf.LeafNode.{LeafNode}
 use Rattle.mls_nodes.specs.declared.required_capabilities.RequiredCapabilities.{RequiredCapabilities}
 use Rattle.mls_tree.specs.Tree.{Tree, leaf_at}
-use Rattle.mls_hash.specs.SuiteHash.{hash_of, hash_length}
+use Rattle.mls_hash.specs.SuiteHash.{hash_of}
 use Rattle.mls_tree.specs.TreeHash.{tree_hash}
 use Rattle.mls_check.specs.Signatures.{VerifyFn}
 use Rattle.mls_check.specs.declared.members.MemberFault.{MemberFault}
-use Rattle.mls_check.proofs.Elements.{and-left, and-right}
-use Rattle.mls_state.specs.declared.known_entry.KnownEntry.{KnownEntry}
 use Rattle.mls_state.specs.declared.state.GroupMode.{GroupMode}
 use Rattle.mls_state.specs.declared.state.GroupMode.TheVariants as modes
-use Rattle.mls_msgs.specs.Layout.{is_member}
 use Rattle.mls_msgs.specs.Profile.{is_in, is_members_proposal, is_members_entry, are_members_entries, is_members_content, is_members_message}
 use Rattle.mls_msgs.specs.declared.authenticated.AuthenticatedParts.{AuthenticatedParts}
 use Rattle.mls_msgs.specs.declared.commit.Commit.{Commit}
@@ -41,18 +38,19 @@ use Rattle.mls_apply.specs.AppliedList.{AppliedTree, outcome}
 use Rattle.mls_apply.specs.ContextExtensions.{proposed_extensions}
 use Rattle.mls_apply.specs.ListRules.{is_reinit, has_reinit, is_reinit_alone}
 use Rattle.mls_apply.specs.OutcomeItems.{is_members_item}
-use Rattle.mls_apply.specs.ProposalRules.{checked_refusal, valid_if_psk, valid_if_reinit, is_no_external_init, holds_if_by_value, all_inline}
+use Rattle.mls_apply.specs.ProposalRules.{valid_if_psk, valid_if_reinit, is_no_external_init, holds_if_by_value, all_inline}
 use Rattle.mls_apply.specs.PskProposals.{psk_in, psk_of, are_distinct_psks, have_distinct_psks}
 use Rattle.mls_apply.specs.ResolvedList.{find_known, item_of, entry_item, with_first, resolved}
 use Rattle.mls_apply.specs.RuleLists.{Rule, rule, first_failing}
 use Rattle.mls_apply.proofs.Merging.{came_from}
 use Rattle.mls_apply.proofs.RuleLists.{AreKept, passed, refused}
-use Rattle.mls_signatures.specs.SigningKeys.{may_propose}
 use Rattle.mls_follow.specs.State.{State}
 use Rattle.mls_follow.specs.MembersProfile.{IsOfMember, IsMembersState, is_members_rule, MembersRulesDecide, MembersStatesStay, MembersStart, MembersResume}
-use Rattle.mls_follow.specs.MessageRules.{reference_of, proposal_message_rules, member_rules, tree_rules, CommitterTree, committer_tree, resulting, path_rules_of, committer_tree_rules, required_after, rules_with_requirements, proposal_list_rules, commit_rules, content_rules, leaf_rules, is_sender_supported, is_known_external, if_full, sender_rules, frame_rules, message_rules}
-use Rattle.mls_follow.specs.NextState.{Transition, after_proposal, committed, after_tree, commit_tree, with_list, is_over_after, after_content, after_sender, next}
-use Rattle.mls_follow.specs.Resumption.{CanHoldEntries, can_hold, is_receivable, with_pending, base_state, is_over, profile_of_mode}
+use Rattle.mls_follow.specs.MessageRules.{reference_of, proposal_message_rules, member_rules, tree_rules, CommitterTree, committer_tree, resulting, path_rules_of, committer_tree_rules, required_after, rules_with_requirements, proposal_list_rules, commit_rules, content_rules, leaf_rules, if_full, sender_rules, frame_rules, message_rules}
+use Rattle.mls_follow.specs.NextState.{Transition, after_proposal, pending_proposal, committed, after_tree, commit_tree, with_list, is_over_after, after_content, after_sender, next}
+use Rattle.mls_follow.specs.Resumption.{HoldEntries, base_state, is_over, profile_of_mode}
+use Rattle.mls_follow.specs.declared.taken.Taken.TheVariants as takens
+use Rattle.mls_follow.proofs.AcceptedProposals.{accepted_proposal}
 use Rattle.mls_apply.specs.Transcript.{confirmed_hash, interim_hash}
 use Rattle.mls_follow.proofs.Answering.{one_message}
 use Rattle.mls_follow.proofs.StrictLists.{plain_kept}
@@ -326,21 +324,21 @@ module _ (G : VerifyFn) (s : State) (h : IsMembersState s) (required : RequiredC
       (λ t f g. cleared o step.state (over_after o (λ items is. resolved_members (senders.Member i) s.known c.proposals items h.known members is))
       (tree-clears (with_list s o) a t step g))
 
-  proposal-members : (i : ℕ) (p : Proposal) (o : Option (List ℕ)) (step : Transition) → IsMembers p → option_map (after_proposal s (senders.Member i) p) o ≡ Some step
-      → IsMembersState step.state
-  proposal-members i p o step members e =
-      let w = came_from (after_proposal s (senders.Member i) p) o step e in
-      let pushed : IsMembersState (after_proposal s (senders.Member i) p w.0).state = record {
+  proposal-members : (a : AuthenticatedParts) (i : ℕ) (p : Proposal) (o : Option (List ℕ)) (step : Transition) → IsMembers p
+      → option_map (after_proposal s a (senders.Member i) p) o ≡ Some step → IsMembersState step.state
+  proposal-members a i p o step members e =
+      let w = came_from (after_proposal s a (senders.Member i) p) o step e in
+      let pushed : IsMembersState (after_proposal s a (senders.Member i) p w.0).state = record {
         profile = h.profile;
         going = h.going;
-        known = All-push IsOfMember s.known (record { reference = w.0; sender = senders.Member i; proposal = p }) h.known (record { proposal = members; sender = refl });
+        known = All-push IsOfMember s.known (pending_proposal a (senders.Member i) p w.0) h.known (record { proposal = members; sender = refl });
       } in
       subst (λ (u : Transition). IsMembersState u.state) w.2 pushed
 
   module _ (a : AuthenticatedParts) (step : Transition) where
     content-members : (i : ℕ) (content : Content) → is_members_content content ≡ true → after_content s a i content ≡ Some step → IsMembersState step.state
     content-members i (contents.Application sent) members e = absurd (none-some step e)
-    content-members i (contents.Proposal p) members e = proposal-members i p (reference_of s.context a) step members e
+    content-members i (contents.Proposal p) members e = proposal-members a i p (reference_of s.context a) step members e
     content-members i (contents.Commit c) members e = commit-members a i c step members e
 
     no_full : (profile : Profile) → profile ≡ Members → (rs : List (Rule Refusal)) → AreKept (if_full profile rs) → ⊥
@@ -378,47 +376,18 @@ states_stay G s bytes step h a n =
 pub members_start : MembersStart
 members_start asked G info supplied s h = subst IsMembersState (sym h.state) (record { profile = refl; going = refl; known = All-nil IsOfMember })
 
-followed_member : (profile : Profile) (sender : Sender) → profile ≡ Members → is_sender_supported profile sender ≡ true → is_member sender ≡ true
-followed_member Members (senders.Member i) e f = refl
-followed_member Members (senders.External k) e f = absurd (false≢true f)
-followed_member Members senders.NewMemberProposal e f = absurd (false≢true f)
-followed_member Members senders.NewMemberCommit e f = absurd (false≢true f)
-followed_member Full sender e f = absurd (cc)
-
--- a pending proposal of a file
-module _ (G : VerifyFn) (s : State) (h : IsMembersState s) (k : KnownProposal) (can : can_hold G s k ≡ true) where
-  receives : is_receivable s k ≡ true
-  unfolding can_hold
-  receives =
-      let b = length k.reference == hash_length s.context.cipher_suite in
-      let c = not (is_some (find_known s.known k.reference)) in
-      let d = not (is_some (checked_refusal G s.context s.tree k.sender k.proposal)) in
-      and-left (is_receivable s k) b (and-left (is_receivable s k && b) c (and-left (is_receivable s k && b && c) d can))
-
-  of_member : IsOfMember k
-  unfolding is_receivable
-  of_member =
-      let going = not s.ended in
-      let allowed = is_in s.profile (is_members_proposal k.proposal) in
-      let followed = is_sender_supported s.profile k.sender in
-      let known = is_known_external s.context.extensions k.sender in
-      let may = may_propose k.sender k.proposal in
-      let first = and-left (going && allowed && followed) known (and-left (going && allowed && followed && known) may receives) in
-      record {
-        proposal = in_members s.profile (is_members_proposal k.proposal) h.profile (and-right going allowed (and-left (going && allowed) followed first));
-        sender = followed_member s.profile k.sender h.profile (and-right (going && allowed) followed first);
-      }
-
-  pending_members : IsMembersState (with_pending s k)
-  pending_members = record { profile = h.profile; going = h.going; known = All-push IsOfMember s.known k h.known of_member }
-
-holds_members : (G : VerifyFn) (s : State) (es : List KnownEntry) (new : State) → IsMembersState s → CanHoldEntries G s es new → IsMembersState new
+holds_members : (G : VerifyFn) (s : State) (es : List AuthenticatedParts) (new : State) → IsMembersState s → HoldEntries G s es new → IsMembersState new
 holds_members G s [] new h held = subst IsMembersState (sym held) h
-holds_members G s (e ∷ es) new h held = holds_members G (with_pending s held.0) es new (pending_members G s h held.0 held.2) held.3
+holds_members G s (e ∷ es) new h held =
+    let one = held.1.accepts in
+    holds_members G held.0 es new
+    (states_stay G s one.bytes (record { taken = takens.Proposal one.reference; state = held.0 }) h one.accepted.0 one.accepted.1) held.2
 
-holds_profile : (G : VerifyFn) (s : State) (es : List KnownEntry) (new : State) → CanHoldEntries G s es new → new.profile ≡ s.profile
+holds_profile : (G : VerifyFn) (s : State) (es : List AuthenticatedParts) (new : State) → HoldEntries G s es new → new.profile ≡ s.profile
 holds_profile G s [] new held = ap (λ (t : State). t.profile) held
-holds_profile G s (e ∷ es) new held = holds_profile G (with_pending s held.0) es new held.3
+holds_profile G s (e ∷ es) new held =
+    let one = held.1.accepts in
+    holds_profile G held.0 es new held.2 ∙ ap (λ (t : State). t.profile) (accepted_proposal G s one.bytes one.reference held.0 one.accepted).new_is
 
 mode_open : (m : GroupMode) → profile_of_mode m ≡ Members → is_over m ≡ false
 mode_open modes.Members e = refl
@@ -427,7 +396,12 @@ mode_open modes.Ended e = absurd (cc)
 
 pub members_resume : MembersResume
 members_resume G bytes s h members =
-    let held = h.state.held in
+    let plain = h.state.is_plain in
     let c = h.content in
-    let profile : profile_of_mode c.mode ≡ Members = sym (holds_profile G (base_state c h.tree) c.known s held) ∙ members in
-    holds_members G (base_state c h.tree) c.known s (record { profile = profile; going = mode_open c.mode profile; known = All-nil IsOfMember }) held
+    let same : s.profile ≡ plain.with_pending.profile = ap (λ (t : State). t.profile) h.state.made_strict.state ∙ ap (λ (t : State). t.profile) plain.state in
+    let profile : profile_of_mode c.mode ≡ Members = sym (holds_profile G (base_state c h.tree) c.known plain.with_pending plain.held) ∙ sym same ∙ members in
+    let held =
+    holds_members G (base_state c h.tree) c.known plain.with_pending (record { profile = profile; going = mode_open c.mode profile; known = All-nil IsOfMember }) plain.held in
+    let bare : IsMembersState h.state.without_rules =
+    subst IsMembersState (sym plain.state) (record { profile = held.profile; going = held.going; known = held.known }) in
+    subst IsMembersState (sym h.state.made_strict.state) (record { profile = bare.profile; going = bare.going; known = bare.known })

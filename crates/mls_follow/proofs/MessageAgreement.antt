@@ -426,7 +426,7 @@ module _ (G K : VerifyFn) where
           (given G K (bytes_eq a.content.group_id s.context.group_id && a.content.epoch == s.context.epoch)
           (sender_signatures s.profile s.context s.known s.tree a a.content.sender) e (h going)))
 
-    messages_alike : (m : Message) → (not s.ended ≡ true → AgreeOn G K (all_message_signatures s.profile s.context s.known s.tree m)) → first_failing (message_rules G s required m) ≡ first_failing (message_rules K s required m)
+    pub messages_alike : (m : Message) → (not s.ended ≡ true → AgreeOn G K (all_message_signatures s.profile s.context s.known s.tree m)) → first_failing (message_rules G s required m) ≡ first_failing (message_rules K s required m)
     messages_alike (messages.Public m) h = frames_alike m.auth h
     messages_alike (messages.Unread w b) h = refl
     messages_alike (messages.GroupInfo g) h = refl

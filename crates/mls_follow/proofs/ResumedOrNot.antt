@@ -1,5 +1,5 @@
 -- From any bytes a follower resumes, or there is a fault.
-use Rattle.std.proofs.Common.{◌≡◌, ◌≢◌, ◌∙◌, ℕ, ◌≤◌, List, length, Bool, true, false, Option, Some, None, refl, sym, ap, subst, inl, inr}
+use Rattle.std.proofs.Common.{◌≡◌, ◌≢◌, ◌∙◌, ℕ, ◌≤◌, List, length, Bool, true, false, Option, Some, None, IsSome, refl, sym, ap, subst, inl, inr}
 use Rattle.std.specs.Prelude.{◌⊎◌}
 use Rattle.std.specs.Str.{bytes_eq}
 use Rattle.std.proofs.lemmas.Bool.{false≢true}
@@ -13,7 +13,7 @@ use Rattle.mls_nodes.specs.declared.fault.NodeFault.TheVariants as nodes
 use Rattle.mls_nodes.specs.declared.required_capabilities.RequiredCapabilities.{RequiredCapabilities}
 use Rattle.mls_tree.specs.RatchetTree.{RatchetTree}
 use Rattle.mls_tree.specs.TreeDecoding.{IsTree}
-use Rattle.mls_hash.specs.SuiteHash.{hash_length}
+use Rattle.mls_hash.specs.SuiteHash.{hash_length, hash_of}
 use Rattle.mls_check.proofs.GroupTreeAnswers.{group_tree_or_fault}
 use Rattle.mls_check.specs.GroupTree.{IsSupportedContext, HasMembers, IsGroupTreeFault}
 use Rattle.mls_check.specs.Signatures.{VerifyFn}
@@ -28,11 +28,20 @@ use Rattle.mls_state.specs.declared.file.StateFile.{StateFile}
 use Rattle.mls_state.specs.declared.state.FollowerState.{FollowerState}
 use Rattle.mls_follow.specs.State.{State}
 use Rattle.mls_follow.specs.StoredState.{IsTreeBody, IsIntact}
-use Rattle.mls_follow.specs.Resumption.{IsReadableFile, HasInterim, IsStateOf, IsContentFault, IsResumed, IsUnreadableFile, IsResumeFault, base_state}
+use Rattle.mls_follow.specs.AddedRules.{IsStrictRefused}
+use Rattle.mls_follow.specs.Resumption.{IsReadableFile, HasInterim, HoldEntries, IsPlainStateOf, added_misfit, IsStateOf, IsContentFault, IsResumed, IsUnreadableFile, IsResumeFault, base_state}
 use Rattle.mls_follow.specs.ResumptionParts.{HasNoTree}
 use Rattle.mls_follow.specs.StoredRuns.{ResumptionOrFault}
 use Rattle.mls_follow.specs.declared.resume_fault.ResumeFault.{ResumeFault}
-use Rattle.mls_follow.specs.declared.resume_fault.ResumeFault.TheVariants.{Unreadable, ChecksumDiffers, UnsupportedVersion, UnsupportedSuite, RequirementsUnreadable, Tree, Member, InterimLength, KnownInvalid, OutOfMemory}
+use Rattle.mls_follow.specs.declared.resume_fault.ResumeFault.TheVariants.{Unreadable, ChecksumDiffers, UnsupportedVersion, UnsupportedSuite, RequirementsUnreadable, Tree, Member, InterimLength, KnownInvalid, AddedInvalid, Strict, KnownStrict, OutOfMemory}
+use Rattle.mls_follow.specs.declared.added_rules.StrictRefused.{StrictRefused}
+use Rattle.mls_follow.specs.declared.added_rules.StrictRefused.TheVariants as refused
+use Rattle.std.proofs.lemmas.List.Elements.{All-nil}
+use Rattle.mls_msgs.specs.Layout.{proposal}
+use Rattle.mls_tree.specs.TreeHash.{tree_hash}
+use Rattle.mls_apply.proofs.Encodings.{put_back}
+use Rattle.mls_follow.proofs.AddedOnce.{added_or_refused}
+use Rattle.mls_follow.proofs.Holding.{IsSteady}
 use Rattle.mls_follow.proofs.Pending.{held_or_not}
 use Rattle.mls_hash.proofs.Suites.{supported_or_not}
 use Rattle.mls_follow.proofs.Readings.{read_or_not, fits_or_not, tree_or_not, same_or_not}
@@ -43,10 +52,41 @@ module _ (G : VerifyFn) (c : FollowerState) (t : RatchetTree) where
   abbrev pub StateOrFault : Type 0
   StateOrFault = ((s : State) × IsStateOf G c t s) ⊎ ((f : ResumeFault) × (f ≢ OutOfMemory) × IsContentFault G c t f)
 
+  -- the strict rules of the file
+  by_strict : (u : State) → IsPlainStateOf G c t u → StateOrFault
+  by_strict u h =
+      elim (added_or_refused c.rules u) [
+        | inl made ↦ inl (made.0, record { without_rules = u; is_plain = h; made_strict = made.1 })
+        | inr fails ↦ go fails.0 fails.1 fails.2
+      ]
+    where
+      go : (e : StrictRefused) → e ≢ refused.OutOfMemory → IsStrictRefused c.rules u e → StateOrFault
+      go (refused.Group fault) own f = inr (Strict fault, (λ e. cc), record { without_rules = u; is_plain = h; fails = f })
+      go (refused.Known n) own f = inr (KnownStrict n, (λ e. cc), record { without_rules = u; is_plain = h; fails = f })
+      go refused.OutOfMemory own f = absurd (own refl)
+
+  -- the references of those that the last commit added
+  by_added : HasInterim G c t → (u : State) → HoldEntries G (base_state c t) c.known u → (o : Option ℕ) → added_misfit c.context.cipher_suite t.tree c.added ≡ o → StateOrFault
+  by_added h u held None fit =
+      by_strict (record u { added = c.added }) (record { has_interim = h; with_pending = u; held = held; added_fit = fit; state = refl })
+  by_added h u held (Some n) misfit = inr (AddedInvalid n, (λ e. cc), record { has_interim = h; with_pending = u; held = held; misfit = misfit })
+
+  -- the state without its pending proposals
+  pub base_steady : HasInterim G c t → IsSteady (base_state c t)
+  base_steady h = record {
+    held = record {
+      shape = t.shape;
+      tree = put_back (tree_hash (hash_of c.context.cipher_suite) 0 t.tree) c.context.tree_hash h.has_members.valid_tree.valid.hashed;
+      known = All-nil (λ k. IsSome (proposal k.proposal));
+    };
+    required = h.required;
+    requires = h.has_members.valid_tree.readable.requires;
+  }
+
   by_known : HasInterim G c t → StateOrFault
   by_known h =
-      elim (held_or_not G (base_state c t) c.known) [
-        | inl held ↦ inl (held.0, record { has_interim = h; held = held.1 })
+      elim (held_or_not G (base_state c t) (base_steady h) c.known) [
+        | inl held ↦ by_added h held.0 held.1 (added_misfit c.context.cipher_suite t.tree c.added) refl
         | inr fails ↦ inr (KnownInvalid fails.0, (λ e. cc), record { has_interim = h; fails = fails.1 })
       ]
 
@@ -109,6 +149,9 @@ module _ (G : VerifyFn) (bytes : List ℕ) where
   in_file c t h (Member f) own e = inr (Member f, own, (c, t, h, e))
   in_file c t h InterimLength own e = inr (InterimLength, own, (c, t, h, e))
   in_file c t h (KnownInvalid n) own e = inr (KnownInvalid n, own, (c, t, h, e))
+  in_file c t h (AddedInvalid n) own e = inr (AddedInvalid n, own, (c, t, h, e))
+  in_file c t h (Strict fault) own e = inr (Strict fault, own, (c, t, h, e))
+  in_file c t h (KnownStrict n) own e = inr (KnownStrict n, own, (c, t, h, e))
   in_file c t h OutOfMemory own e = absurd (own refl)
 
   by_content : (c : FollowerState) (t : RatchetTree) → IsIntact bytes c t → ResumedOrFault

@@ -11,13 +11,12 @@ use Rattle.mls_follow.specs.NextState.{Transition}
 use Rattle.mls_follow.specs.Acceptance.{IsAcceptable, IsNext}
 use Rattle.mls_follow.specs.Runs.{Call, IsTransition, IsRun, IsFold, accepted, accepted_before}
 use Rattle.mls_follow.specs.Validity.{IsValidState}
-use Rattle.mls_follow.specs.RisingRuns.{Event, IsRisingRun, last_meaning, received, AcceptsAll, IsAccepted, HasMemory, RisingRunsExtend, RisingRunsAreFolds, RisingRunsAreAccepted, AcceptedMakeRuns, RecoveriesAccept, RisingRunsKeepValidity, RisingFollowersAreValid, RisingFollowersKnowSigned, RisingRunsAreAnswered}
+use Rattle.mls_follow.specs.RisingRuns.{Event, IsRisingRun, last_meaning, received, AcceptsAll, IsAccepted, HasMemory, RisingRunsExtend, RisingRunsAreFolds, RisingRunsAreAccepted, AcceptedMakeRuns, RecoveriesAccept, RisingRunsKeepValidity, RisingFollowersAreValid, RisingRunsAreAnswered}
 use Rattle.mls_follow.specs.RisingRuns.Event.{Received, Learned}
 use Rattle.mls_follow.specs.declared.taken.Taken.{Taken}
 use Rattle.mls_follow.proofs.AcceptancesStay.{acceptance_stays, start_stays}
 use Rattle.mls_follow.proofs.Answering.{only_answer}
 use Rattle.mls_follow.proofs.Holding.{run_answered}
-use Rattle.mls_follow.proofs.KnownSigned.{followers_signed}
 use Rattle.mls_follow.proofs.Validity.{run_valid, start_valid}
 use Rattle.mls_follow.proofs.SignatureAgreement.{members_stay}
 
@@ -119,12 +118,6 @@ rising_valid G s events new v h =
 pub rising_follower_valid : RisingFollowersAreValid
 rising_follower_valid asked profile G info supplied first last events start h =
     rising_valid G first events last (start_valid asked profile G info supplied first start) h
-
-pub rising_signed : RisingFollowersKnowSigned
-rising_signed asked profile G info supplied first last events start h =
-    let r = as_run G first events last h in
-    followers_signed asked profile (last_meaning G events) info supplied first last r.calls
-    (start_stays asked profile G (last_meaning G events) info supplied first (rising_extends G first events last h) start) r.run
 
 pub rising_answered : RisingRunsAreAnswered
 rising_answered asked profile G info supplied first last events bytes start h =

@@ -39,6 +39,7 @@ use Rattle.mls_apply.proofs.RuleLists.{AreKept, passed, passed_both, refused}
 use Rattle.mls_follow.specs.State.{State}
 use Rattle.mls_apply.specs.Transcript.{confirmed_hash, interim_hash}
 use Rattle.mls_follow.specs.MessageRules.{reference_of, inline_rules, member_rules, tree_rules, CommitterTree, committer_tree, resulting, changed_tree, path_rules_of, committer_tree_rules, applied_tree_rules, required_after, rules_with_requirements, proposal_list_rules, commit_rules, content_rules, leaf_rules, external_commit_rules, signed_commit_rules, joiner_rules, if_full, sender_rules, frame_rules, message_rules}
+use Rattle.mls_apply.specs.PackageRefs.{added_references}
 use Rattle.mls_follow.specs.NextState.{Transition, after_proposal, committed, after_tree, commit_tree, with_extensions, with_list, after_content, after_join, after_outside, after_sender, next}
 use Rattle.mls_follow.specs.Acceptance.{IsAcceptable, IsNext}
 use Rattle.mls_follow.specs.Runs.{IsTransition}
@@ -72,6 +73,7 @@ pub record Moves (G : VerifyFn) (s t : State) : Type 0 where
   pub path : Option UpdatePath
   pub path_kept : AreKept (path_rules_of (hash_of s.context.cipher_suite) node_index.applied_tree node_index.leaf path)
   pub merged : resulting (hash_of s.context.cipher_suite) node_index.applied_tree node_index.leaf path ≡ Some t.tree
+  pub added : t.added ≡ Some (added_references items)
 
 -- what was accepted is a commit
 abbrev pub IsCommit : Taken → Type 0
@@ -90,7 +92,7 @@ module _ (G : VerifyFn) (s : State) (required : RequiredCapabilities) (requires 
         (kept : AreKept (committer_tree_rules G s new c.path (Some q)))
         (t : Tree) (merged : resulting (hash_of s.context.cipher_suite) q.applied_tree q.leaf c.path ≡ Some t) where
       moved : (hash confirmed interim : List ℕ) → tree_hash (hash_of s.context.cipher_suite) 0 t ≡ Some hash
-          → Moves G s (committed (with_extensions s es ended) t hash confirmed interim).state
+          → Moves G s (committed (with_extensions s es ended (added_references items)) t hash confirmed interim).state
       moved hash confirmed interim hashed =
           let k = passed_both (path_rules_of (hash_of s.context.cipher_suite) q.applied_tree q.leaf c.path) (tree_rules G s new (resulting (hash_of s.context.cipher_suite) q.applied_tree q.leaf c.path)) kept in
           record {
@@ -110,32 +112,33 @@ module _ (G : VerifyFn) (s : State) (required : RequiredCapabilities) (requires 
             path = c.path;
             path_kept = k.0;
             merged = merged;
+            added = refl;
           }
 
-      by_tree : after_tree (with_extensions s es ended) a t ≡ Some step → Leads step
+      by_tree : after_tree (with_extensions s es ended (added_references items)) a t ≡ Some step → Leads step
       by_tree e =
           option_and_then_some (λ hash.
-          option_and_then (λ confirmed. option_map (committed (with_extensions s es ended) t hash confirmed) (interim_hash (hash_of s.context.cipher_suite) confirmed a.confirmation_tag))
+          option_and_then (λ confirmed. option_map (committed (with_extensions s es ended (added_references items)) t hash confirmed) (interim_hash (hash_of s.context.cipher_suite) confirmed a.confirmation_tag))
           (confirmed_hash (hash_of s.context.cipher_suite) s.interim a))
           (tree_hash (hash_of s.context.cipher_suite) 0 t) step e
           (λ hash f g.
-          option_and_then_some (λ confirmed. option_map (committed (with_extensions s es ended) t hash confirmed) (interim_hash (hash_of s.context.cipher_suite) confirmed a.confirmation_tag))
+          option_and_then_some (λ confirmed. option_map (committed (with_extensions s es ended (added_references items)) t hash confirmed) (interim_hash (hash_of s.context.cipher_suite) confirmed a.confirmation_tag))
           (confirmed_hash (hash_of s.context.cipher_suite) s.interim a) step g
           (λ confirmed k l.
-          (let w = came_from (committed (with_extensions s es ended) t hash confirmed) (interim_hash (hash_of s.context.cipher_suite) confirmed a.confirmation_tag) step l in
+          (let w = came_from (committed (with_extensions s es ended (added_references items)) t hash confirmed) (interim_hash (hash_of s.context.cipher_suite) confirmed a.confirmation_tag) step l in
           subst (λ (u : Transition). Leads u) w.2 (inr (moved hash confirmed w.0 f, tt)))))
 
     by_place : (es : List Extension) (ended : Bool) (new : RequiredCapabilities) → RequiresBy es new → (items : List ListItem)
         → (g : AppliedTree) → outcome items s.tree ≡ Some g → (p : Option CommitterTree) → committer_tree committer g ≡ p → AreKept (committer_tree_rules G s new c.path p) → (t : Tree)
         → option_and_then (λ q. resulting (hash_of s.context.cipher_suite) q.applied_tree q.leaf c.path) p ≡ Some t
-        → after_tree (with_extensions s es ended) a t ≡ Some step → Leads step
+        → after_tree (with_extensions s es ended (added_references items)) a t ≡ Some step → Leads step
     by_place es ended new by items g made None at kept t e f = absurd (refused kept)
     by_place es ended new by items g made (Some q) at kept t e f = by_tree es ended new by items g made q at kept t e f
 
     by_outcome : (es : List Extension) (ended : Bool) (new : RequiredCapabilities) → RequiresBy es new → (items : List ListItem)
         → (o : Option AppliedTree) → outcome items s.tree ≡ o → AreKept (applied_tree_rules G s new committer c.path o) → (t : Tree)
         → changed_tree (hash_of s.context.cipher_suite) committer c.path o ≡ Some t
-        → after_tree (with_extensions s es ended) a t ≡ Some step → Leads step
+        → after_tree (with_extensions s es ended (added_references items)) a t ≡ Some step → Leads step
     by_outcome es ended new by items None is kept t e f = absurd (refused kept)
     by_outcome es ended new by items (Some g) is kept t e f = by_place es ended new by items g is (committer_tree committer g) refl kept t e f
 
@@ -179,16 +182,17 @@ module _ (G : VerifyFn) (s : State) (required : RequiredCapabilities) (requires 
     by_path None kept e = absurd (refused kept)
     by_path (Some path) kept e = by_external (passed kept).1 e
 
-  by_proposal : (sender : Sender) (p : Proposal) (o : Option (List ℕ)) (step : Transition) → option_map (after_proposal s sender p) o ≡ Some step → Leads step
-  by_proposal sender p o step e =
-      let w = came_from (after_proposal s sender p) o step e in
-      let still : Stays s (after_proposal s sender p w.0).state = record { context = refl; tree = refl; rules = refl } in
+  by_proposal : (a : AuthenticatedParts) (sender : Sender) (p : Proposal) (o : Option (List ℕ)) (step : Transition)
+      → option_map (after_proposal s a sender p) o ≡ Some step → Leads step
+  by_proposal a sender p o step e =
+      let w = came_from (after_proposal s a sender p) o step e in
+      let still : Stays s (after_proposal s a sender p w.0).state = record { context = refl; tree = refl; rules = refl } in
       subst (λ (u : Transition). Leads u) w.2 (inl still)
 
   module _ (a : AuthenticatedParts) (step : Transition) where
     by_content : (i : ℕ) (x : LeafNode) (content : Content) → AreKept (content_rules G s required a i x content) → after_content s a i content ≡ Some step → Leads step
     by_content i x (contents.Application sent) kept e = absurd (refused kept)
-    by_content i x (contents.Proposal p) kept e = by_proposal (senders.Member i) p (reference_of s.context a) step e
+    by_content i x (contents.Proposal p) kept e = by_proposal a (senders.Member i) p (reference_of s.context a) step e
     by_content i x (contents.Commit c) kept e = by_commit a i c step (passed kept).1 e
 
     by_leaf : (i : ℕ) (o : Option LeafNode) → AreKept (leaf_rules G s required a i o) → after_content s a i a.content.content ≡ Some step → Leads step
@@ -198,7 +202,7 @@ module _ (G : VerifyFn) (s : State) (required : RequiredCapabilities) (requires 
     -- a sender outside the group proposes only
     by_outside : (sender : Sender) (content : Content) → after_outside s a sender content ≡ Some step → Leads step
     by_outside sender (contents.Application sent) e = absurd (none-some step e)
-    by_outside sender (contents.Proposal p) e = by_proposal sender p (reference_of s.context a) step e
+    by_outside sender (contents.Proposal p) e = by_proposal a sender p (reference_of s.context a) step e
     by_outside sender (contents.Commit c) e = absurd (none-some step e)
 
     -- a client that joins commits only

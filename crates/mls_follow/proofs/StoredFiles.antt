@@ -1,7 +1,11 @@
 -- A state has a file, or no bytes are its file.
-use Rattle.std.proofs.Common.{◌≡◌, ◌∙◌, ℕ, Bool, true, false, List, length, map, Option, Some, None, refl, sym, ap, subst, inl, inr}
+use Rattle.std.proofs.Common.{◌≡◌, ◌∙◌, ℕ, Bool, true, false, List, [], ◌∷◌, length, map, Option, Some, None, refl, sym, ap, subst, inl, inr}
 use Rattle.std.specs.Prelude.{◌⊎◌}
+use Rattle.std.specs.Str.{bytes_eq}
+use Rattle.std.proofs.lemmas.Bool.{false≢true}
 use Rattle.std.proofs.lemmas.Option.{none-some, same_Some}
+use Rattle.std.proofs.lemmas.Slice.Eq.{bytes_eq-Decides}
+use Rattle.mls_apply.specs.declared.list_item.KnownProposal.{KnownProposal}
 use Rattle.sha2.specs.Sha256.{sha256}
 use Rattle.mls_wire.specs.Encoding.{vector}
 use Rattle.mls_wire.specs.Parsing.{vector_at}
@@ -15,14 +19,12 @@ use Rattle.mls_state.specs.StateFile.{IsFileOf}
 use Rattle.mls_state.specs.declared.state.FollowerState.{FollowerState}
 use Rattle.mls_state.specs.declared.state.GroupMode.{GroupMode}
 use Rattle.mls_follow.specs.State.{State}
-use Rattle.mls_follow.specs.StoredState.{IsTreeBody, Stores, EncodesState, HasNoFile, stored_entry, stored_mode}
+use Rattle.mls_follow.specs.StoredState.{IsTreeBody, Stores, EncodesState, HasNoFile, AreReferenced, computed_references, pending_contents, stored_mode}
 use Rattle.mls_follow.specs.StoredRuns.{StoredFileOrNone}
 use Rattle.mls_follow.proofs.Readings.{read_or_not, fits_or_not, same_or_not, le_or_not}
-use Rattle.mls_follow.proofs.StoredStates.{made_file, no_file, long_file, no_tree_no_file, no_mode_no_file, not_plain_no_file}
+use Rattle.mls_follow.proofs.StoredStates.{made_file, no_file, long_file, no_tree_no_file, no_mode_no_file, unreferenced_no_file}
 use Rattle.mls_follow.proofs.StoredTrees.{encoded_tree, filled-full}
 use Rattle.mls_follow.proofs.Storing.{own_bytes, no_body, is_same}
-use Rattle.mls_msgs.specs.Rules.{is_plain, plain_rules}
-use Rattle.mls_msgs.proofs.RuleSets.{is_plain-iff}
 
 -- ---- shapes
 
@@ -47,6 +49,34 @@ shape_or_not t =
       | inl perfect ↦ elim (le_or_not (height t) 20) [
         | inr high ↦ inr (λ h. high h.low)
         | inl low ↦ inl (record { perfect = perfect; low = low })
+      ]
+    ]
+
+-- ---- references
+
+abbrev AlikeOrNot : Option (List ℕ) → Option (List ℕ) → Type 0
+AlikeOrNot x y = (x ≡ y) ⊎ (x ≡ y → ⊥)
+
+reference_or_not : (x y : Option (List ℕ)) → AlikeOrNot x y
+reference_or_not None None = inl refl
+reference_or_not None (Some y) = inr (λ e. none-some y e)
+reference_or_not (Some x) None = inr (λ e. none-some x (sym e))
+reference_or_not (Some x) (Some y) = go (bytes_eq x y) refl
+  where
+    go : (b : Bool) → bytes_eq x y ≡ b → AlikeOrNot (Some x) (Some y)
+    go true same = inl (ap Some ((bytes_eq-Decides x y).0 same))
+    go false other = inr (λ e. false≢true (sym other ∙ (bytes_eq-Decides x y).1 (same_Some x y e)))
+
+references_or_not : (xs ys : List (Option (List ℕ))) → (xs ≡ ys) ⊎ (xs ≡ ys → ⊥)
+references_or_not [] [] = inl refl
+references_or_not [] (y ∷ ys) = inr (λ e. cc)
+references_or_not (x ∷ xs) [] = inr (λ e. cc)
+references_or_not (x ∷ xs) (y ∷ ys) =
+    elim (reference_or_not x y) [
+      | inr other ↦ inr (λ e. other (cc))
+      | inl first ↦ elim (references_or_not xs ys) [
+        | inr other ↦ inr (λ e. other (cc))
+        | inl rest ↦ inl (λ i. first i ∷ rest i)
       ]
     ]
 
@@ -119,33 +149,47 @@ module _ (s : State) where
     by_content : FileOrNone
     by_content = by_state (follower_state c) refl
 
-  by_mode : s.rules ≡ plain_rules → (mode : GroupMode) → stored_mode s.profile s.ended ≡ Some mode → HasShape s.tree → FileOrNone
-  by_mode plain mode e shape =
+  by_mode : AreReferenced s.context s.known → (mode : GroupMode) → stored_mode s.profile s.ended ≡ Some mode → HasShape s.tree → FileOrNone
+  by_mode referenced mode e shape =
       let t : RatchetTree = record { tree = s.tree; shape = shape } in
       elim (body_or_none t) [
         | inr none ↦ inr (no_tree_no_file s t refl none)
         | inl body ↦
             (let c : FollowerState = record {
               mode = mode;
+              rules = s.rules;
               context = s.context;
               interim = s.interim;
               tree = body.0;
-              known = map stored_entry s.known;
+              known = pending_contents s;
+              added = s.added;
             } in
-            by_content c t body.1 (record { mode = e; rules = plain; context = refl; tree = refl; interim = refl; known = refl }))
+            by_content c t body.1 (record {
+              mode = e;
+              rules = refl;
+              context = refl;
+              tree = refl;
+              interim = refl;
+              known = refl;
+              referenced = referenced;
+              added = refl;
+            }))
       ]
 
-  by_shape : s.rules ≡ plain_rules → (o : Option GroupMode) → stored_mode s.profile s.ended ≡ o → HasShape s.tree → FileOrNone
-  by_shape plain None e shape = inr (no_mode_no_file s e)
-  by_shape plain (Some mode) e shape = by_mode plain mode e shape
+  by_shape : AreReferenced s.context s.known → (o : Option GroupMode) → stored_mode s.profile s.ended ≡ o → HasShape s.tree → FileOrNone
+  by_shape referenced None e shape = inr (no_mode_no_file s e)
+  by_shape referenced (Some mode) e shape = by_mode referenced mode e shape
 
-  by_rules : (b : Bool) → is_plain s.rules ≡ b → HasShape s.tree → FileOrNone
-  by_rules true plain shape = by_shape ((is_plain-iff s.rules).0 plain) (stored_mode s.profile s.ended) refl shape
-  by_rules false strict shape = inr (not_plain_no_file s strict)
+  by_references : HasShape s.tree → FileOrNone
+  by_references shape =
+      elim (references_or_not (computed_references s.context s.known) (map (λ (k : KnownProposal). Some k.reference) s.known)) [
+        | inl referenced ↦ by_shape referenced (stored_mode s.profile s.ended) refl shape
+        | inr other ↦ inr (unreferenced_no_file s other)
+      ]
 
 pub some_file : StoredFileOrNone
 some_file s =
     elim (shape_or_not s.tree) [
-      | inl shape ↦ by_rules s (is_plain s.rules) refl shape
+      | inl shape ↦ by_references s shape
       | inr none ↦ inr (λ bytes e. none (subst HasShape e.stores.tree e.tree.shape))
     ]

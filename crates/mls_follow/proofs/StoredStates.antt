@@ -3,46 +3,68 @@ use Rattle.std.proofs.Common.{◌≡◌, ◌∙◌, ℕ, ◌≤◌, Bool, true, 
 use Rattle.mls_wire.specs.Limits.{input_limit}
 use Rattle.mls_tree.specs.RatchetTree.{RatchetTree}
 use Rattle.mls_tree.specs.RatchetTreeInternal.{RatchetTree-same}
-use Rattle.std.proofs.lemmas.Bool.{false≢true}
 use Rattle.std.proofs.lemmas.Option.{none-some, same_Some}
-use Rattle.mls_msgs.specs.Rules.{is_plain}
+use Rattle.mls_nodes.specs.declared.context.GroupContext.{GroupContext}
+use Rattle.mls_msgs.specs.declared.authenticated.AuthenticatedParts.{AuthenticatedParts}
+use Rattle.mls_msgs.specs.declared.framed_content.Content.TheVariants as contents
 use Rattle.mls_msgs.specs.declared.profile.Profile.{Profile}
 use Rattle.mls_msgs.specs.declared.profile.Profile.TheVariants as profiles
 use Rattle.mls_state.proofs.Files.{state_is_unique, file_is_unique}
 use Rattle.mls_state.specs.StateFile.{IsFileOf}
-use Rattle.mls_state.specs.declared.known_entry.KnownEntry.{KnownEntry}
 use Rattle.mls_state.specs.declared.state.FollowerState.{FollowerState}
 use Rattle.mls_state.specs.declared.state.GroupMode.{GroupMode}
 use Rattle.mls_state.specs.declared.state.GroupMode.TheVariants.{Members, Full, Ended}
 use Rattle.mls_apply.specs.declared.list_item.KnownProposal.{KnownProposal}
+use Rattle.mls_apply.specs.PendingContent.{authenticated_of}
 use Rattle.mls_follow.specs.State.{State}
-use Rattle.mls_follow.specs.StoredState.{IsTreeBody, IsIntact, Stores, EncodesState, HasNoFile, stored_entry, stored_mode}
+use Rattle.mls_follow.specs.MessageRules.{reference_of}
+use Rattle.mls_follow.specs.StoredState.{IsTreeBody, IsIntact, Stores, EncodesState, HasNoFile, AreReferenced, computed_references, stored_mode}
 use Rattle.mls_follow.specs.StoredRuns.{StoredFileIsUnique, StoredStateIsUnique}
 use Rattle.mls_follow.proofs.StoredTrees.{one_tree, one_body}
 
--- ---- entries
+-- ---- pending proposals
 
-pub one_entry : (k l : KnownProposal) → stored_entry k ≡ stored_entry l → k ≡ l
-one_entry k l e =
-    let reference : k.reference ≡ l.reference = ap (λ (x : KnownEntry). x.reference) e in
-    let sender : k.sender ≡ l.sender = ap (λ (x : KnownEntry). x.sender) e in
-    let proposal : k.proposal ≡ l.proposal = ap (λ (x : KnownEntry). x.proposal) e in
-    λ i. record { reference = reference i; sender = sender i; proposal = proposal i }
+module _ (context : GroupContext) where
+  -- what was signed of a pending proposal determines it
+  one_pending : (k l : KnownProposal) → authenticated_of context k ≡ authenticated_of context l
+      → reference_of context (authenticated_of context k) ≡ Some k.reference → reference_of context (authenticated_of context l) ≡ Some l.reference → k ≡ l
+  one_pending k l e p q =
+      let sender : k.sender ≡ l.sender = ap (λ (a : AuthenticatedParts). a.content.sender) e in
+      let body : contents.Proposal k.proposal ≡ contents.Proposal l.proposal = ap (λ (a : AuthenticatedParts). a.content.content) e in
+      let proposal : k.proposal ≡ l.proposal = cc in
+      let authenticated : k.authenticated_data ≡ l.authenticated_data = ap (λ (a : AuthenticatedParts). a.content.authenticated) e in
+      let signature : k.signature ≡ l.signature = ap (λ (a : AuthenticatedParts). a.signature) e in
+      let reference : k.reference ≡ l.reference = same_Some k.reference l.reference (sym p ∙ ap (reference_of context) e ∙ q) in
+      λ i. record {
+        reference = reference i;
+        sender = sender i;
+        proposal = proposal i;
+        authenticated_data = authenticated i;
+        signature = signature i;
+      }
 
-same_head : (x y : KnownEntry) (xs ys : List KnownEntry) → ◌≡◌ {A = List KnownEntry} (x ∷ xs) (y ∷ ys) → x ≡ y
-same_head x y xs ys e = cc
+  first_alike : {A : Type 0} (x y : A) (xs ys : List A) → ◌≡◌ {A = List A} (x ∷ xs) (y ∷ ys) → x ≡ y
+  first_alike x y xs ys e = cc
 
-same_tail : (x y : KnownEntry) (xs ys : List KnownEntry) → ◌≡◌ {A = List KnownEntry} (x ∷ xs) (y ∷ ys) → xs ≡ ys
-same_tail x y xs ys e = cc
+  others_alike : {A : Type 0} (x y : A) (xs ys : List A) → ◌≡◌ {A = List A} (x ∷ xs) (y ∷ ys) → xs ≡ ys
+  others_alike x y xs ys e = cc
 
-one_list : (ks ls : List KnownProposal) → map stored_entry ks ≡ map stored_entry ls → ks ≡ ls
-one_list [] [] e = refl
-one_list [] (l ∷ ls) e = absurd (cc)
-one_list (k ∷ ks) [] e = absurd (cc)
-one_list (k ∷ ks) (l ∷ ls) e =
-    let first : k ≡ l = one_entry k l (same_head (stored_entry k) (stored_entry l) (map stored_entry ks) (map stored_entry ls) e) in
-    let rest : ks ≡ ls = one_list ks ls (same_tail (stored_entry k) (stored_entry l) (map stored_entry ks) (map stored_entry ls) e) in
-    λ i. first i ∷ rest i
+  one_list : (ks ls : List KnownProposal) → map (authenticated_of context) ks ≡ map (authenticated_of context) ls
+      → AreReferenced context ks → AreReferenced context ls → ks ≡ ls
+  one_list [] [] e p q = refl
+  one_list [] (l ∷ ls) e p q = absurd (cc)
+  one_list (k ∷ ks) [] e p q = absurd (cc)
+  one_list (k ∷ ks) (l ∷ ls) e p q =
+      let contents_of = map (authenticated_of context) in
+      let first : k ≡ l =
+      one_pending k l (first_alike (authenticated_of context k) (authenticated_of context l) (contents_of ks) (contents_of ls) e)
+      (first_alike (reference_of context (authenticated_of context k)) (Some k.reference) (computed_references context ks) (map (λ (j : KnownProposal). Some j.reference) ks) p)
+      (first_alike (reference_of context (authenticated_of context l)) (Some l.reference) (computed_references context ls) (map (λ (j : KnownProposal). Some j.reference) ls) q) in
+      let rest : ks ≡ ls =
+      one_list ks ls (others_alike (authenticated_of context k) (authenticated_of context l) (contents_of ks) (contents_of ls) e)
+      (others_alike (reference_of context (authenticated_of context k)) (Some k.reference) (computed_references context ks) (map (λ (j : KnownProposal). Some j.reference) ks) p)
+      (others_alike (reference_of context (authenticated_of context l)) (Some l.reference) (computed_references context ls) (map (λ (j : KnownProposal). Some j.reference) ls) q) in
+      λ i. first i ∷ rest i
 
 -- ---- contents
 
@@ -55,12 +77,16 @@ one_content c d t u s a b p q =
     let context = p.context ∙ sym q.context in
     let interim = p.interim ∙ sym q.interim in
     let known = p.known ∙ sym q.known in
+    let asked = p.rules ∙ sym q.rules in
+    let added = p.added ∙ sym q.added in
     λ i. record {
       mode = mode i;
+      rules = asked i;
       context = context i;
       interim = interim i;
       tree = body i;
       known = known i;
+      added = added i;
     }
 
 -- a mode is that of one profile, and of a group that is over or not
@@ -85,10 +111,22 @@ one_state c t r s p q =
     let context = sym p.context ∙ q.context in
     let tree = sym p.tree ∙ q.tree in
     let interim = sym p.interim ∙ q.interim in
-    let known = one_list r.known s.known (sym p.known ∙ q.known) in
+    let alike : map (authenticated_of s.context) r.known ≡ map (authenticated_of s.context) s.known =
+    ap (λ (d : GroupContext). map (authenticated_of d) r.known) (sym context) ∙ sym p.known ∙ q.known in
+    let known = one_list s.context r.known s.known alike (subst (λ (d : GroupContext). AreReferenced d r.known) context p.referenced) q.referenced in
     let mode = one_mode r.profile s.profile r.ended s.ended c.mode p.mode q.mode in
-    let asked = p.rules ∙ sym q.rules in
-    λ i. record { profile = mode.0 i; rules = asked i; context = context i; tree = tree i; interim = interim i; known = known i; ended = mode.1 i }
+    let asked = sym p.rules ∙ q.rules in
+    let added = sym p.added ∙ q.added in
+    λ i. record {
+      profile = mode.0 i;
+      rules = asked i;
+      context = context i;
+      tree = tree i;
+      interim = interim i;
+      known = known i;
+      ended = mode.1 i;
+      added = added i;
+    }
 
 -- ---- files
 
@@ -130,9 +168,9 @@ module _ (s : State) (c : FollowerState) (t : RatchetTree) (body : IsTreeBody c.
 pub no_mode_no_file : (s : State) → stored_mode s.profile s.ended ≡ None → HasNoFile s
 no_mode_no_file s none bytes h = none-some h.content.mode (sym none ∙ h.stores.mode)
 
--- nor has one that asks strict rules
-pub not_plain_no_file : (s : State) → is_plain s.rules ≡ false → HasNoFile s
-not_plain_no_file s strict bytes h = false≢true (sym strict ∙ ap is_plain h.stores.rules)
+-- nor has one with a pending proposal whose reference is that of another content
+pub unreferenced_no_file : (s : State) → (AreReferenced s.context s.known → ⊥) → HasNoFile s
+unreferenced_no_file s none bytes h = none h.stores.referenced
 
 -- without a body there is no content
 

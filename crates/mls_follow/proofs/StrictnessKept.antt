@@ -18,7 +18,9 @@ use Rattle.mls_hash.specs.SuiteHash.{hash_of}
 use Rattle.mls_check.specs.LeafValidation.{all_leaves}
 use Rattle.mls_check.specs.Signatures.{VerifyFn}
 use Rattle.mls_check.proofs.Elements.{and-left, and-right}
-use Rattle.mls_msgs.specs.Rules.{has_rule}
+use Rattle.mls_msgs.specs.Rules.{has_rule, plain_rules}
+use Rattle.mls_msgs.proofs.RuleSets.{has_rule-plain}
+use Rattle.mls_follow.proofs.FewerRules.{no_plain_rule}
 use Rattle.mls_msgs.specs.StrictRules.{strict_number}
 use Rattle.mls_msgs.specs.declared.authenticated.AuthenticatedParts.{AuthenticatedParts}
 use Rattle.mls_msgs.specs.declared.commit.Commit.{Commit}
@@ -58,7 +60,7 @@ use Rattle.mls_apply.proofs.Merging.{came_from}
 use Rattle.mls_follow.specs.Acceptance.{IsAcceptable, IsNext}
 use Rattle.mls_follow.specs.AddedRules.{AreKnownStrict, HasAddedRules}
 use Rattle.mls_follow.specs.MessageRules.{changed_tree, reference_of}
-use Rattle.mls_follow.specs.NextState.{Transition, after_commit, after_content, after_join, after_outside, after_proposal, after_sender, after_tree, commit_tree, committed, next, with_list}
+use Rattle.mls_follow.specs.NextState.{Transition, after_commit, after_content, after_join, after_outside, after_proposal, pending_proposal, after_sender, after_tree, commit_tree, committed, next, with_list}
 use Rattle.mls_follow.specs.Runs.{Call, IsRun, IsTransition}
 use Rattle.mls_follow.proofs.Stepping.{taken}
 use Rattle.mls_follow.specs.State.{State}
@@ -370,13 +372,13 @@ support_meets context t h = record {
 
 module _ (s : State) (strict : IsStrictState s) where
   -- a proposal is pending
-  by_proposal : (sender : Sender) (p : Proposal) (o : Option (List ℕ)) (step : Transition) → proposal_refusal s.rules s.context p ≡ None
-      → option_map (after_proposal s sender p) o ≡ Some step → IsStrictState step.state
-  by_proposal sender p o step none e =
-      let w = came_from (after_proposal s sender p) o step e in
-      let still : IsStrictState (after_proposal s sender p w.0).state = record {
+  by_proposal : (a : AuthenticatedParts) (sender : Sender) (p : Proposal) (o : Option (List ℕ)) (step : Transition) → proposal_refusal s.rules s.context p ≡ None
+      → option_map (after_proposal s a sender p) o ≡ Some step → IsStrictState step.state
+  by_proposal a sender p o step none e =
+      let w = came_from (after_proposal s a sender p) o step e in
+      let still : IsStrictState (after_proposal s a sender p w.0).state = record {
         group = strict.group;
-        known = known_push s.rules s.context s.known (record { reference = w.0; sender = sender; proposal = p }) strict.known none;
+        known = known_push s.rules s.context s.known (pending_proposal a sender p w.0) strict.known none;
       } in
       subst (λ (u : Transition). IsStrictState u.state) w.2 still
 
@@ -481,12 +483,12 @@ module _ (s : State) (strict : IsStrictState s) where
 
     by_content : (i : ℕ) (content : Content) → content_refusal s.rules s.context content ≡ None → after_content s a i content ≡ Some step → IsStrictState step.state
     by_content i (contents.Application sent) none e = absurd (none-some step e)
-    by_content i (contents.Proposal p) none e = by_proposal (senders.Member i) p (reference_of s.context a) step (offer_none p none) e
+    by_content i (contents.Proposal p) none e = by_proposal a (senders.Member i) p (reference_of s.context a) step (offer_none p none) e
     by_content i (contents.Commit c) none e = by_member c none (senders.Member i) e
 
     by_outside : (sender : Sender) (content : Content) → content_refusal s.rules s.context content ≡ None → after_outside s a sender content ≡ Some step → IsStrictState step.state
     by_outside sender (contents.Application sent) none e = absurd (none-some step e)
-    by_outside sender (contents.Proposal p) none e = by_proposal sender p (reference_of s.context a) step (offer_none p none) e
+    by_outside sender (contents.Proposal p) none e = by_proposal a sender p (reference_of s.context a) step (offer_none p none) e
     by_outside sender (contents.Commit c) none e = absurd (none-some step e)
 
     by_join : (content : Content) → content_refusal s.rules s.context content ≡ None → after_join s a content ≡ Some step → IsStrictState step.state
@@ -588,6 +590,18 @@ module _ (asked : Rules) (s new : State) (strict : IsStrictState s) (h : HasAdde
 
   added_strict : IsStrictState new
   added_strict = subst IsStrictState (sym h.state) (record { group = group_added; known = known_added s.known strict.known h.known })
+
+-- a state without strict rules is strict
+known_plain : (context : GroupContext) (known : List KnownProposal) → AreKnownStrict plain_rules context known
+unfolding proposal_refusal
+known_plain context [] = tt
+known_plain context (k ∷ ks) = (no_plain_rule (λ r. proposal_meets context r k.proposal) content_rules, known_plain context ks)
+
+pub plain_strict : (s : State) → s.rules ≡ plain_rules → IsStrictState s
+plain_strict s plain = record {
+  group = λ r has. absurd (false≢true (sym (has_rule-plain (strict_number r)) ∙ ap (λ (x : Rules). has_rule x (strict_number r)) (sym plain) ∙ has));
+  known = subst (λ (x : Rules). AreKnownStrict x s.context s.known) (sym plain) (known_plain s.context s.known);
+}
 
 pub added_rules_keep_strictness : AddedRulesKeepStrictness
 added_rules_keep_strictness asked s new strict h = added_strict asked s new strict h

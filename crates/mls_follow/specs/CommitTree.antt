@@ -31,6 +31,7 @@ in_context context = record {
   interim = [];
   known = [];
   ended = false;
+  added = None;
 }
 
 -- `IsListed committer items path`: the proposal list satisfies its rules, if its committer is a member (RFC 9420,
@@ -69,4 +70,5 @@ initial_state_of_tree asked profile info t interim = record {
   interim = interim;
   known = [];
   ended = false;
+  added = None;
 }

@@ -1,4 +1,5 @@
 -- The model of the group that a follower holds: its state. Used by contracts.
+use Rattle.std.specs.Prelude.{option_map}
 use Rattle.mls_follow.specs.State.{State}
 use Rattle.mls_follow.specs.declared.group.Group.{Group}
 
@@ -12,4 +13,5 @@ group_state g = record {
   interim = g.interim;
   known = g.known;
   ended = g.ended;
+  added = option_map (λ v. v.items) g.added;
 }

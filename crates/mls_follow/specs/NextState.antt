@@ -14,7 +14,9 @@ use Rattle.mls_msgs.specs.declared.framed_content.Sender.TheVariants as senders
 use Rattle.mls_msgs.specs.declared.message.Message.{Message}
 use Rattle.mls_msgs.specs.declared.message.Message.TheVariants as messages
 use Rattle.mls_msgs.specs.declared.proposal.Proposal.{Proposal}
+use Rattle.mls_apply.specs.declared.list_item.KnownProposal.{KnownProposal}
 use Rattle.mls_apply.specs.declared.list_item.ListItem.{ListItem}
+use Rattle.mls_apply.specs.PackageRefs.{added_references}
 use Rattle.mls_apply.specs.ContextExtensions.{new_extensions}
 use Rattle.mls_apply.specs.ListRules.{has_reinit}
 use Rattle.mls_apply.specs.JoinRules.{join_items}
@@ -31,14 +33,23 @@ pub record Transition : Type 0 where
   pub taken : Taken
   pub state : State
 
--- `after_proposal s sender p reference` is the step after a proposal of a sender: it is pending under its reference
+-- `pending_proposal a sender p reference` is a proposal of a sender as a pending one, with what its AuthenticatedContent `a`
+-- has besides (RFC 9420, 6 and 12.4).
+abbrev pub pending_proposal : AuthenticatedParts → Sender → Proposal → List ℕ → KnownProposal
+pending_proposal a sender p reference = record {
+  reference = reference;
+  sender = sender;
+  proposal = p;
+  authenticated_data = a.content.authenticated;
+  signature = a.signature;
+}
+
+-- `after_proposal s a sender p reference` is the step after a proposal of a sender: it is pending under its reference
 -- (RFC 9420, 12.4).
-abbrev pub after_proposal : State → Sender → Proposal → List ℕ → Transition
-after_proposal s sender p reference = record {
+abbrev pub after_proposal : State → AuthenticatedParts → Sender → Proposal → List ℕ → Transition
+after_proposal s a sender p reference = record {
   taken = takens.Proposal reference;
-  state = record s {
-    known = s.known ++ record { reference = reference; sender = sender; proposal = p } ∷ [];
-  };
+  state = record s { known = s.known ++ pending_proposal a sender p reference ∷ [] };
 }
 
 -- `committed s t hash confirmed interim` is the step after a commit: the context of the next epoch (RFC 9420, 8.1), the
@@ -84,15 +95,21 @@ abbrev pub is_over_after : Option (List ListItem) → Bool
 is_over_after None = false
 is_over_after (Some items) = has_reinit items
 
--- `with_extensions s extensions ended` is the state with `extensions` in its context (RFC 9420, 12.1.7), and with `ended`
--- as whether the group is over (11.2).
-abbrev pub with_extensions : State → List Extension → Bool → State
-with_extensions s extensions ended =
-    record s { context = record s.context { extensions = extensions }; ended = ended }
+-- `references_after items` is the KeyPackageRefs of the Adds of a proposal list (RFC 9420, 5.2 and 12.4.3.1).
+abbrev pub references_after : Option (List ListItem) → List (List ℕ)
+references_after None = []
+references_after (Some items) = added_references items
+
+-- `with_extensions s extensions ended added` is the state with `extensions` in its context (RFC 9420, 12.1.7), with `ended`
+-- as whether the group is over (11.2), and with the KeyPackageRefs `added`.
+abbrev pub with_extensions : State → List Extension → Bool → List (List ℕ) → State
+with_extensions s extensions ended added =
+    record s { context = record s.context { extensions = extensions }; ended = ended; added = Some added }
 
 -- `with_list s items` is the state with what a proposal list changes besides the tree.
 abbrev pub with_list : State → Option (List ListItem) → State
-with_list s items = with_extensions s (extensions_after s.context.extensions items) (is_over_after items)
+with_list s items =
+    with_extensions s (extensions_after s.context.extensions items) (is_over_after items) (references_after items)
 
 -- `after_commit s a committer c items` is the step after a commit with this proposal list (RFC 9420, 12.4.2).
 abbrev pub after_commit : State → AuthenticatedParts → Sender → Commit → Option (List ListItem) → Option Transition
@@ -103,7 +120,7 @@ after_commit s a committer c items =
 abbrev pub after_content : State → AuthenticatedParts → ℕ → Content → Option Transition
 after_content s a i (contents.Application _) = None
 after_content s a i (contents.Proposal p) =
-    option_map (after_proposal s (senders.Member i) p) (reference_of s.context a)
+    option_map (after_proposal s a (senders.Member i) p) (reference_of s.context a)
 after_content s a i (contents.Commit c) =
     after_commit s a (senders.Member i) c (resolved (senders.Member i) s.known c.proposals)
 
@@ -118,7 +135,7 @@ after_join s a (contents.Commit c) = after_commit s a senders.NewMemberCommit c 
 abbrev pub after_outside : State → AuthenticatedParts → Sender → Content → Option Transition
 after_outside s a sender (contents.Application _) = None
 after_outside s a sender (contents.Proposal p) =
-    option_map (after_proposal s sender p) (reference_of s.context a)
+    option_map (after_proposal s a sender p) (reference_of s.context a)
 after_outside s a sender (contents.Commit _) = None
 
 -- `after_sender s a sender` is the step after a message of a sender (RFC 9420, 6.1).

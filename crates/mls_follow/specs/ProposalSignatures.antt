@@ -1,18 +1,16 @@
 -- The signature of a proposal is checked before it is compared with the pending ones, and each pending proposal was
 -- signed (RFC 9420, 6.1 and 12.4). Used by contracts.
-use Rattle.std.specs.Prelude.{◌≡◌, ℕ, List, All, true, false, Option, Some}
+use Rattle.std.specs.Prelude.{◌≡◌, ℕ, List, All, true, false, Some}
 use Rattle.mls_nodes.specs.declared.context.GroupContext.{GroupContext}
 use Rattle.mls_nodes.specs.declared.required_capabilities.RequiredCapabilities.{RequiredCapabilities}
-use Rattle.mls_tree.specs.RatchetTree.{RatchetTree}
 use Rattle.mls_tree.specs.Tree.{Tree}
 use Rattle.mls_check.specs.Signatures.{VerifyFn}
 use Rattle.mls_msgs.specs.declared.authenticated.AuthenticatedParts.{AuthenticatedParts}
 use Rattle.mls_msgs.specs.declared.framed_content.Content.TheVariants as contents
-use Rattle.mls_msgs.specs.declared.profile.Profile.{Profile}
-use Rattle.mls_msgs.specs.declared.group_info.GroupInfo.{GroupInfo}
 use Rattle.mls_msgs.specs.declared.message.Message.TheVariants as messages
 use Rattle.mls_msgs.specs.declared.proposal.Proposal.{Proposal}
 use Rattle.mls_msgs.specs.declared.public_message.PublicParts.{PublicParts}
+use Rattle.mls_apply.specs.PendingContent.{authenticated_of}
 use Rattle.mls_apply.specs.declared.list_item.KnownProposal.{KnownProposal}
 use Rattle.mls_apply.specs.declared.refusal.Refusal.TheVariants as refusals
 use Rattle.mls_apply.specs.declared.refusal.Refusal.TheVariants.{BadSignature}
@@ -21,9 +19,8 @@ use Rattle.mls_signatures.specs.SigningKeys.{signing_key, may_propose}
 use Rattle.mls_follow.specs.State.{State}
 use Rattle.mls_follow.specs.MessageRules.{reference_of, is_sender_supported, is_new_proposal, is_frame_signed}
 use Rattle.mls_follow.specs.StrictRules.{all_rules}
-use Rattle.mls_follow.specs.Start.{IsStart}
 use Rattle.mls_follow.specs.Runs.{Call, IsRun}
-use Rattle.mls_msgs.specs.declared.rules.Rules.{Rules}
+use Rattle.mls_follow.specs.StoredRuns.{IsInitialState}
 
 -- `IsProposalUnder s a key p`: the content is a proposal for the current group and epoch, the group goes on, the sender's
 -- messages are processed, and the sender may send the proposal and has this key.
@@ -50,25 +47,22 @@ KnownIsReportedNext =
     → IsProposalUnder s m.auth key p → is_frame_signed G s.context key m.auth ≡ true → is_new_proposal s m.auth ≡ false
     → first_failing (all_rules G s required (messages.Public m)) ≡ Some refusals.KnownProposal
 
--- `IsKnownSigned G context t k`: the pending proposal has the reference of a content that its sender has signed, under the
--- key of its leaf in the tree or under the key of a sender outside the group; and its sender may send it.
+-- `IsKnownSigned G context t k`: the sender of the pending proposal may send it and has signed its AuthenticatedContent (RFC
+-- 9420, 6.1), under the key of its leaf in the tree or under the key of a sender outside the group; and its reference is the
+-- ProposalRef of this AuthenticatedContent (5.2).
 pub record IsKnownSigned (G : VerifyFn) (context : GroupContext) (t : Tree) (k : KnownProposal) : Type 0 where
-  pub frame : AuthenticatedParts
   pub key : List ℕ
   pub signer : signing_key context t k.sender (contents.Proposal k.proposal) ≡ Some key
   pub allowed : may_propose k.sender k.proposal ≡ true
-  pub sender : frame.content.sender ≡ k.sender
-  pub content : frame.content.content ≡ contents.Proposal k.proposal
-  pub reference : reference_of context frame ≡ Some k.reference
-  pub signed : is_frame_signed G context key frame ≡ true
+  pub reference : reference_of context (authenticated_of context k) ≡ Some k.reference
+  pub signed : is_frame_signed G context key (authenticated_of context k) ≡ true
 
 -- `AreKnownSigned G s`: `IsKnownSigned` holds of each pending proposal of the state.
 abbrev pub AreKnownSigned : VerifyFn → State → Type 0
 AreKnownSigned G s = All (IsKnownSigned G s.context s.tree) s.known
 
--- After any run from a start, `AreKnownSigned` holds.
+-- After any run from a start or a resumption, `AreKnownSigned` holds.
 abbrev pub FollowersKnowSigned : Type 0
 FollowersKnowSigned =
-    (asked : Rules) (profile : Profile) (G : VerifyFn) (info : GroupInfo) (supplied : Option RatchetTree) (first last : State)
-    (calls : List Call) → IsStart asked profile G info supplied first → IsRun G first calls last
+    (G : VerifyFn) (first last : State) (calls : List Call) → IsInitialState G first → IsRun G first calls last
     → AreKnownSigned G last

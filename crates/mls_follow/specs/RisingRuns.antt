@@ -13,6 +13,7 @@ use Rattle.mls_follow.specs.Start.{IsStart}
 use Rattle.mls_follow.specs.Runs.{Call, IsTransition, IsRun, IsFold, HasAnswer, accepted}
 use Rattle.mls_follow.specs.Validity.{IsValidState}
 use Rattle.mls_follow.specs.ProposalSignatures.{AreKnownSigned}
+use Rattle.mls_follow.specs.StoredRuns.{IsInitialState}
 use Rattle.mls_msgs.specs.declared.rules.Rules.{Rules}
 
 -- ---- definitions
@@ -124,12 +125,10 @@ RisingFollowersAreValid =
     → IsStart asked profile G info supplied first → IsRisingRun G first events last
     → IsValidState (last_meaning G events) last
 
--- Each pending proposal after a rising run from a start is signed, under the last verification function.
+-- Each pending proposal after a rising run from a start or a resumption is signed, under the last verification function.
 abbrev pub RisingFollowersKnowSigned : Type 0
 RisingFollowersKnowSigned =
-    (asked : Rules) (profile : Profile) (G : VerifyFn) (info : GroupInfo) (supplied : Option RatchetTree) (first last : State)
-    (events : List Event)
-    → IsStart asked profile G info supplied first → IsRisingRun G first events last
+    (G : VerifyFn) (first last : State) (events : List Event) → IsInitialState G first → IsRisingRun G first events last
     → AreKnownSigned (last_meaning G events) last
 
 -- After a rising run from a start there is an answer to any bytes, under the last verification function.

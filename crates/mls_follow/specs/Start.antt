@@ -78,6 +78,7 @@ initial_state asked profile info t interim = record {
   interim = interim;
   known = [];
   ended = false;
+  added = None;
 }
 
 -- `InfoMeets asked info`: the GroupInfo by itself meets the strict rules. Its confirmation tag has as many bytes as a hash of

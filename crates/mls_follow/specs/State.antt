@@ -1,6 +1,6 @@
--- The state of a follower (RFC 9420, 8.1, 8.2, 11.2 and 12.4). `profile` is the profile in which the group is followed.
+-- The state of a follower (RFC 9420, 8.1, 8.2, 11.2, 12.4 and 12.4.3.1). `profile` is the profile in which the group is followed.
 -- Used by contracts.
-use Rattle.std.specs.Prelude.{◌≡◌, ℕ, ◌≤◌, Bool, true, List, length, Some}
+use Rattle.std.specs.Prelude.{◌≡◌, ℕ, ◌≤◌, Bool, true, List, length, Option, Some}
 use Rattle.mls_wire.specs.Limits.{input_limit}
 use Rattle.mls_nodes.specs.declared.context.GroupContext.{GroupContext}
 use Rattle.mls_tree.specs.Tree.{Tree}
@@ -12,8 +12,9 @@ use Rattle.mls_msgs.specs.declared.rules.Rules.{Rules}
 use Rattle.mls_apply.specs.declared.list_item.KnownProposal.{KnownProposal}
 
 -- The profile, the set of strict rules (own rule), the GroupContext, the tree, the interim transcript hash, the pending
--- proposals in the order in which they were accepted, and whether the group is over: a commit with a ReInit was accepted
--- (11.2).
+-- proposals in the order in which they were accepted, whether the group is over: a commit with a ReInit was accepted (11.2);
+-- and the KeyPackageRefs of the Adds of the last accepted commit, in the order of its list (5.2 and 12.4.3.1). `None` before
+-- the first commit. No rule for messages depends on them.
 pub record State : Type 0 where
   pub profile : Profile
   pub rules : Rules
@@ -22,6 +23,7 @@ pub record State : Type 0 where
   pub interim : List ℕ
   pub known : List KnownProposal
   pub ended : Bool
+  pub added : Option (List (List ℕ))
 
 -- `EncodesMessage profile m bytes`: the bytes of an input encode the message, which is in the profile (6, 12.1). In the
 -- members' profile it has no proposal of the types psk, reinit and external_init.

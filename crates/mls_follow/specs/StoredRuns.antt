@@ -1,10 +1,11 @@
 -- Theorems on stored states: the file of a state, and runs from a state in which a follower resumes. Used by contracts.
-use Rattle.std.specs.Prelude.{◌≡◌, ◌≢◌, ◌⊎◌, ℕ, List, [], length, map, Bool, true, false, Option}
+use Rattle.std.specs.Prelude.{◌≡◌, ◌≢◌, ◌⊎◌, ℕ, List, [], length, Bool, true, false, Option, None}
 use Rattle.mls_tree.specs.RatchetTree.{RatchetTree}
 use Rattle.mls_hash.specs.SuiteHash.{hash_length}
 use Rattle.mls_check.specs.GroupTree.{IsSupportedContext}
 use Rattle.mls_check.specs.Signatures.{VerifyFn, Extends}
 use Rattle.mls_msgs.specs.declared.group_info.GroupInfo.{GroupInfo}
+use Rattle.mls_msgs.specs.Rules.{plain_rules}
 use Rattle.mls_msgs.specs.declared.profile.Profile.{Profile}
 use Rattle.mls_signatures.specs.Agreement.{AgreeOn}
 use Rattle.mls_signatures.specs.SignaturesToVerify.{resumption_signatures}
@@ -12,20 +13,27 @@ use Rattle.mls_follow.specs.State.{State}
 use Rattle.mls_follow.specs.Start.{IsStart}
 use Rattle.mls_follow.specs.Runs.{Call, IsRun, HasAnswer}
 use Rattle.mls_follow.specs.Validity.{IsValidState}
-use Rattle.mls_follow.specs.StoredState.{EncodesState, HasNoFile, stored_entry}
-use Rattle.mls_follow.specs.Resumption.{CanHoldEntries, IsResumed, IsResumeFault}
+use Rattle.mls_follow.specs.StoredState.{EncodesState, HasNoFile, pending_contents}
+use Rattle.mls_follow.specs.StrictnessKept.{IsStrictState}
+use Rattle.mls_follow.specs.Resumption.{HoldEntries, IsResumed, IsResumeFault, added_misfit}
 use Rattle.mls_follow.specs.declared.resume_fault.ResumeFault.{ResumeFault}
-use Rattle.mls_follow.specs.declared.resume_fault.ResumeFault.TheVariants.{Unreadable, ChecksumDiffers, UnsupportedVersion, UnsupportedSuite, RequirementsUnreadable, Tree, Member, InterimLength, KnownInvalid, OutOfMemory}
+use Rattle.mls_follow.specs.declared.resume_fault.ResumeFault.TheVariants.{Unreadable, ChecksumDiffers, UnsupportedVersion, UnsupportedSuite, RequirementsUnreadable, Tree, Member, InterimLength, KnownInvalid, AddedInvalid, Strict, KnownStrict, OutOfMemory}
 use Rattle.mls_msgs.specs.declared.rules.Rules.{Rules}
 
+-- `bare_state s` is the state `s` without its strict rules, and without the references of those that the last commit added.
+abbrev pub bare_state : State → State
+bare_state s = record s { rules = plain_rules; added = None }
+
 -- `IsResumable G s`: the state satisfies the conditions of a resumption: the context is supported, the tree and its leaf
--- nodes are valid, the interim transcript hash has the length of the suite's hashes, and each pending proposal can be
--- pending after those before it.
+-- nodes are valid, the interim transcript hash has the length of the suite's hashes, each pending proposal is acceptable after
+-- those before it, the references of those that the last commit added fit, and the strict rules are met.
 pub record IsResumable (G : VerifyFn) (s : State) : Type 0 where
   pub supported : IsSupportedContext s.context
   pub valid : IsValidState G s
   pub hashed : length s.interim ≡ hash_length s.context.cipher_suite
-  pub held : CanHoldEntries G (record s { known = [] }) (map stored_entry s.known) s
+  pub held : HoldEntries G (record (bare_state s) { known = [] }) (pending_contents s) (bare_state s)
+  pub added_fit : added_misfit s.context.cipher_suite s.tree s.added ≡ None
+  pub strict : IsStrictState s
 
 -- `IsInitialState G s`: a follower starts from a GroupInfo in the state, or resumes from a file in it.
 abbrev pub IsInitialState : VerifyFn → State → Type 0
@@ -56,6 +64,9 @@ is_unreadable (Tree fault) = false
 is_unreadable (Member fault) = false
 is_unreadable InterimLength = false
 is_unreadable (KnownInvalid n) = false
+is_unreadable (AddedInvalid n) = false
+is_unreadable (Strict fault) = false
+is_unreadable (KnownStrict n) = false
 is_unreadable OutOfMemory = false
 
 -- There is at most one fault, except for the cause that `Unreadable` names.

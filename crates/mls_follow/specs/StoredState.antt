@@ -4,15 +4,17 @@ use Rattle.mls_wire.specs.Encoding.{vector}
 use Rattle.mls_wire.specs.Limits.{input_limit}
 use Rattle.mls_tree.specs.RatchetTree.{RatchetTree}
 use Rattle.mls_tree.specs.TreeDecoding.{IsTreeOf}
-use Rattle.mls_msgs.specs.Rules.{plain_rules}
+use Rattle.mls_msgs.specs.declared.authenticated.AuthenticatedParts.{AuthenticatedParts}
 use Rattle.mls_msgs.specs.declared.profile.Profile.{Profile}
 use Rattle.mls_msgs.specs.declared.profile.Profile.TheVariants as profiles
 use Rattle.mls_state.specs.StateFile.{IsFileOf}
-use Rattle.mls_state.specs.declared.known_entry.KnownEntry.{KnownEntry}
 use Rattle.mls_state.specs.declared.state.FollowerState.{FollowerState}
 use Rattle.mls_state.specs.declared.state.GroupMode.{GroupMode}
 use Rattle.mls_state.specs.declared.state.GroupMode.TheVariants.{Members, Full, Ended}
+use Rattle.mls_nodes.specs.declared.context.GroupContext.{GroupContext}
+use Rattle.mls_apply.specs.PendingContent.{authenticated_of}
 use Rattle.mls_apply.specs.declared.list_item.KnownProposal.{KnownProposal}
+use Rattle.mls_follow.specs.MessageRules.{reference_of}
 use Rattle.mls_follow.specs.State.{State}
 
 -- `IsTreeBody body t`: the body, after its length, is the encoding of the ratchet tree `t` (RFC 9420, 12.4.3.3).
@@ -27,10 +29,6 @@ pub record IsIntact (bytes : List ℕ) (c : FollowerState) (t : RatchetTree) : T
   pub bounded : length bytes ≤ input_limit
   pub tree : IsTreeBody c.tree t
 
--- `stored_entry k` is the entry of the pending proposal `k` in a file.
-abbrev pub stored_entry : KnownProposal → KnownEntry
-stored_entry k = record { reference = k.reference; sender = k.sender; proposal = k.proposal }
-
 -- `stored_mode profile ended` is how a file has the profile, and whether the group is over. In the members' profile no
 -- group is over, so `None`.
 abbrev pub stored_mode : Profile → Bool → Option GroupMode
@@ -39,14 +37,30 @@ stored_mode profiles.Members true = None
 stored_mode profiles.Full false = Some Full
 stored_mode profiles.Full true = Some Ended
 
--- `Stores c t s`: `c`, whose tree is `t`, stores the state `s`, which has no strict rules.
+-- `pending_contents s` is the AuthenticatedContents of the pending proposals, in their order (RFC 9420, 6 and 12.4).
+abbrev pub pending_contents : State → List AuthenticatedParts
+pending_contents s = map (authenticated_of s.context) s.known
+
+-- `computed_references context ks` is the ProposalRefs of the AuthenticatedContents of pending proposals, in their order (RFC
+-- 9420, 5.2).
+abbrev pub computed_references : GroupContext → List KnownProposal → List (Option (List ℕ))
+computed_references context ks = map (λ k. reference_of context (authenticated_of context k)) ks
+
+-- `AreReferenced context ks`: the reference of each pending proposal is the ProposalRef of its AuthenticatedContent.
+abbrev pub AreReferenced : GroupContext → List KnownProposal → Type 0
+AreReferenced context ks = computed_references context ks ≡ map (λ k. Some k.reference) ks
+
+-- `Stores c t s`: `c`, whose tree is `t`, stores the state `s`. Of each pending proposal it stores the AuthenticatedContent,
+-- from which the reference follows.
 pub record Stores (c : FollowerState) (t : RatchetTree) (s : State) : Type 0 where
   pub mode : stored_mode s.profile s.ended ≡ Some c.mode
-  pub rules : s.rules ≡ plain_rules
+  pub rules : c.rules ≡ s.rules
   pub context : c.context ≡ s.context
   pub tree : t.tree ≡ s.tree
   pub interim : c.interim ≡ s.interim
-  pub known : c.known ≡ map stored_entry s.known
+  pub known : c.known ≡ pending_contents s
+  pub referenced : AreReferenced s.context s.known
+  pub added : c.added ≡ s.added
 
 -- `EncodesState s bytes`: the bytes are the file of the state `s`.
 pub record EncodesState (s : State) (bytes : List ℕ) : Type 0 where

@@ -1,6 +1,6 @@
 -- Fewer strict rules refuse less (own rule). `asked` and `more` are sets of strict rules, of which `more` has all of `asked`.
 -- `s` is a state, and `with_rules s asked` the same state with these rules. Used by contracts.
-use Rattle.std.specs.Prelude.{◌≡◌, ℕ, ◌≤◌, Bool, true, false, List, [], ◌∷◌, ◌++◌, Option, Some, None, option_map}
+use Rattle.std.specs.Prelude.{◌≡◌, ℕ, ◌≤◌, Bool, true, false, List, ◌∷◌, ◌++◌, Option, Some, None, option_map}
 use Rattle.mls_nodes.specs.declared.required_capabilities.RequiredCapabilities.{RequiredCapabilities}
 use Rattle.mls_check.specs.Signatures.{VerifyFn}
 use Rattle.mls_msgs.specs.Rules.{has_rule, plain_rules}

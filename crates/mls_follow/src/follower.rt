@@ -21,6 +21,7 @@ ghost use Rattle.mls_check.specs.Signatures.{Extends};
 ghost use Rattle.mls_follow.specs.AddedRules.{HasAddedRules, IsStrictRefused};
 ghost use Rattle.mls_follow.specs.Resumption.{IsResumed, IsResumeFault};
 ghost use Rattle.mls_follow.specs.Start.{IsStart, IsStartFault};
+ghost use Rattle.mls_follow.specs.StoredState.{AreReferenced};
 
 use crate::added_rules::StrictRefused;
 use crate::framed_content_rules::read_message;
@@ -70,6 +71,7 @@ fn initial_group(
         interim: checked.interim,
         known: PendingProposals::new(alloc),
         ended: false,
+        added: None,
         suite: checked.suite,
         required: checked.required,
         senders: checked.senders,
@@ -211,9 +213,13 @@ impl<C: SignatureCheck> Follower<C> {
         }
     }
 
-    /// Resumes a follower from the file of a stored state ([`Follower::encode_state`]). Whoever wrote the file, the
-    /// follower's tree is valid and its pending proposals satisfy their rules, by this checker. That the transcript hash
-    /// and the pending proposals are those of the group's history rests on who stored the file.
+    /// Resumes a follower from the file of a stored state ([`Follower::encode_state`]), by the rules that the file has. Whoever
+    /// wrote the file, the follower's tree is valid, and each of its pending proposals is one that its sender has signed and
+    /// that a follower accepts in this state, by this checker.
+    ///
+    /// That the context, the tree and the transcript hash are those of the group's history, and the KeyPackageRefs those of its
+    /// last commit, rests on who stored the file; and so does which of the proposals that were signed for this epoch are
+    /// pending, and in which order.
     ///
     /// # Errors
     ///
@@ -227,11 +233,25 @@ impl<C: SignatureCheck> Follower<C> {
     /// 6. The tree is valid ([`mls_check::validate_tree`]).
     /// 7. Its leaf nodes are valid ([`mls_check::validate_members`]).
     /// 8. The interim transcript hash has the length of the suite's hashes.
-    /// 9. Each pending proposal is one that a follower in this state could hold after those before it.
-    pub fn resume(alloc: Global, bytes: &[u8], checker: C) -> Result<Follower<C>, ResumeRefused<C>>
-        ensures resumed { IfOk result (λ f. IsResumed (C.meaning checker) bytes.now (state_of f)) }
+    /// 9. Each pending proposal is one that a follower in this state, with those before it, accepts: that of a PublicMessage
+    ///    (RFC 9420, 6.2) that satisfies every rule of the profile.
+    ///
+    /// Then, under the numbers that reports give them:
+    ///
+    /// - 12: each KeyPackageRef of those that the last commit added has the length of the suite's hashes (5.2), and there are no
+    ///   more of them than members;
+    /// - 10: the GroupContext and the tree meet the strict rules of the file;
+    /// - 11: each pending proposal meets them.
+    ///
+    /// The bytes are dropped before the tree is made, so that both need not be in memory at once.
+    pub fn resume(
+        alloc: Global,
+        bytes: Vec<u8>,
+        checker: C,
+    ) -> Result<Follower<C>, ResumeRefused<C>>
+        ensures resumed { IfOk result (λ f. IsResumed (C.meaning checker) bytes.items (state_of f)) }
         ensures checker { IfOk result (λ f. C.meaning (checker_of f) ≡ C.meaning checker) }
-        ensures refused { IfErr result (λ r. IsResumeFault (C.meaning checker) bytes.now r.fault) }
+        ensures refused { IfErr result (λ r. IsResumeFault (C.meaning checker) bytes.items r.fault) }
         ensures returned_arguments { IfErr result (λ r. r.checker ≡ checker) }
     {
         match resumed_group(alloc, bytes, &checker) {
@@ -288,11 +308,25 @@ impl<C: SignatureCheck> Follower<C> {
     }
 
     /// Returns the pending proposals (RFC 9420, 12.4): those received in the current epoch, in the order in which they
-    /// were accepted.
+    /// were accepted. The reference of each is the ProposalRef of its AuthenticatedContent (5.2), which
+    /// [`mls_apply::authenticated_of`] returns.
     pub fn known(&self) -> &[KnownProposal]
-        ensures { result.now ≡ (state_of self.now).known }
+        ensures pending { result.now ≡ (state_of self.now).known }
+        ensures referenced { AreReferenced (state_of self.now).context result.now }
     {
         self.group.known.as_slice()
+    }
+
+    /// Returns the KeyPackageRefs (RFC 9420, 5.2) of the Adds of the last accepted commit, in the order of its list: of the
+    /// clients to whom its Welcomes are addressed (12.4.3.1). `None` before the first commit after a start. After a resumption
+    /// they are those of the file. It doesn't allocate.
+    pub fn added(&self) -> Option<&[HashValue]>
+        ensures { option_map (λ references. references.now) result ≡ (state_of self.now).added }
+    {
+        match &self.group.added {
+            Some(references) => Some(references.as_slice()),
+            None => None,
+        }
     }
 
     /// Returns the checker.

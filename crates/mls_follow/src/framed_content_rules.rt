@@ -11,6 +11,7 @@ ghost use Rattle.mls_apply.specs.RuleLists.{first_failing};
 ghost use Rattle.mls_apply.specs.Senders.{is_present};
 ghost use Rattle.mls_follow.specs.State.{EncodesMessage};
 ghost use Rattle.mls_follow.specs.GroupModel.{group_state};
+ghost use Rattle.mls_follow.specs.GroupModelInternal.{IsFramedIn};
 ghost use Rattle.mls_follow.specs.MessageRules.{is_frame_signed, outside_content_rules};
 ghost use Rattle.mls_follow.specs.MessageRulesInternal.{external_commit_refusal, frame_refusal, handshake_refusal, is_handshake, joiner_refusal, lacks_key, outside_refusal, proposal_refusal, sender_refusal};
 ghost use Rattle.mls_follow.specs.Acceptance.{EncodesNoMessage};
@@ -120,6 +121,7 @@ pub(crate) fn check_header(group: &Group, frame: &ReceivedFrame<'_>) -> Result<(
     ensures rules_hold { OnOk result ((G : VerifyFn) (required : RequiredCapabilities)
         → frame_refusal G (group_state group.now) required frame.now
         ≡ sender_refusal G (group_state group.now) required frame.now frame.now.content.sender) }
+    ensures framed { OnOk result (IsFramedIn group.now.context frame.now) }
     ensures refused { IfErr result (λ e. (G : VerifyFn) (required : RequiredCapabilities)
         → frame_refusal G (group_state group.now) required frame.now ≡ Some e) }
 {

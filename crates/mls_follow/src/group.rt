@@ -7,26 +7,33 @@ ghost use Rattle.mls_msgs.specs.Tbs.{confirmed_input};
 ghost use Rattle.mls_nodes.specs.ExternalSenders.{senders_by};
 ghost use Rattle.mls_nodes.specs.Requirements.{Requires, RequiresBy};
 ghost use Rattle.mls_nodes.proofs.RequiredOnce.{Requires-prop};
+ghost use Rattle.mls_apply.specs.PackageRefs.{added_references};
 ghost use Rattle.mls_apply.specs.Staged.{IsSettled};
 ghost use Rattle.mls_apply.specs.StagedInternal.{IsSettled-prop};
+ghost use Rattle.mls_follow.specs.MessageRules.{reference_of};
+ghost use Rattle.mls_follow.specs.NextState.{pending_proposal};
 ghost use Rattle.mls_follow.specs.State.{last_epoch};
+ghost use Rattle.mls_follow.specs.StoredState.{AreReferenced};
+ghost use Rattle.mls_follow.specs.GroupModelInternal.{IsSentIn};
 ghost use Rattle.mls_apply.specs.Transcript.{confirmed_hash, interim_hash};
 
 use crate::next_extensions::NextExtensions;
+use crate::resolved::{ResolvedCommit, SentProposal};
 use crate::taken::Taken;
 use mls_apply::{
-    KnownProposal, PendingProposals, Refusal, StagedTree, confirmed_hash, interim_hash,
+    KnownProposal, PendingProposals, Refusal, StagedTree, added_references, confirmed_hash,
+    interim_hash,
 };
 use mls_hash::Suite;
-use mls_msgs::{Authenticated, Profile, Proposal, Rules, Sender};
+use mls_msgs::{Profile, Rules};
 use mls_nodes::{ExternalSenders, GroupContext, RequiredCapabilities};
 use mls_tree::HashValue;
 use mls_wire::{Opaque, copy_of};
 use std::alloc::{AllocError, Global};
 
 /// The public state of a group: the profile, the set of strict rules, its context, its tree, the interim transcript hash,
-/// the pending proposals and whether it is over; and, read from these, the cipher suite, what the group requires of its
-/// members, and its external senders, `None` if they cannot be read.
+/// the pending proposals, whether it is over, and the KeyPackageRefs of the Adds of the last commit; and, read from these, the
+/// cipher suite, what the group requires of its members, and its external senders, `None` if they cannot be read.
 #[derive(Drop)]
 pub(crate) struct Group {
     pub(crate) profile: Profile,
@@ -36,20 +43,43 @@ pub(crate) struct Group {
     pub(crate) interim: HashValue,
     pub(crate) known: PendingProposals,
     pub(crate) ended: bool,
+    pub(crate) added: Option<Vec<HashValue>>,
     pub(crate) suite: Suite,
     pub(crate) required: RequiredCapabilities,
     pub(crate) senders: Option<ExternalSenders>,
     ghost same_suite: { suite ≡ context.cipher_suite },
     ghost requires_these: { Requires context required } by { Requires-prop context required },
     ghost same_senders: { senders ≡ senders_by context.extensions },
+    ghost referenced: { AreReferenced context known },
     ghost settled: { IsSettled tree } by { IsSettled-prop tree },
 }
 
-/// The transcript hashes after a commit.
+/// The hashes of a commit: the transcript hashes after it (RFC 9420, 8.2), and the KeyPackageRefs of the Adds of its list (5.2).
 #[derive(Drop)]
-pub(crate) struct Transcript {
+pub(crate) struct CommitHashes {
     confirmed: Opaque,
     interim: HashValue,
+    added: Vec<HashValue>,
+}
+
+/// Returns a proposal that was sent as a pending one under its reference: a copy.
+fn pending_proposal(
+    alloc: Global,
+    reference: HashValue,
+    sent: &SentProposal<'_>,
+) -> Result<KnownProposal, AllocError>
+    ensures { IfOk result (λ k. k ≡ pending_proposal sent.now.auth.now sent.now.sender sent.now.proposal.now reference) }
+{
+    let proposal = copy_of(alloc, sent.proposal)?;
+    let authenticated_data = copy_of(alloc, &sent.auth.content().authenticated)?;
+    let signature = copy_of(alloc, sent.auth.signature())?;
+    Ok(KnownProposal {
+        reference,
+        sender: sent.sender,
+        proposal,
+        authenticated_data,
+        signature,
+    })
 }
 
 /// What a staged commit changes in the GroupContext: the tree hash, and the extensions, if its list proposes some.
@@ -63,51 +93,52 @@ impl Group {
     ghost use Rattle.mls_follow.specs.GroupModel.{group_state};
     ghost use Rattle.mls_follow.specs.NextState.{after_proposal, committed, with_extensions};
 
-    /// Stores a pending proposal under its reference.
+    /// Stores a proposal that was sent as a pending one, under its reference.
     pub(crate) fn store_proposal(
         &mut self,
         alloc: Global,
         reference: HashValue,
-        sender: Sender,
-        proposal: &Proposal,
+        sent: &SentProposal<'_>,
     ) -> Result<Taken, AllocError>
+        requires framed { IsSentIn self.old.context sent.now.auth.now sent.now.sender sent.now.proposal.now }
+        requires referenced { reference_of self.old.context sent.now.auth.now ≡ Some reference }
         ensures stored { IfOk result (λ taken. after_proposal
-            (group_state self.old) sender proposal.now reference
+            (group_state self.old) sent.now.auth.now sent.now.sender sent.now.proposal.now reference
             ≡ record { taken = taken; state = group_state self.new }) }
         ensures unchanged_on_error { OnErr result (group_state self.new ≡ group_state self.old) }
     {
-        let proposal = copy_of(alloc, proposal)?;
-        let known = KnownProposal {
-            reference,
-            sender,
-            proposal,
+        let None = sent.auth.confirmation_tag() else {
+            unreachable!();
         };
+        let known = pending_proposal(alloc, reference, sent)?;
         self.known.push(alloc, known)?;
         Ok(Taken::Proposal(reference))
     }
 
-    /// Returns the transcript hashes after a commit.
-    pub(crate) fn transcript(
+    /// Returns the hashes of a commit.
+    pub(crate) fn commit_hashes(
         &self,
         alloc: Global,
-        auth: &Authenticated,
-    ) -> Result<Transcript, AllocError>
-        requires input { IsSome (confirmed_input auth.now) }
-        requires commit { IsTrue (is_commit auth.now.content.content) }
-        ensures confirmed { IfOk result (λ t. confirmed_hash
-            (hash_of self.now.suite) self.now.interim auth.now ≡ Some t.confirmed) }
-        ensures interim { IfOk result (λ t. interim_hash
-            (hash_of self.now.suite) t.confirmed auth.now.confirmation_tag
-            ≡ Some t.interim) }
+        commit: &ResolvedCommit<'_>,
+    ) -> Result<CommitHashes, AllocError>
+        ensures confirmed { IfOk result (λ h. confirmed_hash
+            (hash_of self.now.suite) self.now.interim commit.now.auth.now ≡ Some h.confirmed) }
+        ensures interim { IfOk result (λ h. interim_hash
+            (hash_of self.now.suite) h.confirmed commit.now.auth.now.confirmation_tag
+            ≡ Some h.interim) }
+        ensures added { IfOk result (λ h. h.added.items ≡ added_references commit.now.items.items) }
     {
-        let Some(tag) = auth.confirmation_tag() else {
+        let Some(tag) = commit.auth.confirmation_tag() else {
             unreachable!();
         };
-        let confirmed = confirmed_hash(alloc, self.suite, self.interim.as_slice(), auth)?;
+        let confirmed = confirmed_hash(alloc, self.suite, self.interim.as_slice(), commit.auth)?;
         let interim = interim_hash(alloc, self.suite, confirmed.as_slice(), tag)?;
-        Ok(Transcript {
-            confirmed: confirmed.to_opaque(alloc)?,
+        let confirmed = confirmed.to_opaque(alloc)?;
+        let added = added_references(alloc, commit.items.as_slice())?;
+        Ok(CommitHashes {
+            confirmed,
             interim,
+            added,
         })
     }
 
@@ -116,7 +147,7 @@ impl Group {
     pub(crate) fn begin_epoch(
         &mut self,
         staged: StagedContext,
-        transcript: Transcript,
+        hashes: CommitHashes,
         required: Option<RequiredCapabilities>,
         ends: bool,
     ) -> Taken
@@ -125,8 +156,8 @@ impl Group {
             RequiresBy (unwrap_or proposed self.old.context.extensions) (unwrap_or required self.old.required) }
         ensures next { let proposed = option_map (λ next. next.extensions) staged.extensions in
             let extensions = unwrap_or proposed self.old.context.extensions in
-            committed (with_extensions (group_state self.old) extensions ends)
-            self.old.tree.tree staged.tree_hash transcript.confirmed transcript.interim
+            committed (with_extensions (group_state self.old) extensions ends hashes.added.items)
+            self.old.tree.tree staged.tree_hash hashes.confirmed hashes.interim
             ≡ record { taken = result; state = group_state self.new } }
     {
         let StagedContext {
@@ -142,10 +173,11 @@ impl Group {
             self.required = required;
         }
         self.context.tree_hash = tree_hash;
-        self.context.confirmed = transcript.confirmed;
-        self.interim = transcript.interim;
+        self.context.confirmed = hashes.confirmed;
+        self.interim = hashes.interim;
         self.known.clear();
         self.ended = ends;
+        self.added = Some(hashes.added);
         Taken::Commit(self.context.epoch)
     }
 }

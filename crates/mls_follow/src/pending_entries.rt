@@ -1,167 +1,162 @@
-//! The pending proposals of a file, checked in their order (RFC 9420, 12.1 and 12.4).
+//! The pending proposals of a file, each judged as the message that it was (RFC 9420, 6.1, 12.1 and 12.4).
 
-ghost use Rattle.std.specs.Prelude.{◌≡◌, ◌==◌, ◌&&◌, true, not, is_some, length, IfOk, IfErr, OnOk};
+ghost use Rattle.std.specs.Prelude.{◌≡◌, ◌≢◌, IfOk, IfErr, IsTrue, MatchOption, OnOk};
 ghost use Rattle.std.specs.Bool.{OnTrue, OnFalse};
-ghost use Rattle.mls_hash.specs.SuiteHash.{hash_length};
-ghost use Rattle.mls_apply.specs.ProposalRules.{checked_refusal};
-ghost use Rattle.mls_apply.specs.ResolvedList.{find_known};
-ghost use Rattle.mls_apply.specs.declared.list_item.KnownProposal.{KnownProposal};
+ghost use Rattle.mls_msgs.specs.Authenticated.{is_authenticated};
+ghost use Rattle.mls_msgs.specs.declared.framed_content.Content.TheVariants as contents;
+ghost use Rattle.mls_follow.specs.FollowerInvariant.{HasUniqueKeysAndValidLeaves};
 ghost use Rattle.mls_follow.specs.GroupModel.{group_state};
-ghost use Rattle.mls_follow.specs.StoredState.{stored_entry};
-ghost use Rattle.mls_follow.specs.MessageRules.{is_sender_supported, is_known_external};
-ghost use Rattle.mls_follow.specs.Resumption.{can_hold, is_receivable, with_pending, CanHoldEntries};
-ghost use Rattle.mls_follow.specs.ResumptionParts.{IsKnownFault};
+ghost use Rattle.mls_follow.specs.Resumption.{AcceptsMessage, HoldEntries, Holds, entry_message, tag_of_entry};
+ghost use Rattle.mls_follow.specs.ResumptionParts.{HasProposal, IsKnownFault};
+ghost use Rattle.mls_follow.specs.State.{State};
 
 use crate::group::Group;
 use crate::resume_fault::ResumeFault;
-use mls_apply::{EpochState, Refusal, check_proposal};
+use mls_apply::Refusal;
 use mls_check::SignatureCheck;
-use mls_msgs::{Profile, Proposal, Sender};
-use mls_signatures::{external_key_among, may_propose};
-use mls_state::KnownEntry;
-use mls_tree::HashValue;
+use mls_msgs::{
+    Authenticated, AuthenticatedParts, Content, FramedContent, Message, Proposal, PublicMessage,
+    PublicParts, Sender, encode_message,
+};
+use mls_wire::{CodecFault, MAX_INPUT, Opaque, copy_of};
 use std::alloc::{AllocError, Global};
 
-/// A proposal with its reference and its sender, as an entry of a file has them.
-#[derive(Clone, Copy)]
-struct PendingEntry<'a> {
-    reference: HashValue,
-    sender: Sender,
-    proposal: &'a Proposal,
-}
-
-/// Returns whether a reference has the length of the suite's hashes, and no pending proposal has it.
-fn is_new_reference(group: &Group, reference: &HashValue) -> bool
-    ensures { result ≡ (length reference.now == hash_length group.now.context.cipher_suite
-        && not (is_some (find_known group.now.known reference.now))) }
-{
-    let bytes = reference.as_slice();
-    bytes.len() == usize::from(group.suite.hash_length()) && group.known.find(bytes).is_none()
-}
-
-/// Returns whether the messages of a sender are processed in a profile.
-fn is_sender_supported(profile: Profile, sender: Sender) -> bool
-    ensures { result ≡ is_sender_supported profile sender }
-{
-    match (sender, profile) {
-        (Sender::Member(_), _) => true,
-        (Sender::External(_), Profile::Full) => true,
-        (Sender::NewMemberProposal, Profile::Full) => true,
-        (Sender::NewMemberCommit, Profile::Full) => true,
-        _ => false,
-    }
-}
-
-/// Returns whether a group has an external sender, if the sender is one.
-fn is_known_external(group: &Group, sender: Sender) -> bool
-    ensures { result ≡ is_known_external group.now.context.extensions sender }
+/// Returns the membership tag that the PublicMessage of an entry has: an empty one, if the sender is a member.
+fn tag_of_entry(alloc: Global, sender: Sender) -> Result<Option<Opaque>, AllocError>
+    ensures { IfOk result (λ tag. tag ≡ tag_of_entry sender) }
 {
     match sender {
-        Sender::External(index) => external_key_among(&group.senders, index).is_some(),
-        Sender::Member(_) => true,
-        Sender::NewMemberProposal => true,
-        Sender::NewMemberCommit => true,
+        Sender::Member(_) => match Opaque::copy(alloc, &[]) {
+            Ok(tag) => Ok(Some(tag)),
+            Err(_) => Err(AllocError),
+        },
+        Sender::External(_) | Sender::NewMemberProposal | Sender::NewMemberCommit => Ok(None),
     }
 }
 
-/// Returns whether a group processes the proposal of an entry.
-#[tactic(auto, unfolding(crate::specs::Resumption::is_receivable))]
-fn is_receivable(group: &Group, entry: &PendingEntry<'_>) -> bool
-    ensures { result ≡ is_receivable (group_state group.now)
-        (record { reference = entry.now.reference; sender = entry.now.sender; proposal = entry.now.proposal.now }) }
-{
-    let sender = entry.sender;
-    if group.ended
-        || !group.profile.has_proposal(entry.proposal)
-        || !is_sender_supported(group.profile, sender)
-    {
-        return false;
-    }
-    is_known_external(group, sender) && may_propose(sender, entry.proposal)
-}
-
-/// Returns whether a proposal satisfies its rules.
-#[tactic(auto, unfolding(mls_apply::specs::ProposalRules::checked_refusal))]
-fn is_valid_proposal<C: SignatureCheck>(
+/// Returns a copy of an entry, whose content is this proposal.
+fn copy_of_entry(
     alloc: Global,
-    group: &Group,
-    checker: &C,
-    sender: Sender,
+    entry: &Authenticated,
     proposal: &Proposal,
-) -> Result<bool, AllocError>
-    ensures { IfOk result (λ valid. valid ≡ not (is_some (checked_refusal (C.meaning checker.now)
-        group.now.context group.now.tree.tree sender proposal.now))) }
+) -> Result<AuthenticatedParts, AllocError>
+    requires { entry.now.content.content ≡ contents.Proposal proposal.now }
+    ensures same { IfOk result (λ parts. parts ≡ entry.now) }
+    ensures fits { IfOk result (λ parts. IsTrue (is_authenticated parts)) }
 {
-    let epoch = EpochState {
-        context: &group.context,
-        tree: group.tree.tree(),
+    let content = entry.content();
+    let group_id = copy_of(alloc, &content.group_id)?;
+    let authenticated = copy_of(alloc, &content.authenticated)?;
+    let proposal = copy_of(alloc, proposal)?;
+    let signature = copy_of(alloc, entry.signature())?;
+    let confirmation_tag = match entry.confirmation_tag() {
+        Some(tag) => Some(copy_of(alloc, tag)?),
+        None => None,
     };
-    match check_proposal(alloc, &epoch, sender, proposal, checker) {
-        Ok(()) => Ok(true),
+    Ok(AuthenticatedParts {
+        wire_format: entry.wire_format(),
+        content: FramedContent {
+            group_id,
+            epoch: content.epoch,
+            sender: content.sender,
+            authenticated,
+            content: Content::Proposal(proposal),
+        },
+        signature,
+        confirmation_tag,
+    })
+}
+
+/// Returns the PublicMessage of an entry, whose content is this proposal: a copy. `None` if the entry is not one of a
+/// PublicMessage.
+fn entry_message(
+    alloc: Global,
+    entry: &Authenticated,
+    proposal: &Proposal,
+) -> Result<Option<Message>, AllocError>
+    requires { entry.now.content.content ≡ contents.Proposal proposal.now }
+    ensures { IfOk result (λ found. MatchOption found (entry.now.wire_format ≢ 1)
+        (λ m. (m ≡ entry_message entry.now) × (entry.now.wire_format ≡ 1))) }
+{
+    let membership_tag = tag_of_entry(alloc, entry.content().sender)?;
+    let parts = copy_of_entry(alloc, entry, proposal)?;
+    let Ok(auth) = Authenticated::new(parts) else {
+        unreachable!();
+    };
+    match PublicMessage::new(PublicParts {
+        auth,
+        membership_tag,
+    }) {
+        Ok(public) => Ok(Some(Message::Public(public))),
+        Err(_) => Ok(None),
+    }
+}
+
+/// Adds the proposal that a message has to the pending ones, and returns true, if the message is acceptable. The group is
+/// otherwise unchanged.
+fn hold_message<C: SignatureCheck>(
+    alloc: Global,
+    group: &mut Group,
+    checker: &C,
+    message: &Message,
+) -> Result<bool, AllocError>
+    requires proposal { HasProposal message.now }
+    requires checked { HasUniqueKeysAndValidLeaves (C.meaning checker.now) (group_state group.old) }
+    ensures held { IfOk result (λ held. OnTrue held (AcceptsMessage (C.meaning checker.now) (group_state group.old) message.now (group_state group.new))) }
+    ensures refused { IfOk result (λ held. OnFalse held ((new : State)
+        → AcceptsMessage (C.meaning checker.now) (group_state group.old) message.now new → ⊥)) }
+{
+    let bytes = match encode_message(alloc, message) {
+        Ok(bytes) => bytes,
+        Err(CodecFault::OutOfMemory) => return Err(AllocError),
+        Err(CodecFault::Wire(_)) => return Ok(false),
+    };
+    if bytes.len() > MAX_INPUT || !group.profile.has_message(message) {
+        return Ok(false);
+    }
+    match group.take(alloc, checker, message, bytes.as_slice()) {
+        Ok(_) => Ok(true),
         Err(Refusal::OutOfMemory) => Err(AllocError),
         Err(_) => Ok(false),
     }
 }
 
-/// Returns whether the proposal of an entry can be the next one that is pending.
-#[tactic(auto, unfolding(crate::specs::Resumption::can_hold))]
-fn can_hold<C: SignatureCheck>(
-    alloc: Global,
-    group: &Group,
-    checker: &C,
-    entry: &PendingEntry<'_>,
-) -> Result<bool, AllocError>
-    ensures { IfOk result (λ held. held ≡ can_hold (C.meaning checker.now) (group_state group.now)
-        (record { reference = entry.now.reference; sender = entry.now.sender; proposal = entry.now.proposal.now })) }
-{
-    if !is_receivable(group, entry) || !is_new_reference(group, &entry.reference) {
-        return Ok(false);
-    }
-    is_valid_proposal(alloc, group, checker, entry.sender, entry.proposal)
-}
-
-/// Adds the proposal of an entry to the pending ones, and returns true, if it can be the next one. The group is
-/// otherwise unchanged.
+/// Adds the proposal of an entry to the pending ones, and returns true, if a follower in this state would accept it. The group
+/// is otherwise unchanged.
 fn hold_entry<C: SignatureCheck>(
     alloc: Global,
     group: &mut Group,
     checker: &C,
-    entry: &KnownEntry,
+    entry: &Authenticated,
 ) -> Result<bool, AllocError>
-    ensures held { IfOk result (λ held. OnTrue held ((k : KnownProposal) × (entry.now ≡ stored_entry k)
-        × (can_hold (C.meaning checker.now) (group_state group.old) k ≡ true)
-        × (group_state group.new ≡ with_pending (group_state group.old) k))) }
-    ensures refused { IfOk result (λ held. OnFalse held ((k : KnownProposal) → entry.now ≡ stored_entry k
-        → can_hold (C.meaning checker.now) (group_state group.old) k ≡ true → ⊥)) }
+    requires checked { HasUniqueKeysAndValidLeaves (C.meaning checker.now) (group_state group.old) }
+    ensures held { IfOk result (λ held. OnTrue held (Holds (C.meaning checker.now) (group_state group.old) entry.now (group_state group.new))) }
+    ensures refused { IfOk result (λ held. OnFalse held ((new : State)
+        → Holds (C.meaning checker.now) (group_state group.old) entry.now new → ⊥)) }
 {
-    let Some(reference) = HashValue::new(entry.reference.as_slice()) else {
+    let Content::Proposal(proposal) = &entry.content().content else {
         return Ok(false);
     };
-    let pending = PendingEntry {
-        reference,
-        sender: entry.sender,
-        proposal: &entry.proposal,
-    };
-    if !can_hold(alloc, group, checker, &pending)? {
-        return Ok(false);
+    match entry_message(alloc, entry, proposal)? {
+        Some(message) => hold_message(alloc, group, checker, &message),
+        None => Ok(false),
     }
-    group.store_proposal(alloc, reference, entry.sender, &entry.proposal)?;
-    Ok(true)
 }
 
 /// Adds the proposals of the entries to the pending ones, in their order.
 ///
 /// # Errors
 ///
-/// `KnownInvalid` with the number of the first one that cannot be pending, or `OutOfMemory`. Those before it may have
-/// been added.
+/// `KnownInvalid` with the number of the first one that a follower in the state with those before it would not accept, or
+/// `OutOfMemory`. Those before it may have been added.
 pub(crate) fn hold_entries<C: SignatureCheck>(
     alloc: Global,
     group: &mut Group,
     checker: &C,
-    entries: &[KnownEntry],
+    entries: &[Authenticated],
 ) -> Result<(), ResumeFault>
-    ensures held { OnOk result (CanHoldEntries (C.meaning checker.now) (group_state group.old) entries.now (group_state group.new)) }
+    requires checked { HasUniqueKeysAndValidLeaves (C.meaning checker.now) (group_state group.old) }
+    ensures held { OnOk result (HoldEntries (C.meaning checker.now) (group_state group.old) entries.now (group_state group.new)) }
     ensures refused { IfErr result (IsKnownFault (C.meaning checker.now) (group_state group.old) entries.now) }
 {
     let mut rest = entries;

@@ -25,7 +25,7 @@ impl<'a> Model for ReceivedFrame<'a> {
 
     ghost view = { λ f. f.auth.now };
 
-    ghost invariant = { λ f. content_tbs f.auth.now None ≡ Some f.tbs.now };
+    ghost invariant = { λ f. (content_tbs f.auth.now None ≡ Some f.tbs.now) × (f.auth.now.wire_format ≡ 1) };
 }
 
 impl<'a> ReceivedFrame<'a> {
@@ -42,7 +42,8 @@ impl<'a> ReceivedFrame<'a> {
 
     /// Returns the AuthenticatedContent.
     pub(crate) fn auth(&self) -> &'a Authenticated
-        ensures { result.now ≡ self.now }
+        ensures value { result.now ≡ self.now }
+        ensures format { result.now.wire_format ≡ 1 }
     {
         self.auth
     }

@@ -1,7 +1,9 @@
 //! Why no follower resumes from a file.
 
+use crate::added_rules::StrictRefused;
 use mls_check::{GroupTreeFault, MemberFault, TreeFault};
 use mls_nodes::NodeFault;
+use mls_strict::StrictFault;
 use std::alloc::AllocError;
 use thiserror::Error;
 
@@ -33,10 +35,20 @@ pub enum ResumeFault {
     /// The interim transcript hash does not have the length of the suite's hashes (RFC 9420, 8.2 and 17.1).
     #[error("the interim transcript hash has another length than the suite's hashes")]
     InterimLength,
-    /// The pending proposal with this number, from 0 on, is not one that a follower in this state could hold (RFC 9420,
-    /// 12.1 and 12.4).
+    /// The pending proposal with this number, from 0 on, is not one that a follower in this state, with those before it,
+    /// would accept (RFC 9420, 6.1, 12.1 and 12.4). It may not be signed.
     #[error("the pending proposal {0} is not valid")]
     KnownInvalid(usize),
+    /// The KeyPackageRef with this number, from 0 on, of those that the last commit added does not have the length of the
+    /// suite's hashes (RFC 9420, 5.2), or the group has no more members than references before it.
+    #[error("the KeyPackageRef {0} of those that were added is not valid")]
+    AddedInvalid(usize),
+    /// The GroupContext or the tree does not meet a strict rule of the file (own rule).
+    #[error("{0}")]
+    Strict(StrictFault),
+    /// The pending proposal with this number, from 0 on, does not meet a strict rule of the file (own rule).
+    #[error("the pending proposal {0} does not meet the strict rules")]
+    KnownStrict(usize),
     /// An allocation failed. It says nothing of the file.
     #[error("out of memory")]
     OutOfMemory,
@@ -50,6 +62,21 @@ impl From<AllocError> for ResumeFault {
 
     fn from(_error: AllocError) -> ResumeFault {
         ResumeFault::OutOfMemory
+    }
+}
+
+impl From<StrictRefused> for ResumeFault {
+    ghost use Rattle.std.specs.Prelude.{◌≡◌};
+    ghost use Rattle.mls_follow.specs.ResumptionParts.{resume_fault_of_strict};
+
+    ghost from_gives = { λ refused e. e ≡ resume_fault_of_strict refused };
+
+    fn from(refused: StrictRefused) -> ResumeFault {
+        match refused {
+            StrictRefused::Group(fault) => ResumeFault::Strict(fault),
+            StrictRefused::Known(number) => ResumeFault::KnownStrict(number),
+            StrictRefused::OutOfMemory => ResumeFault::OutOfMemory,
+        }
     }
 }
 

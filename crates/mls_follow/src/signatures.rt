@@ -43,6 +43,7 @@ impl Group {
             profile: self.profile,
             context: &self.context,
             known: &self.known,
+            senders: &self.senders,
         };
         message_signatures(alloc, &epoch, &mut self.tree, message)
     }

@@ -1,6 +1,6 @@
 //! The file of a follower's state.
 
-ghost use Rattle.std.specs.Prelude.{◌≡◌, ◌≢◌, map, Some, IfOk, IfErr};
+ghost use Rattle.std.specs.Prelude.{◌≡◌, ◌≢◌, map, option_map, Some, IfOk, IfErr};
 ghost use Rattle.std.specs.Bool.{OnTrue, OnFalse};
 ghost use Rattle.mls_wire.specs.Faults.{too_long_at};
 ghost use Rattle.mls_wire.specs.ReadContracts.{seen};
@@ -9,19 +9,20 @@ ghost use Rattle.mls_tree.specs.PublicTreeModel.{plain};
 ghost use Rattle.mls_tree.specs.RatchetTree.{RatchetTree};
 ghost use Rattle.mls_tree.specs.Tree.{listing};
 ghost use Rattle.mls_tree.specs.TreeDecoding.{IsTreeOf};
+ghost use Rattle.mls_apply.specs.PendingContent.{authenticated_of};
 ghost use Rattle.mls_follow.specs.FollowerModel.{state_of};
 ghost use Rattle.mls_follow.specs.GroupModel.{group_state};
 ghost use Rattle.mls_follow.specs.StoringParts.{HasNoTreeBody, MakesShortFile, storing_fault};
-ghost use Rattle.mls_follow.specs.StoredState.{IsTreeBody, Stores, EncodesState, HasNoFile, stored_entry, stored_mode};
+ghost use Rattle.mls_follow.specs.StoredState.{IsTreeBody, Stores, EncodesState, HasNoFile, stored_mode};
 
 use crate::follower::Follower;
 use crate::group::Group;
-use mls_apply::KnownProposal;
+use mls_apply::{KnownProposal, authenticated_of};
 use mls_check::SignatureCheck;
-use mls_msgs::Profile;
-use mls_nodes::{NodeFault, encode_ratchet_tree, full_size_of, trimmed_entries};
-use mls_state::{FollowerState, GroupMode, KnownEntry, encode_state_file};
-use mls_tree::PublicTree;
+use mls_msgs::{Authenticated, Profile};
+use mls_nodes::{GroupContext, NodeFault, encode_ratchet_tree, full_size_of, trimmed_entries};
+use mls_state::{FollowerState, GroupMode, encode_state_file};
+use mls_tree::{HashValue, PublicTree};
 use mls_wire::{
     CodecFault, MAX_INPUT, Opaque, Sequence, WireFault, WireFaultKind, copy_of, read_input,
 };
@@ -82,33 +83,36 @@ fn tree_body(alloc: Global, tree: &PublicTree) -> Result<Opaque, CodecFault>
     }
 }
 
-/// Returns the entry of a pending proposal.
-fn stored_entry(alloc: Global, known: &KnownProposal) -> Result<KnownEntry, AllocError>
-    ensures { IfOk result (λ entry. entry ≡ stored_entry known.now) }
+/// Returns the AuthenticatedContents of pending proposals, in their order (RFC 9420, 6).
+fn pending_contents(
+    alloc: Global,
+    context: &GroupContext,
+    known: &[KnownProposal],
+) -> Result<Vec<Authenticated>, AllocError>
+    ensures { IfOk result (λ contents. contents.items ≡ map (authenticated_of context.now) known.now) }
 {
-    let reference = known.reference.to_opaque(alloc)?;
-    match copy_of(alloc, &known.proposal) {
-        Ok(proposal) => Ok(KnownEntry {
-            reference,
-            sender: known.sender,
-            proposal,
-        }),
-        Err(AllocError) => {
-            drop(reference);
-            Err(AllocError)
-        }
+    let mut contents = Vec::with_capacity(alloc, known.len())?;
+    for pending in known {
+        contents.push(authenticated_of(alloc, context, pending)?)?;
     }
+    Ok(contents)
 }
 
-/// Returns the entries of pending proposals, in their order.
-fn stored_entries(alloc: Global, known: &[KnownProposal]) -> Result<Vec<KnownEntry>, AllocError>
-    ensures { IfOk result (λ entries. entries.items ≡ map stored_entry known.now) }
+/// Returns the references as a file has them.
+fn stored_references(
+    alloc: Global,
+    added: &Option<Vec<HashValue>>,
+) -> Result<Option<Sequence<Opaque>>, AllocError>
+    ensures { IfOk result (λ stored. stored ≡ option_map (λ v. v.items) added.now) }
 {
-    let mut entries = Vec::with_capacity(alloc, known.len())?;
-    for proposal in known {
-        entries.push(stored_entry(alloc, proposal)?)?;
+    let Some(references) = added else {
+        return Ok(None);
+    };
+    let mut stored = Vec::with_capacity(alloc, references.len())?;
+    for reference in references {
+        stored.push(reference.to_opaque(alloc)?)?;
     }
-    Ok(entries)
+    Ok(Some(Sequence::new(stored)))
 }
 
 /// Returns how a file has the profile, and whether the group is over. There is none for a group of the members' profile that
@@ -131,22 +135,22 @@ impl Group {
             × Stores c t (group_state self.now)) }
         ensures none { IfErr result (λ e. e ≢ CodecFault.OutOfMemory → HasNoFile (group_state self.now)) }
     {
-        if !self.rules.is_plain() {
-            return Err(too_long());
-        }
         let Some(mode) = stored_mode(self.profile, self.ended) else {
             return Err(too_long());
         };
         let tree = tree_body(alloc, self.tree.tree())?;
         let context = copy_of(alloc, &self.context)?;
         let interim = self.interim.to_opaque(alloc)?;
-        let known = stored_entries(alloc, self.known.as_slice())?;
+        let known = pending_contents(alloc, &self.context, self.known.as_slice())?;
+        let added = stored_references(alloc, &self.added)?;
         Ok(FollowerState {
             mode,
+            rules: self.rules,
             context,
             interim,
             tree,
             known: Sequence::new(known),
+            added,
         })
     }
 }
@@ -175,8 +179,8 @@ impl<C: SignatureCheck> Follower<C> {
     /// # Errors
     ///
     /// `TooLong` at 0 only if the state has no file: it would have more than 268,435,456 bytes, as many as an input may
-    /// have, or the state has strict rules, for which a file has no place. (No file has a group of the members' profile that
-    /// is over either, and no follower has such a state.) Or [`CodecFault::OutOfMemory`].
+    /// have. (No file has a group of the members' profile that is over either, and no follower has such a state.) Or
+    /// [`CodecFault::OutOfMemory`].
     pub fn encode_state(&self) -> Result<Vec<u8>, CodecFault>
         ensures encoded { IfOk result (λ bytes. EncodesState (state_of self.now) bytes.items) }
         ensures too_long { IfErr result (λ e. e ≢ CodecFault.OutOfMemory

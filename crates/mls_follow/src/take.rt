@@ -13,7 +13,7 @@ ghost use Rattle.mls_apply.specs.AppliedList.{outcome};
 ghost use Rattle.mls_apply.specs.JoinRules.{join_items};
 ghost use Rattle.mls_apply.specs.RuleLists.{first_failing};
 ghost use Rattle.mls_follow.specs.GroupModel.{group_state};
-ghost use Rattle.mls_follow.specs.GroupModelInternal.{with_known};
+ghost use Rattle.mls_follow.specs.GroupModelInternal.{IsFramedIn, IsSentIn, with_known};
 ghost use Rattle.mls_follow.specs.FollowerInvariant.{HasUniqueKeysAndValidLeaves};
 ghost use Rattle.mls_follow.specs.MessageRules.{changed_tree, if_full, joiner_rules, applied_tree_rules, outside_rules, required_after, rules_with_requirements, reference_of};
 ghost use Rattle.mls_follow.specs.MessageRulesInternal.{external_commit_refusal, frame_refusal, handshake_refusal, joiner_refusal, outside_refusal, proposal_refusal, sender_refusal};
@@ -39,7 +39,7 @@ use mls_apply::{PendingProposals, Refusal, has_reinit};
 use mls_check::SignatureCheck;
 use mls_msgs::{Authenticated, Commit, Content, Message, Profile, Proposal, Sender};
 use mls_nodes::RequiredCapabilities;
-use std::alloc::Global;
+use std::alloc::{AllocError, Global};
 use std::mem::replace;
 
 impl Group {
@@ -52,19 +52,20 @@ impl Group {
         sent: &SentProposal<'_>,
     ) -> Result<Taken, Refusal>
         requires present { IsTrue (is_present self.old.tree.tree sent.now.sender) }
+        requires framed { IsSentIn self.old.context sent.now.auth.now sent.now.sender sent.now.proposal.now }
         requires referenced { IsSome (reference_of self.old.context sent.now.auth.now) }
         ensures { let s = group_state self.old in
             Takes (strict_refusal self.old.rules sent.now.strict)
             (proposal_refusal (C.meaning checker.now) s sent.now.auth.now sent.now.sender sent.now.proposal.now)
-            (option_map (after_proposal s sent.now.sender sent.now.proposal.now) (reference_of self.old.context
-            sent.now.auth.now))
+            (option_map (after_proposal s sent.now.auth.now sent.now.sender sent.now.proposal.now)
+            (reference_of self.old.context sent.now.auth.now))
             s result (group_state self.new) }
     {
         let reference = check_proposal_message(alloc, self, checker, sent)?;
         if let Some(rule) = sent.strict {
             return Err(Refusal::Strict(rule));
         }
-        Ok(self.store_proposal(alloc, reference, sent.sender, sent.proposal)?)
+        Ok(self.store_proposal(alloc, reference, sent)?)
     }
 
     /// Processes a proposal that a member has sent and signed.
@@ -77,6 +78,7 @@ impl Group {
         proposal: &Proposal,
     ) -> Result<Taken, Refusal>
         requires member { IsSome (leaf_at 0 self.old.tree.tree message.now.sender) }
+        requires framed { IsSentIn self.old.context message.now.auth.now (Member message.now.sender) proposal.now }
         requires referenced { IsSome (reference_of self.old.context message.now.auth.now) }
         ensures { let s = group_state self.old in
             Takes (strict_refusal self.old.rules message.now.strict)
@@ -120,9 +122,9 @@ impl Group {
             commit.now.path.now o))
             s result (group_state self.new) }
     {
-        let transcript = match self.transcript(alloc, commit.auth) {
-            Ok(transcript) => transcript,
-            Err(_) => {
+        let hashes = match self.commit_hashes(alloc, commit) {
+            Ok(hashes) => hashes,
+            Err(AllocError) => {
                 drop(required);
                 return Err(Refusal::OutOfMemory);
             }
@@ -138,7 +140,7 @@ impl Group {
             Ok(staged) => {
                 self.tree.settle();
                 let ends = has_reinit(commit.items.as_slice());
-                Ok(self.begin_epoch(staged, transcript, required, ends))
+                Ok(self.begin_epoch(staged, hashes, required, ends))
             }
             Err(refusal) => {
                 self.tree.rollback();
@@ -252,6 +254,8 @@ impl Group {
         sender: u32,
     ) -> Result<Taken, Refusal>
         requires hashed { IsSome (confirmed_input judged.now.frame) }
+        requires framed { IsFramedIn self.old.context judged.now.frame }
+        requires sender_is { judged.now.frame.content.sender ≡ Member sender }
         requires referenced { IsSome (reference_of self.old.context judged.now.frame) }
         requires checked { HasUniqueKeysAndValidLeaves (C.meaning checker.now) (group_state self.old) }
         ensures { let s = group_state self.old in
@@ -285,6 +289,7 @@ impl Group {
         judged: &JudgedFrame<'_>,
     ) -> Result<Taken, Refusal>
         requires present { IsTrue (is_present self.old.tree.tree judged.now.frame.content.sender) }
+        requires framed { IsFramedIn self.old.context judged.now.frame }
         requires referenced { IsSome (reference_of self.old.context judged.now.frame) }
         ensures { let s = group_state self.old in
             Takes (strict_refusal self.old.rules judged.now.strict)
@@ -312,6 +317,7 @@ impl Group {
         judged: &JudgedFrame<'_>,
     ) -> Result<Taken, Refusal>
         requires present { IsTrue (is_present self.old.tree.tree judged.now.frame.content.sender) }
+        requires framed { IsFramedIn self.old.context judged.now.frame }
         requires referenced { IsSome (reference_of self.old.context judged.now.frame) }
         ensures { let s = group_state self.old in
             Takes (strict_refusal self.old.rules judged.now.strict)

@@ -172,7 +172,7 @@ started_resumable i G K s h =
     let L = last_meaning h.known h.run.events in
     let run = as_run h.known h.first h.run.events s h.run.rises in
     let first = resumable_stays h.known L h.first (rising_extends h.known h.first h.run.events s h.run.rises) (first_resumable h.known i h.first h.started) in
-    subst (λ (M : VerifyFn). IsResumable M s) h.run.meaning (run_resumable L h.first run.calls s first run.run)
+    subst (λ (M : VerifyFn). IsResumable M s) h.run.meaning (run_resumable L h.first s run.calls first run.run)
 
 pub gates_valid : GatesAreValid
 gates_valid i G K turns s a e = (started_resumable i G K s (has_started i G turns K s a e)).valid

@@ -94,7 +94,7 @@ fn serve<R: Source, C: LearningCheck, K: Sink>(
 /// - `m` and a message: the message is processed ([`mls_follow::Follower::take`]). The line says that it was accepted
 ///   and what it led to, with `ended` if the group is over (11.2); or the number and the name of the refusal.
 /// - `s`: the line has the file of the follower's state ([`mls_follow::Follower::encode_state`]), or is `state TooLong` if
-///   the state has no file, as that of a follower with strict rules. The state is unchanged.
+///   the state has no file. The state is unchanged.
 ///
 /// Before `b` only `r` and `b` have an answer, and after it all but `b`. Every other record, and bytes that are no
 /// record, have the line `broken`, and the gate ends with `No`. If the input ends between two records, the verdict is

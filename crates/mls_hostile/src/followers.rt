@@ -12,12 +12,12 @@ use mls_hash::{Suite, tree_hash};
 use mls_msgs::{Profile, Rules, Sender, encode_proposal};
 use mls_nodes::{GroupContext, encode_context, encode_ratchet_tree};
 use mls_report::fault_text::strict_refused_text;
-use mls_tree::PublicTree;
-use mls_wire::bytes_of;
+use mls_tree::{HashValue, PublicTree};
+use mls_wire::{Opaque, bytes_of};
 use std::alloc::Global;
 
 /// A follower that accepts every signature.
-type TrustingFollower = Follower<Trusting>;
+pub(crate) type TrustingFollower = Follower<Trusting>;
 
 // ---- states
 
@@ -45,6 +45,13 @@ fn add_sender(sender: Sender, state: &mut Vec<u8>) -> Result<(), Stop> {
     have(state.extend_from_slice(&index.to_be_bytes()))
 }
 
+/// Appends bytes, and before them how many they are, to a state.
+fn add_opaque(bytes: &Opaque, state: &mut Vec<u8>) -> Result<(), Stop> {
+    let bytes = bytes.as_slice();
+    have(state.extend_from_slice(&(bytes.len() as u64).to_be_bytes()))?;
+    have(state.extend_from_slice(bytes))
+}
+
 /// Appends the pending proposals to a state.
 fn add_known(alloc: Global, known: &[KnownProposal], state: &mut Vec<u8>) -> Result<(), Stop> {
     for proposal in known {
@@ -52,12 +59,26 @@ fn add_known(alloc: Global, known: &[KnownProposal], state: &mut Vec<u8>) -> Res
         add_sender(proposal.sender, state)?;
         let bytes = have(encode_proposal(alloc, &proposal.proposal))?;
         have(state.extend_from_slice(bytes.as_slice()))?;
+        add_opaque(&proposal.authenticated_data, state)?;
+        add_opaque(&proposal.signature, state)?;
+    }
+    Ok(())
+}
+
+/// Appends the KeyPackageRefs of those that the last commit added to a state.
+fn add_added(added: Option<&[HashValue]>, state: &mut Vec<u8>) -> Result<(), Stop> {
+    let Some(references) = added else {
+        return have(state.push(0));
+    };
+    have(state.push(1))?;
+    for reference in references {
+        have(state.extend_from_slice(reference.as_slice()))?;
     }
     Ok(())
 }
 
 /// Returns a follower's state, with `tree` instead of its own: the context, every node, every tree hash, the interim
-/// transcript hash and the pending proposals.
+/// transcript hash, the pending proposals and those that the last commit added.
 fn state_with(
     alloc: Global,
     follower: &TrustingFollower,
@@ -70,11 +91,12 @@ fn state_with(
     add_hashes(context.cipher_suite, tree, &mut state)?;
     have(state.extend_from_slice(follower.interim().as_slice()))?;
     add_known(alloc, follower.known(), &mut state)?;
+    add_added(follower.added(), &mut state)?;
     Ok(state)
 }
 
 /// The same with a tree made of the nodes of its own, which has no cached hashes.
-fn state_anew(alloc: Global, follower: &TrustingFollower) -> Result<Vec<u8>, Stop> {
+pub(crate) fn state_anew(alloc: Global, follower: &TrustingFollower) -> Result<Vec<u8>, Stop> {
     let nodes = have(encode_ratchet_tree(alloc, follower.tree().nodes()))?;
     match PublicTree::decode(alloc, nodes.as_slice()) {
         Ok(tree) => state_with(alloc, follower, &tree),
@@ -127,7 +149,11 @@ fn add_answer(
 }
 
 /// Returns whether a follower's state is `before`.
-fn is_unchanged(alloc: Global, follower: &TrustingFollower, before: &[u8]) -> Result<bool, Stop> {
+pub(crate) fn is_unchanged(
+    alloc: Global,
+    follower: &TrustingFollower,
+    before: &[u8],
+) -> Result<bool, Stop> {
     let after = state_with(alloc, follower, follower.tree())?;
     Ok(before == after.as_slice())
 }
@@ -147,7 +173,11 @@ fn is_handed_back(
 
 /// Starts a follower with these strict rules and this profile on the group of member 0 alone. Returns also whether it ran
 /// out of memory. If so, the start must return what was passed, and is repeated with that.
-fn start(alloc: Global, rules: Rules, profile: Profile) -> Result<(TrustingFollower, bool), Stop> {
+pub(crate) fn start(
+    alloc: Global,
+    rules: Rules,
+    profile: Profile,
+) -> Result<(TrustingFollower, bool), Stop> {
     let input = have(hex::decode(alloc, GROUP_INFO))?;
     let info = first_info(alloc, input.as_slice())?;
     match Follower::start_by(alloc, rules, profile, info, None, Trusting) {
@@ -231,7 +261,7 @@ pub(crate) struct Followed {
 }
 
 /// Passes messages to a follower. Before each message its signatures are requested.
-fn pass(
+pub(crate) fn pass(
     alloc: Global,
     follower: &mut TrustingFollower,
     messages: &[Vec<u8>],

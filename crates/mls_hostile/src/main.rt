@@ -20,20 +20,23 @@ mod inputs;
 mod output;
 mod reports;
 mod signatures;
+mod states;
 mod trees;
 
 use crate::changed::try_input;
 use crate::followers::{met_rules, write_added, write_answers};
 use crate::group::{
-    ADD_ANSWERS, ADD_COMMIT, ADD_RECEIPTS, COMMIT, EXTENSIONS_ANSWERS, EXTENSIONS_COMMIT,
-    EXTENSIONS_RECEIPTS, FULL_COMMIT, GROUP_INFO, JOIN_ANSWERS, JOIN_COMMIT, JOIN_RECEIPTS,
+    ADD_ANSWERS, ADD_COMMIT, ADD_RECEIPTS, CLIENT_PROPOSAL, COMMIT, DATA_ANSWERS, DATA_COMMIT,
+    DATA_PROPOSAL, DATA_RECEIPTS, EXTENSIONS_ANSWERS, EXTENSIONS_COMMIT, EXTENSIONS_RECEIPTS,
+    FULL_COMMIT, FULL_STATE, GROUP_INFO, JOIN_ANSWERS, JOIN_COMMIT, JOIN_RECEIPTS, NEXT_STATE,
     PATH_ANSWERS, PATH_COMMIT, PATH_RECEIPTS, PROPOSAL, REMOVE_COMMIT, RESYNC_COMMIT,
-    SECOND_ADD_COMMIT, START_RECEIPTS,
+    SECOND_ADD_COMMIT, START_RECEIPTS, STRICT_STATE, TWO_PENDING_STATE,
 };
 use crate::inputs::{read_message, read_receipts};
 use crate::output::{Output, Stop};
 use crate::reports::{Report, write_report};
 use crate::signatures::write_start_signatures;
+use crate::states::write_stored;
 use crate::trees::{Validator, validate};
 use mls_msgs::{Profile, Rules};
 use std::alloc::Global;
@@ -41,7 +44,8 @@ use std::io::Read;
 use std::process::ExitCode;
 use std::time::Instant;
 
-/// A call, or a start of a follower with the messages that it processes and the receipts of their signatures.
+/// A call, or a start of a follower with the messages that it processes and the receipts of their signatures, or the file of the
+/// state after them.
 #[derive(Clone, Copy)]
 enum Call {
     Message(&'static str),
@@ -54,6 +58,9 @@ enum Call {
     FollowStrictly(&'static [&'static str], &'static str),
     AddMet(&'static [&'static str]),
     AddAll(&'static [&'static str]),
+    Store(&'static [&'static str], &'static str),
+    StoreInFull(&'static [&'static str], &'static str),
+    StoreStrictly(&'static [&'static str], &'static str),
     Report(Report),
 }
 
@@ -118,6 +125,11 @@ const CALLS: &[(&str, Call, &str)] = &[
         JOIN_ANSWERS,
     ),
     (
+        "Follower::start, signatures_to_verify and take, to a proposal with authenticated data and its commit",
+        Call::Follow(&[DATA_PROPOSAL, DATA_COMMIT], DATA_RECEIPTS),
+        DATA_ANSWERS,
+    ),
+    (
         "Follower::start_by, signatures_to_verify and take, by strict rules, to a commit with a path",
         Call::FollowStrictly(&[PROPOSAL, COMMIT, PATH_COMMIT], PATH_RECEIPTS),
         PATH_ANSWERS,
@@ -131,6 +143,26 @@ const CALLS: &[(&str, Call, &str)] = &[
         "Follower::make_strict, after a proposal, by all strict rules",
         Call::AddAll(&[PROPOSAL]),
         "10 Strict 44 KeyForm 0",
+    ),
+    (
+        "encode_state and Follower::resume, after two proposals, one of them with authenticated data",
+        Call::Store(&[PROPOSAL, DATA_PROPOSAL], TWO_PENDING_STATE),
+        "310 bytes",
+    ),
+    (
+        "encode_state and Follower::resume, after a commit that adds a member",
+        Call::Store(&[PROPOSAL, COMMIT], NEXT_STATE),
+        "274 bytes",
+    ),
+    (
+        "encode_state and Follower::resume, in the full profile, after proposals of a client and of a member",
+        Call::StoreInFull(&[CLIENT_PROPOSAL, DATA_PROPOSAL], FULL_STATE),
+        "306 bytes",
+    ),
+    (
+        "encode_state and Follower::resume, by strict rules, after a proposal",
+        Call::StoreStrictly(&[PROPOSAL], STRICT_STATE),
+        "237 bytes",
     ),
     ("replay", Call::Report(Report::Replay), "no, 294 bytes"),
     ("run_check", Call::Report(Report::Check), "yes, 35 bytes"),
@@ -158,13 +190,13 @@ const CALLS: &[(&str, Call, &str)] = &[
     (
         "signatures of a state",
         Call::Report(Report::SignaturesState),
-        "no, 1134 bytes",
+        "no, 1502 bytes",
     ),
-    ("gate", Call::Report(Report::Gate), "no, 2555 bytes"),
+    ("gate", Call::Report(Report::Gate), "no, 2527 bytes"),
     (
         "gate of a state",
         Call::Report(Report::GateState),
-        "yes, 1703 bytes",
+        "yes, 2152 bytes",
     ),
     (
         "validate of a state",
@@ -202,6 +234,15 @@ fn make(alloc: Global, call: Call) -> Result<Output, Stop> {
         }
         Call::AddMet(messages) => write_added(alloc, messages, met_rules()?),
         Call::AddAll(messages) => write_added(alloc, messages, Rules::strict()),
+        Call::Store(messages, file) => {
+            write_stored(alloc, Rules::plain(), Profile::Members, messages, file)
+        }
+        Call::StoreInFull(messages, file) => {
+            write_stored(alloc, Rules::plain(), Profile::Full, messages, file)
+        }
+        Call::StoreStrictly(messages, file) => {
+            write_stored(alloc, met_rules()?, Profile::Members, messages, file)
+        }
         Call::Report(report) => write_report(alloc, report),
     }
 }

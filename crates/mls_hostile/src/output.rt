@@ -24,6 +24,10 @@ pub(crate) enum Stop {
     OtherSuite,
     /// A follower did not start, or did not return what was passed.
     NotStarted,
+    /// A follower did not resume.
+    NotResumed,
+    /// A state or its file is another one, or has none.
+    OtherState,
     /// The arguments or the state have changed.
     Changed,
     /// A report is another one, or incomplete.

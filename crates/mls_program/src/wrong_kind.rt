@@ -33,9 +33,9 @@ fn is_tree(start: &[u8]) -> bool {
     }
 }
 
-/// Whether the bytes begin as the file of a state: with version 1 and the length of a checksum.
+/// Whether the bytes begin as the file of a state: with version 2 and the length of a checksum.
 fn is_state(start: &[u8]) -> bool {
-    start.starts_with(&[0, 1, 32])
+    start.starts_with(&[0, 2, 32])
 }
 
 /// Returns what is wrong with a file of a kind that begins with these bytes, if that can be said of them.

@@ -3,7 +3,9 @@ use Rattle.std.proofs.Common.{List, [], ◌∷◌, refl, map}
 use Rattle.mls_check.specs.Signatures.{VerifyFn}
 use Rattle.mls_follow.specs.Runs.{Call, IsRun}
 use Rattle.mls_follow.specs.State.{State}
-use Rattle.mls_follow.proofs.StoredRuns.{followers_resume}
+use Rattle.mls_follow.proofs.Resumable.{run_resumable}
+use Rattle.mls_follow.proofs.StoredRuns.{resumable_resumes}
+use Rattle.mls_start.proofs.FirstStates.{first_resumable}
 use Rattle.mls_report.specs.Replay.{ProcessedMessage, AreProcessed, state_after}
 use Rattle.mls_report.specs.SavedStates.{SavedStatesResume, LaterMessagesFollow}
 
@@ -16,8 +18,9 @@ run_of G s [] h = refl
 run_of G s (turn ∷ turns) h = (turn.state, h.0.takes, run_of G turn.state turns h.1)
 
 pub saved_resume : SavedStatesResume
-saved_resume G s turns bytes first processed encodes =
-    followers_resume G s (state_after s turns) (calls_of turns) bytes first (run_of G s turns processed) encodes
+saved_resume G i s turns bytes first processed encodes =
+    resumable_resumes G (state_after s turns) bytes
+    (run_resumable G s (state_after s turns) (calls_of turns) (first_resumable G i s first) (run_of G s turns processed)) encodes
 
 pub later_follow : LaterMessagesFollow
 later_follow G s [] more h = h

@@ -62,7 +62,8 @@ start_fault_text (starts.Strict fault) = codes "9 Strict " ++ strict_fault_text 
 start_fault_text starts.OutOfMemory = codes "OutOfMemory"
 
 -- `resume_fault_text f` is why no follower resumes from the file of a state: it cannot be read, or the first condition
--- that fails, by number and name, with the fault of the tree or of a leaf node, or the number of the pending proposal.
+-- that fails, by number and name, with the fault of the tree or of a leaf node, the number of the pending proposal or of the
+-- KeyPackageRef, or the strict rule of the file that is not met.
 abbrev pub resume_fault_text : ResumeFault → List ℕ
 resume_fault_text (resumes.Unreadable fault) = codes "unreadable " ++ node_fault_text fault
 resume_fault_text resumes.ChecksumDiffers = codes "refused 2 ChecksumDiffers"
@@ -73,6 +74,9 @@ resume_fault_text (resumes.Tree fault) = codes "refused 6 Tree " ++ tree_fault_t
 resume_fault_text (resumes.Member fault) = codes "refused 7 Member " ++ member_fault_text fault
 resume_fault_text resumes.InterimLength = codes "refused 8 InterimLength"
 resume_fault_text (resumes.KnownInvalid n) = codes "refused 9 KnownInvalid " ++ decimal n
+resume_fault_text (resumes.AddedInvalid n) = codes "refused 12 AddedInvalid " ++ decimal n
+resume_fault_text (resumes.Strict fault) = codes "refused 10 Strict " ++ strict_fault_text fault
+resume_fault_text (resumes.KnownStrict n) = codes "refused 11 KnownStrict " ++ decimal n
 resume_fault_text resumes.OutOfMemory = codes "OutOfMemory"
 
 -- `strict_refused_text r` is why the strict rules that are asked cannot be added to those of a state that was resumed, by

@@ -4,16 +4,17 @@ use Rattle.std.specs.Prelude.{List, ℕ, ◌++◌}
 use Rattle.mls_check.specs.Signatures.{VerifyFn}
 use Rattle.mls_follow.specs.State.{State}
 use Rattle.mls_follow.specs.Resumption.{IsResumed}
-use Rattle.mls_follow.specs.StoredRuns.{IsInitialState}
 use Rattle.mls_follow.specs.StoredState.{EncodesState}
+use Rattle.mls_start.specs.Inputs.{Inputs}
+use Rattle.mls_start.specs.StartFindings.{IsFirstState}
 use Rattle.mls_report.specs.Replay.{ProcessedMessage, AreProcessed, state_after}
 
--- After messages are processed from a start or a resumption, a follower resumes from the file of the state after them,
--- in this state.
+-- After messages are processed from the first state that inputs lead to, a follower resumes from the file of the state after
+-- them, in this state.
 abbrev pub SavedStatesResume : Type 0
 SavedStatesResume =
-    (G : VerifyFn) (s : State) (turns : List ProcessedMessage) (bytes : List ℕ) → IsInitialState G s → AreProcessed G s turns
-    → EncodesState (state_after s turns) bytes → IsResumed G bytes (state_after s turns)
+    (G : VerifyFn) (i : Inputs) (s : State) (turns : List ProcessedMessage) (bytes : List ℕ) → IsFirstState G i s
+    → AreProcessed G s turns → EncodesState (state_after s turns) bytes → IsResumed G bytes (state_after s turns)
 
 -- If messages are processed one after the other, those after the first ones are processed from the state after these,
 -- with the same results and the same states.

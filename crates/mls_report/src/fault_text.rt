@@ -136,8 +136,18 @@ fn resumed_member_text(alloc: Global, fault: MemberFault) -> Result<String, Allo
     format!(in alloc; "refused 7 Member {fault}")
 }
 
+/// Returns why no follower resumes, if the GroupContext or the tree does not meet a strict rule of the file.
+fn resumed_strict_text(alloc: Global, fault: StrictFault) -> Result<String, AllocError>
+    ensures { IfOk result
+        (λ text. string_bytes text ≡ codes "refused 10 Strict " ++ texts.strict_fault_text fault) }
+{
+    let fault = strict_fault_text(alloc, fault)?;
+    format!(in alloc; "refused 10 Strict {fault}")
+}
+
 /// Returns why no follower resumes from the file of a state: `unreadable` and the fault, or `refused`, number and name,
-/// and those of a fault of the tree or of the members, or the number of the pending proposal.
+/// and those of a fault of the tree or of the members, the number of the pending proposal or of the KeyPackageRef, or the
+/// strict rule of the file that is not met.
 pub fn resume_fault_text(alloc: Global, fault: ResumeFault) -> Result<String, AllocError>
     ensures { IfOk result (λ text. string_bytes text ≡ texts.resume_fault_text fault) }
 {
@@ -155,6 +165,9 @@ pub fn resume_fault_text(alloc: Global, fault: ResumeFault) -> Result<String, Al
         ResumeFault::Member(fault) => resumed_member_text(alloc, fault),
         ResumeFault::InterimLength => String::from_str(alloc, "refused 8 InterimLength"),
         ResumeFault::KnownInvalid(n) => format!(in alloc; "refused 9 KnownInvalid {n}"),
+        ResumeFault::AddedInvalid(n) => format!(in alloc; "refused 12 AddedInvalid {n}"),
+        ResumeFault::Strict(fault) => resumed_strict_text(alloc, fault),
+        ResumeFault::KnownStrict(n) => format!(in alloc; "refused 11 KnownStrict {n}"),
         ResumeFault::OutOfMemory => String::from_str(alloc, "OutOfMemory"),
     }
 }

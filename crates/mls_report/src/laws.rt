@@ -56,8 +56,8 @@ pub fn covered_reports_replay()
     ensures { CoveredReportsReplay }
 {}
 
-/// From the file of the state after a log a follower resumes in this state. It processes the messages after this log with
-/// the same results and the same states as the follower that goes on. A state with strict rules has no file.
+/// From the file of the state after a log a follower resumes in this state, with the same strict rules. It processes the
+/// messages after this log with the same results and the same states as the follower that goes on.
 pub fn saved_states_resume()
     ensures resume { SavedStatesResume }
     ensures later { LaterMessagesFollow }

@@ -6,7 +6,7 @@ use crate::names::copy_of;
 use crate::row::Row;
 use crate::{
     check_calls, codec_calls, field_calls, hash_calls, hostile_calls, key_calls, list_calls,
-    proposal_calls, run_calls, stories, tree_calls,
+    proposal_calls, run_calls, state_calls, stories, tree_calls,
 };
 
 /// The result of a row of hashes and signatures, or of another kind.
@@ -97,6 +97,7 @@ fn list_call(row: &Row) -> Result<CallResult, RowFault> {
         "proposal" => proposal_calls::proposal(row),
         "resolve" => proposal_calls::resolve(row),
         "pending" => proposal_calls::find(row),
+        "package_ref" => proposal_calls::reference_of_package(row),
         "check_list" => list_calls::checked(row),
         "check_join" => proposal_calls::join(row),
         "join_items" => proposal_calls::items_of_join(row),
@@ -111,9 +112,11 @@ fn list_call(row: &Row) -> Result<CallResult, RowFault> {
 /// The result of a row of followers, hostile inputs, the program and logs.
 fn story_call(row: &Row) -> Result<CallResult, RowFault> {
     match row.word(0) {
-        "story" | "story_state" | "story_tree" => stories::story(row),
+        "story" | "story_state" | "story_tree" | "story_added" => stories::story(row),
         "full_story" | "full_story_state" | "full_story_tree" => stories::story(row),
+        "full_story_added" => stories::story(row),
         "start" => stories::start(row),
+        "resume" => state_calls::resume(row),
         "cut" => hostile_calls::cut(row),
         "cut_message" => hostile_calls::cut_message(row),
         "bits" => hostile_calls::bits(row),

@@ -18,6 +18,9 @@ use std::mem;
 
 /// Why no follower resumes from bytes, if they can't be read.
 fn state_fault(alloc: Global, bytes: &[u8]) -> Option<CodecFault> {
+    let Ok(bytes) = Vec::from_slice(alloc, bytes) else {
+        return Some(CodecFault::OutOfMemory);
+    };
     match Follower::resume(alloc, bytes, Trusting) {
         Ok(follower) => {
             drop(follower);
@@ -197,8 +200,9 @@ fn flip(message: &mut Vec<u8>, at: usize, bit: u8) {
 }
 
 /// Whether a follower resumes from bytes, if each signature is good.
-fn resumes(alloc: Global, bytes: &[u8]) -> bool {
-    match Follower::resume(alloc, bytes, Trusting) {
+fn resumes(row: &Row, bytes: &[u8]) -> bool {
+    let bytes = row.made(have(Vec::from_slice(row.alloc, bytes)));
+    match Follower::resume(row.alloc, bytes, Trusting) {
         Ok(follower) => {
             drop(follower);
             true
@@ -214,7 +218,7 @@ fn resumes(alloc: Global, bytes: &[u8]) -> bool {
 fn check_bits(row: &Row, state: &mut Vec<u8>, at: usize) {
     for bit in [1u8, 2, 4, 8, 16, 32, 64, 128] {
         flip(state, at, bit);
-        if resumes(row.alloc, state.as_slice()) {
+        if resumes(row, state.as_slice()) {
             row.record(RowFault::Changed(at));
         }
         flip(state, at, bit);
@@ -226,7 +230,7 @@ fn check_bits(row: &Row, state: &mut Vec<u8>, at: usize) {
 pub(crate) fn state_bits(row: &Row) -> Result<CallResult, RowFault> {
     row.has(1);
     let mut state = row.bytes(1);
-    if !resumes(row.alloc, state.as_slice()) {
+    if !resumes(row, state.as_slice()) {
         row.refuse(1, "a state");
     }
     for at in 0..state.len() {

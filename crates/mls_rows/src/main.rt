@@ -25,6 +25,7 @@ mod proposal_calls;
 mod row;
 mod run_calls;
 mod state;
+mod state_calls;
 mod stories;
 mod text_writer;
 mod token;

@@ -7,14 +7,14 @@ use crate::state::sender_text;
 use crate::text_writer::TextWriter;
 use mls_apply::{
     EpochState, KnownProposal, ListItem, PendingProposals, Refusal, check_join, check_proposal,
-    join_items, resolve_list,
+    join_items, package_ref, resolve_list,
 };
 use mls_check::{SignatureCheck, Trusting};
 use mls_hash::Suite;
-use mls_msgs::{Commit, Proposal, Sender, encode_proposal};
+use mls_msgs::{Commit, KeyPackage, Proposal, Sender, encode_proposal};
 use mls_nodes::GroupContext;
 use mls_tree::{HashValue, PublicTree};
-use mls_wire::{CodecFault, Reader, read_value};
+use mls_wire::{CodecFault, Opaque, Reader, read_value};
 use std::alloc::Global;
 
 /// `none`, or a refusal.
@@ -82,16 +82,21 @@ pub(crate) fn proposal(row: &Row) -> Result<CallResult, RowFault> {
     found
 }
 
-/// Reads a pending proposal: a vector that is its reference, its sender, and itself.
+/// Reads a pending proposal: a vector that is its reference, its sender, and itself. Its authenticated data and its signature are
+/// empty.
 fn read_known(alloc: Global, reader: &mut Reader<'_>) -> Result<KnownProposal, CodecFault> {
     let reference = reader.read_vec()?;
     let sender = reader.read_u32()?;
     let proposal = read_value::<Proposal>(alloc, reader)?;
+    let authenticated_data = Opaque::copy(alloc, &[])?;
+    let signature = Opaque::copy(alloc, &[])?;
     match HashValue::new(reference) {
         Some(reference) => Ok(KnownProposal {
             reference,
             sender: Sender::Member(sender),
             proposal,
+            authenticated_data,
+            signature,
         }),
         None => Err(CodecFault::OutOfMemory),
     }
@@ -219,5 +224,17 @@ pub(crate) fn find(row: &Row) -> Result<CallResult, RowFault> {
     match sender {
         Some(sender) => CallResult::of(sender_text(row.alloc, sender)),
         None => CallResult::word(row.alloc, "none"),
+    }
+}
+
+/// `package_ref | KEY PACKAGE`: the KeyPackageRef of a KeyPackage.
+pub(crate) fn reference_of_package(row: &Row) -> Result<CallResult, RowFault> {
+    row.has(1);
+    let key_package = row.value::<KeyPackage>(1, "a KeyPackage")?;
+    let reference = package_ref(row.alloc, &key_package);
+    drop(key_package);
+    match reference {
+        Ok(reference) => CallResult::bytes(row.alloc, reference.as_slice()),
+        Err(fault) => CallResult::fault(row.alloc, &fault),
     }
 }

@@ -10,7 +10,7 @@ use mls_follow::Follower;
 use mls_hash::{Suite, tree_hash};
 use mls_msgs::{Sender, encode_proposal};
 use mls_nodes::{Node, encode_context, encode_ratchet_tree};
-use mls_tree::PublicTree;
+use mls_tree::{HashValue, PublicTree};
 use std::alloc::Global;
 
 // ---- as bytes
@@ -79,6 +79,20 @@ impl StateBytes {
             self.add(proposal.reference.as_slice());
             self.add_sender(proposal.sender);
             self.add_made(encode_proposal(alloc, &proposal.proposal));
+            self.add(proposal.authenticated_data.as_slice());
+            self.add(proposal.signature.as_slice());
+        }
+    }
+
+    /// Adds the KeyPackageRefs of those that the last commit added, if there was one.
+    fn add_references(&mut self, added: Option<&[HashValue]>) {
+        let Some(references) = added else {
+            self.add(&[0u8]);
+            return;
+        };
+        self.add(&[1u8]);
+        for reference in references {
+            self.add(reference.as_slice());
         }
     }
 
@@ -94,7 +108,7 @@ impl StateBytes {
 }
 
 /// A follower's state, with this tree in place of its own: the context, every node, the interim transcript hash, the pending
-/// proposals, and, if there is a suite, the tree hash of each node index.
+/// proposals, the KeyPackageRefs of those that the last commit added, and, if there is a suite, the tree hash of each node index.
 fn state_with<C: SignatureCheck>(
     alloc: Global,
     follower: &Follower<C>,
@@ -106,6 +120,7 @@ fn state_with<C: SignatureCheck>(
     state.add_made(encode_ratchet_tree(alloc, tree.nodes()));
     state.add(follower.interim().as_slice());
     state.add_known(alloc, follower.known());
+    state.add_references(follower.added());
     if let Some(suite) = suite {
         state.add_hashes(suite, tree);
     }
@@ -185,6 +200,18 @@ pub(crate) fn add_state<C: SignatureCheck>(follower: &Follower<C>, text: &mut Te
     }
     if follower.ended() {
         text.add(" ended");
+    }
+}
+
+/// Adds the KeyPackageRefs of those that a follower's last commit added, or `none` before the first commit.
+pub(crate) fn add_added<C: SignatureCheck>(follower: &Follower<C>, text: &mut TextWriter) {
+    let Some(references) = follower.added() else {
+        text.add(" none");
+        return;
+    };
+    for reference in references {
+        text.add(" ");
+        text.add_digits(reference.as_slice());
     }
 }
 

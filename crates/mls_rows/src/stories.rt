@@ -3,7 +3,7 @@
 use crate::call_result::{CallResult, are_same, name_of};
 use crate::fault::RowFault;
 use crate::row::{Row, have};
-use crate::state::{add_keys, add_state, state_of};
+use crate::state::{add_added, add_keys, add_state, state_of};
 use crate::text_writer::TextWriter;
 use mls_check::{SignatureCheck, Trusting, validate_members, validate_tree};
 use mls_follow::{Follower, Refusal, StartRefused, Taken};
@@ -196,7 +196,7 @@ fn hand_over<C: SignatureCheck>(
     }
 }
 
-/// What follows the results of a story: nothing, the state or the tree.
+/// What follows the results of a story: nothing, the state, the tree, or the KeyPackageRefs of those that the last commit added.
 fn end_text<C: SignatureCheck>(row: &Row, follower: &Follower<C>) -> Result<String, RowFault> {
     let mut end = TextWriter::new(row.alloc);
     match row.word(0) {
@@ -207,6 +207,10 @@ fn end_text<C: SignatureCheck>(row: &Row, follower: &Follower<C>) -> Result<Stri
         "story_tree" | "full_story_tree" => {
             end.add(" / tree");
             add_keys(follower, &mut end);
+        }
+        "story_added" | "full_story_added" => {
+            end.add(" / added");
+            add_added(follower, &mut end);
         }
         _ => {}
     }
@@ -248,7 +252,7 @@ fn info_at(row: &Row, at: usize) -> Result<GroupInfo, RowFault> {
 /// The profile of a story.
 fn profile_of(row: &Row) -> Profile {
     match row.word(0) {
-        "full_story" | "full_story_state" | "full_story_tree" => Profile::Full,
+        "full_story" | "full_story_state" | "full_story_tree" | "full_story_added" => Profile::Full,
         _ => Profile::Members,
     }
 }
@@ -273,9 +277,9 @@ fn story_by<C: SignatureCheck>(row: &Row, own: C, checker: &C) -> Result<CallRes
     results
 }
 
-/// `story | INFO | CHECKER | MESSAGE | ..`: what a follower returns for messages that starts from a GroupInfo. `story_state` and
-/// `story_tree` have the state or the tree after the last message as well. `full_story`, `full_story_state` and `full_story_tree` are
-/// the same in the full profile.
+/// `story | INFO | CHECKER | MESSAGE | ..`: what a follower returns for messages that starts from a GroupInfo. `story_state`, `story_tree`
+/// and `story_added` have the state, the tree, or the KeyPackageRefs of those that the last commit added as well, after the last message.
+/// `full_story`, `full_story_state`, `full_story_tree` and `full_story_added` are the same in the full profile.
 pub(crate) fn story(row: &Row) -> Result<CallResult, RowFault> {
     row.has_at_least(3);
     if row.is_trusting(2) {

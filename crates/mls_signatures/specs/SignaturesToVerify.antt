@@ -29,6 +29,7 @@ use Rattle.mls_msgs.specs.declared.profile.Profile.{Profile}
 use Rattle.mls_msgs.specs.declared.profile.Profile.TheVariants.{Members, Full}
 use Rattle.mls_msgs.specs.declared.proposal.ProposalOrRef.{ProposalOrRef}
 use Rattle.mls_msgs.specs.declared.proposal.ProposalOrRef.TheVariants as entries
+use Rattle.mls_apply.specs.PendingContent.{authenticated_of}
 use Rattle.mls_apply.specs.declared.list_item.KnownProposal.{KnownProposal}
 use Rattle.mls_apply.specs.declared.list_item.ListItem.{ListItem}
 use Rattle.mls_apply.specs.ResolvedList.{resolved}
@@ -36,7 +37,7 @@ use Rattle.mls_apply.specs.JoinRules.{is_join_list, join_items}
 use Rattle.mls_apply.specs.ListRules.{replaced_leaf}
 use Rattle.mls_apply.specs.AppliedList.{AppliedTree, outcome}
 use Rattle.mls_apply.specs.Senders.{member_index}
-use Rattle.mls_signatures.specs.SigningKeys.{signed_context, outside_key, may_propose}
+use Rattle.mls_signatures.specs.SigningKeys.{signed_context, signing_key, outside_key, may_propose}
 use Rattle.mls_signatures.specs.declared.signature_to_verify.SignatureToVerify.{SignatureToVerify}
 
 -- ---- the signature of one thing that is signed, if it has one
@@ -170,11 +171,19 @@ abbrev pub entry_signatures : GroupContext → Sender → ProposalOrRef → List
 entry_signatures context committer (entries.Proposal p) = proposal_signatures context committer p
 entry_signatures context committer (entries.Reference _) = []
 
--- `pending_signatures context known` is the signatures of the pending proposals, in their order.
-abbrev pub pending_signatures : GroupContext → List KnownProposal → List SignatureToVerify
-pending_signatures context [] = []
-pending_signatures context (k ∷ ks) =
-    proposal_signatures context k.sender k.proposal ++ pending_signatures context ks
+-- `pending_proposal_signatures context k key` is the signature of the AuthenticatedContent of a pending proposal under the key of
+-- its sender (RFC 9420, 6.1), then those of the proposal. Empty if the sender has no key.
+abbrev pub pending_proposal_signatures : GroupContext → KnownProposal → Option (List ℕ) → List SignatureToVerify
+pending_proposal_signatures context k None = []
+pending_proposal_signatures context k (Some key) =
+    framed_content_signatures context key (authenticated_of context k) ++ proposal_signatures context k.sender k.proposal
+
+-- `pending_signatures context t known` is the signatures of the pending proposals, in their order.
+abbrev pub pending_signatures : GroupContext → Tree → List KnownProposal → List SignatureToVerify
+pending_signatures context t [] = []
+pending_signatures context t (k ∷ ks) =
+    pending_proposal_signatures context k (signing_key context t k.sender (contents.Proposal k.proposal))
+    ++ pending_signatures context t ks
 
 -- `entries_signatures context committer es` is the signatures of the entries of a Commit, in their order.
 abbrev pub entries_signatures : GroupContext → Sender → List ProposalOrRef → List SignatureToVerify
@@ -189,7 +198,7 @@ entries_signatures context committer (e ∷ es) =
 abbrev pub all_resumption_signatures : GroupContext → Tree → List KnownProposal → List SignatureToVerify
 all_resumption_signatures context t ks =
     if is_supported_context context
-    then tree_signatures context.cipher_suite context.group_id 0 t ++ pending_signatures context ks
+    then tree_signatures context.cipher_suite context.group_id 0 t ++ pending_signatures context t ks
     else []
 
 -- `resumption_signatures context t known` is the signatures of a resumption, without duplicates.

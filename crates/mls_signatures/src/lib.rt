@@ -29,6 +29,5 @@ pub use signatures::{
     GroupEpoch, info_signatures, leaf_signatures, message_signatures, start_signatures,
 };
 pub use signing_keys::{
-    external_key, external_key_among, may_propose, outside_key, outside_key_among, senders_of,
-    signed_context,
+    external_key_among, may_propose, outside_key_among, senders_of, signed_context,
 };

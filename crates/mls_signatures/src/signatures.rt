@@ -2,6 +2,7 @@
 
 ghost use Rattle.std.specs.Prelude.{◌≡◌, IfOk, OnOk};
 ghost use Rattle.std.specs.Option.{option_to_list};
+ghost use Rattle.mls_nodes.specs.ExternalSenders.{senders_by};
 ghost use Rattle.mls_tree.specs.Tree.{leaf_at};
 ghost use Rattle.mls_apply.specs.Staged.{IsSettled};
 ghost use Rattle.mls_signatures.specs.AddedLeaves.{AppendsSignatures};
@@ -15,12 +16,12 @@ use crate::push_signatures::{
 };
 use crate::signature_list::SignatureList;
 use crate::signature_to_verify::SignatureToVerify;
-use crate::signing_keys::{may_propose, outside_key};
+use crate::signing_keys::{may_propose, outside_key_among};
 use crate::single_signatures::{info_signature, non_blank_leaf_signature};
 use mls_apply::{PendingProposals, StagedTree};
 use mls_check::OutOfMemory;
 use mls_msgs::{Authenticated, Content, GroupInfo, Message, Profile, Proposal, Sender};
-use mls_nodes::GroupContext;
+use mls_nodes::{ExternalSenders, GroupContext};
 use mls_tree::PublicTree;
 use std::alloc::Global;
 
@@ -110,6 +111,8 @@ pub struct GroupEpoch<'a> {
     pub context: &'a GroupContext,
     /// The pending proposals.
     pub known: &'a PendingProposals,
+    /// The external senders of the group, as [`senders_of`](crate::senders_of) returns them for the context.
+    pub senders: &'a Option<ExternalSenders>,
 }
 
 /// What a member has sent.
@@ -210,25 +213,21 @@ fn push_outside_content_signatures(
 /// Appends the signatures of what a sender outside the group has sent, if the sender has a key.
 fn push_outside_signatures(
     alloc: Global,
-    context: &GroupContext,
+    epoch: &GroupEpoch<'_>,
     auth: &Authenticated,
     list: &mut SignatureList,
 ) -> Result<(), OutOfMemory>
+    requires { epoch.now.senders.now ≡ senders_by epoch.now.context.now.extensions }
     ensures { let content = auth.now.content in
-        OnOk result (AppendsSignatures list.old (outside_signatures context.now auth.now content.sender
-        (outside_key context.now content.sender content.content)) list.new) }
+        OnOk result (AppendsSignatures list.old (outside_signatures epoch.now.context.now auth.now content.sender
+        (outside_key epoch.now.context.now content.sender content.content)) list.new) }
 {
     let content = auth.content();
-    let Some(key) = outside_key(alloc, context, content.sender, &content.content)? else {
+    let Some(key) = outside_key_among(epoch.senders, content.sender, &content.content) else {
         return Ok(());
     };
-    let frame = OutsideFrame {
-        key: key.as_slice(),
-        auth,
-    };
-    let answer = push_outside_content_signatures(alloc, context, &frame, list);
-    drop(key);
-    answer
+    let frame = OutsideFrame { key, auth };
+    push_outside_content_signatures(alloc, epoch.context, &frame, list)
 }
 
 /// Appends the signatures of what a client that joins with a commit has sent, if it is a commit with a path.
@@ -270,7 +269,8 @@ fn push_sender_signatures(
     auth: &Authenticated,
     list: &mut SignatureList,
 ) -> Result<(), OutOfMemory>
-    requires { IsSettled tree.old }
+    requires settled { IsSettled tree.old }
+    requires senders { epoch.now.senders.now ≡ senders_by epoch.now.context.now.extensions }
     ensures signatures { OnOk result (AppendsSignatures list.old
         (sender_signatures epoch.now.profile epoch.now.context.now epoch.now.known.now tree.old.tree auth.now
         auth.now.content.sender) list.new) }
@@ -284,10 +284,10 @@ fn push_sender_signatures(
             push_member_signatures(alloc, epoch, tree, &sent, list)
         }
         (Sender::External(_), Profile::Full) => {
-            push_outside_signatures(alloc, epoch.context, auth, list)
+            push_outside_signatures(alloc, epoch, auth, list)
         }
         (Sender::NewMemberProposal, Profile::Full) => {
-            push_outside_signatures(alloc, epoch.context, auth, list)
+            push_outside_signatures(alloc, epoch, auth, list)
         }
         (Sender::NewMemberCommit, Profile::Full) => {
             push_join_signatures(alloc, epoch.context, tree, auth, list)
@@ -304,7 +304,8 @@ fn push_authenticated_signatures(
     auth: &Authenticated,
     list: &mut SignatureList,
 ) -> Result<(), OutOfMemory>
-    requires { IsSettled tree.old }
+    requires settled { IsSettled tree.old }
+    requires senders { epoch.now.senders.now ≡ senders_by epoch.now.context.now.extensions }
     ensures signatures { OnOk result (AppendsSignatures list.old
         (authenticated_signatures epoch.now.profile epoch.now.context.now epoch.now.known.now tree.old.tree
         auth.now) list.new) }
@@ -330,7 +331,8 @@ fn push_message_signatures(
     message: &Message,
     list: &mut SignatureList,
 ) -> Result<(), OutOfMemory>
-    requires { IsSettled tree.old }
+    requires settled { IsSettled tree.old }
+    requires senders { epoch.now.senders.now ≡ senders_by epoch.now.context.now.extensions }
     ensures signatures { OnOk result (AppendsSignatures list.old
         (all_message_signatures epoch.now.profile epoch.now.context.now epoch.now.known.now tree.old.tree
         message.now) list.new) }
@@ -368,6 +370,7 @@ pub fn message_signatures(
     message: &Message,
 ) -> Result<SignatureList, OutOfMemory>
     requires settled { IsSettled tree.old }
+    requires senders { epoch.now.senders.now ≡ senders_by epoch.now.context.now.extensions }
     ensures signatures { IfOk result (λ list. list
         ≡ message_signatures epoch.now.profile epoch.now.context.now epoch.now.known.now tree.old.tree message.now) }
     ensures base { tree.new.base ≡ tree.old.base }

@@ -3,7 +3,7 @@
 
 ghost use Rattle.std.specs.Prelude.{◌≡◌, IfOk, IfSome, None, OnErr, option_map};
 ghost use Rattle.mls_nodes.specs.ExternalSenders.{senders_by};
-ghost use Rattle.mls_signatures.specs.SigningKeys.{added_signature_key, committer_key, external_key, external_key_among, is_external_proposal, joiner_key, external_sender_key, may_propose, outside_key, outside_key_among, path_key, signed_context};
+ghost use Rattle.mls_signatures.specs.SigningKeys.{added_signature_key, committer_key, external_key_among, is_external_proposal, joiner_key, external_sender_key, may_propose, outside_key_among, path_key, signed_context};
 
 use mls_check::OutOfMemory;
 use mls_msgs::{Content, Proposal, Sender, UpdatePath};
@@ -66,7 +66,8 @@ fn external_sender_key(senders: &[ExternalSender], index: u32) -> Option<&[u8]>
 }
 
 /// Returns the signature key of the external sender with this index (RFC 9420, 12.1.8), if there is one, among those that
-/// [`senders_of`] returned. The first sender has the index 0. Does not allocate.
+/// [`senders_of`] returned. The first sender has the index 0. There is none if the extension external_senders cannot be read.
+/// Does not allocate.
 pub fn external_key_among(senders: &Option<ExternalSenders>, index: u32) -> Option<&[u8]>
     ensures { option_map (λ key. key.now) result ≡ external_key_among senders.now index }
 {
@@ -74,30 +75,6 @@ pub fn external_key_among(senders: &Option<ExternalSenders>, index: u32) -> Opti
         Some(senders) => external_sender_key(senders.as_slice(), index),
         None => None,
     }
-}
-
-/// Returns the signature key of the external sender with this index (RFC 9420, 12.1.8), if there is one. There is none if
-/// the extension external_senders cannot be read. The first sender has the index 0.
-///
-/// # Errors
-///
-/// [`OutOfMemory`].
-pub fn external_key(
-    alloc: Global,
-    extensions: &Extensions,
-    index: u32,
-) -> Result<Option<Opaque>, OutOfMemory>
-    ensures { IfOk result (λ key. key ≡ external_key extensions.now index) }
-{
-    let Some(senders) = senders_of(alloc, extensions)? else {
-        return Ok(None);
-    };
-    let key = match external_sender_key(senders.as_slice(), index) {
-        Some(key) => opaque_of(alloc, key),
-        None => return Ok(None),
-    };
-    drop(senders);
-    Ok(Some(key?))
 }
 
 /// The signature key of the client that an Add adds.
@@ -126,16 +103,6 @@ fn joiner_key(content: &Content) -> Option<&[u8]>
     }
 }
 
-/// Returns a copy of the signature key of a client that proposes its own Add (RFC 9420, 12.1.8), if the content is one.
-fn joiner_key_copy(alloc: Global, content: &Content) -> Result<Option<Opaque>, OutOfMemory>
-    ensures { IfOk result (λ key. key ≡ joiner_key content.now) }
-{
-    match joiner_key(content) {
-        Some(key) => Ok(Some(opaque_of(alloc, key)?)),
-        None => Ok(None),
-    }
-}
-
 /// The signature key of the leaf node of a path, if there is one.
 fn path_key(path: &Option<UpdatePath>) -> Option<&[u8]>
     ensures { option_map (λ key. key.now) result ≡ path_key path.now }
@@ -157,42 +124,9 @@ fn committer_key(content: &Content) -> Option<&[u8]>
     }
 }
 
-/// Returns a copy of the signature key of a client that joins with a commit (RFC 9420, 12.4.3.2), if the content is one
-/// with a path.
-fn committer_key_copy(alloc: Global, content: &Content) -> Result<Option<Opaque>, OutOfMemory>
-    ensures { IfOk result (λ key. key ≡ committer_key content.now) }
-{
-    match committer_key(content) {
-        Some(key) => Ok(Some(opaque_of(alloc, key)?)),
-        None => Ok(None),
-    }
-}
-
 /// Returns the key under which the signature of a content of a sender outside the group is verified (RFC 9420, 6.1, 12.1.8
-/// and 12.4.3.2), if there is one. It is that of the external sender in the group's context, of the client that proposes its
-/// own Add, or of the path's leaf node of a client that joins with a commit.
-///
-/// # Errors
-///
-/// [`OutOfMemory`].
-pub fn outside_key(
-    alloc: Global,
-    context: &GroupContext,
-    sender: Sender,
-    content: &Content,
-) -> Result<Option<Opaque>, OutOfMemory>
-    ensures { IfOk result (λ key. key ≡ outside_key context.now sender content.now) }
-{
-    match sender {
-        Sender::Member(_) => Ok(None),
-        Sender::External(index) => external_key(alloc, &context.extensions, index),
-        Sender::NewMemberProposal => joiner_key_copy(alloc, content),
-        Sender::NewMemberCommit => committer_key_copy(alloc, content),
-    }
-}
-
-/// Returns the key that [`outside_key`] returns a copy of, for a group whose external senders [`senders_of`] returned. Does
-/// not allocate.
+/// and 12.4.3.2), if there is one. It is that of the external sender among those that [`senders_of`] returned, of the client
+/// that proposes its own Add, or of the path's leaf node of a client that joins with a commit. Does not allocate.
 pub fn outside_key_among<'a>(
     senders: &'a Option<ExternalSenders>,
     sender: Sender,

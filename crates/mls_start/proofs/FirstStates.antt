@@ -1,5 +1,5 @@
 -- What the inputs of a start lead to: one first state or one finding, and one of the two there is.
-use Rattle.std.proofs.Common.{◌≡◌, ◌∙◌, ℕ, List, true, false, Option, refl, sym, ap, subst, inl, inr}
+use Rattle.std.proofs.Common.{◌≡◌, ◌∙◌, ℕ, List, [], true, false, Option, refl, sym, ap, subst, inl, inr}
 use Rattle.std.specs.Prelude.{◌⊎◌, not}
 use Rattle.std.proofs.lemmas.Bool.{false≢true}
 use Rattle.mls_check.specs.Signatures.{VerifyFn}
@@ -17,7 +17,7 @@ use Rattle.mls_follow.specs.declared.resume_fault.ResumeFault.{ResumeFault}
 use Rattle.mls_follow.specs.declared.resume_fault.ResumeFault.TheVariants as resumes
 use Rattle.mls_follow.proofs.Answering.{one_message}
 use Rattle.mls_follow.proofs.Holding.{IsSteady, start_steady}
-use Rattle.mls_follow.proofs.Resumable.{start_resumable, resumed_resumable}
+use Rattle.mls_follow.proofs.Resumable.{followers_resumable, resumed_resumable}
 use Rattle.mls_follow.proofs.StoredRuns.{resumed_steady, resumption_valid}
 use Rattle.mls_follow.proofs.StrictnessKept.{starts_strict}
 use Rattle.mls_follow.proofs.Validity.{start_valid}
@@ -111,6 +111,9 @@ readable-fault bytes s h G (resumes.Tree fault) f = refl
 readable-fault bytes s h G (resumes.Member fault) f = refl
 readable-fault bytes s h G resumes.InterimLength f = refl
 readable-fault bytes s h G (resumes.KnownInvalid n) f = refl
+readable-fault bytes s h G (resumes.AddedInvalid n) f = refl
+readable-fault bytes s h G (resumes.Strict fault) f = refl
+readable-fault bytes s h G (resumes.KnownStrict n) f = refl
 readable-fault bytes s h G resumes.OutOfMemory f = refl
 
 -- of what can be read only that a start is refused
@@ -205,7 +208,7 @@ first_steady G (OfInfo asked profile info tree) s h = start_steady asked profile
 first_steady G (OfState asked bytes) s h = added_steady asked h.resumed s h.is_added (resumed_steady G bytes h.resumed h.is_resumed)
 
 pub first_resumable : (G : VerifyFn) (i : Inputs) (s : State) → IsFirstState G i s → IsResumable G s
-first_resumable G (OfInfo asked profile info tree) s h = start_resumable asked profile G h.info h.supplied s h.start
+first_resumable G (OfInfo asked profile info tree) s h = followers_resumable G s s [] (inl (asked, profile, h.info, h.supplied, h.start)) refl
 first_resumable G (OfState asked bytes) s h = added_resumable asked h.resumed s h.is_added G (resumed_resumable G bytes h.resumed h.is_resumed)
 
 pub first_strict : FirstStatesAreStrict

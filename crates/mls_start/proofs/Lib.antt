@@ -1,6 +1,5 @@
 pub mod InOrder
 pub mod StrictStarts
-pub mod AddedOnce
 pub mod AddedRules
 pub mod StartsOnce
 pub mod StartsExist

@@ -3,11 +3,12 @@ use Rattle.std.proofs.Common.{◌≡◌, ◌≢◌, ◌∙◌, ℕ, List, false,
 use Rattle.std.specs.Prelude.{◌⊎◌}
 use Rattle.mls_check.specs.Signatures.{VerifyFn}
 use Rattle.mls_msgs.specs.declared.rules.Rules.{Rules}
-use Rattle.mls_follow.proofs.Pending.{held_entries}
+use Rattle.mls_follow.proofs.Resumable.{resumed_resumable}
 use Rattle.mls_follow.proofs.Resumed.{one_resumption, no_resume_fault, one_resume_fault}
 use Rattle.mls_follow.proofs.ResumedOrNot.{some_resumption}
+use Rattle.mls_follow.proofs.StrictnessKept.{added_rules_keep_strictness}
 use Rattle.mls_follow.specs.AddedRules.{HasAddedRules, IsStrictRefused}
-use Rattle.mls_follow.specs.Resumption.{IsResumed, base_state}
+use Rattle.mls_follow.specs.Resumption.{IsResumed}
 use Rattle.mls_follow.specs.State.{State}
 use Rattle.mls_follow.specs.StrictnessKept.{IsStrictState}
 use Rattle.mls_follow.specs.declared.added_rules.StrictRefused.{StrictRefused}
@@ -22,8 +23,7 @@ use Rattle.mls_start.specs.declared.finding.Finding.{Finding}
 use Rattle.mls_start.specs.declared.finding.Finding.TheVariants.{StateRefused, StateNotStrict, Starts}
 use Rattle.mls_start.specs.declared.start_bytes.StartFailure.{StartFailure}
 use Rattle.mls_start.specs.declared.start_bytes.StartFailure.TheVariants.{Found, OutOfMemory}
-use Rattle.mls_start.proofs.AddedOnce.{added_or_refused, one_added, no_refusal, one_refused}
-use Rattle.mls_start.proofs.AddedRules.{plain_added_strict}
+use Rattle.mls_follow.proofs.AddedOnce.{added_or_refused, one_added, no_refusal, one_refused}
 
 module _ (asked : Rules) (G : VerifyFn) (bytes : List ℕ) where
   -- two resumptions are in one state
@@ -78,9 +78,6 @@ module _ (asked : Rules) (G : VerifyFn) (bytes : List ℕ) where
       subst (Declines G (OfState asked bytes)) (sym h.finding_is) (record { found = (s, resumed, h.not_out_of_memory, h.fails); not_valid = refl })
   says_not_strict s resumed OutOfMemory h = tt
 
-  -- a file has no strict rules, so all that the state has are those that are added
+  -- a follower resumes in a state that meets the strict rules of the file
   pub resumed_with_strict : (s : State) → IsResumedWith asked G bytes s → IsStrictState s
-  resumed_with_strict s h =
-      let r = h.is_resumed in
-      let held = held_entries G (base_state r.content r.tree) r.content.known h.resumed r.state.held in
-      plain_added_strict asked h.resumed s (ap (λ (t : State). t.rules) held.2) h.is_added
+  resumed_with_strict s h = added_rules_keep_strictness asked h.resumed s (resumed_resumable G bytes h.resumed h.is_resumed).strict h.is_added

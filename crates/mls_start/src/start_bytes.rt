@@ -99,7 +99,7 @@ pub(crate) fn resume_from<C: SignatureCheck>(
     ensures checker { IfOk result (λ f. C.meaning (checker_of f) ≡ C.meaning checker) }
     ensures refused { IfErr result (Says (Declines (C.meaning checker) (OfState rules bytes.items))) }
 {
-    match Follower::resume(alloc, bytes.as_slice(), checker) {
+    match Follower::resume(alloc, bytes, checker) {
         Ok(follower) => with_rules(rules, follower),
         Err(refused) => {
             let fault = refused.fault;

@@ -1,15 +1,19 @@
--- Parts of an encoded file, and files that are equal.
-use Rattle.std.proofs.Common.{◌≡◌, ℕ, List, Some, refl, sym, ◌∙◌, ap}
+-- Parts of an encoded file, files that are equal, and which file a state has.
+use Rattle.std.proofs.Common.{◌≡◌, ℕ, List, Option, Some, None, Result, Ok, Err, refl, sym, ◌∙◌, ap}
 use Rattle.std.specs.Int.{w16}
 use Rattle.sha2.specs.Sha256.{sha256}
 use Rattle.mls_wire.specs.Encoding.{◌⊕◌, number, vector}
 use Rattle.mls_wire.specs.EncodingConcat.{joined}
 use Rattle.mls_wire.specs.ExactTheorems.{unambiguous}
 use Rattle.mls_wire.specs.OptionBind.{some_is}
+use Rattle.mls_wire.specs.WriteContracts.{MakesPiece}
+use Rattle.mls_wire.specs.declared.fault.CodecFault.{CodecFault}
+use Rattle.mls_wire.specs.declared.fault.CodecFault.TheVariants as codec
 use Rattle.mls_state.specs.Layout.{follower_state, state_file}
 use Rattle.mls_state.specs.Parsing.{state_file_at}
 use Rattle.mls_state.specs.StateExact.{state_file_exact}
-use Rattle.mls_state.specs.StateFile.{IsFileOf}
+use Rattle.mls_state.specs.StateFile.{HasChecksum, IsFileOf, MakesStateFile}
+use Rattle.mls_state.specs.StateFileInternal.{MakesChecksum}
 use Rattle.mls_state.specs.declared.file.StateFile.{StateFile}
 use Rattle.mls_state.specs.declared.state.FollowerState.{FollowerState}
 
@@ -17,7 +21,7 @@ use Rattle.mls_state.specs.declared.state.FollowerState.{FollowerState}
 pub state_encoded : (f : StateFile) (bytes : List ℕ) → state_file f ≡ Some bytes → (body : List ℕ) × (follower_state f.state ≡ Some body)
 unfolding state_file
 state_encoded f bytes e =
-    let a = joined (number w16 1) (vector f.checksum ⊕ follower_state f.state) bytes e in
+    let a = joined (number w16 2) (vector f.checksum ⊕ follower_state f.state) bytes e in
     let b = joined (vector f.checksum) (follower_state f.state) a.1 a.3 in
     (b.1, b.3)
 
@@ -36,3 +40,32 @@ file_is_unique x y s a b =
     let body : a.checked.body ≡ b.checked.body = some_is _ _ (sym a.checked.encoded ∙ ap follower_state state ∙ b.checked.encoded) in
     let checksum : a.file.checksum ≡ b.file.checksum = a.checked.digest ∙ ap sha256 body ∙ sym b.checked.digest in
     some_is _ _ (sym a.encoded ∙ ap state_file (same_file a.file b.file checksum state) ∙ b.encoded)
+
+-- a digest that was made is that of the encoded state
+digest_of : (encoding : Option (List ℕ)) (digest : List ℕ) → MakesChecksum encoding (Ok digest)
+    → (body : List ℕ) × (encoding ≡ Some body) × (digest ≡ sha256 body)
+digest_of None digest made = absurd made
+digest_of (Some body) digest made = (body, refl, made)
+
+-- a file with the digest of its state is the file of the state
+checksum_made : (f : StateFile) → MakesChecksum (follower_state f.state) (Ok f.checksum) → HasChecksum f
+checksum_made f made =
+    let digest = digest_of (follower_state f.state) f.checksum made in
+    record { body = digest.0; encoded = digest.1; digest = digest.2 }
+
+-- a state has no file if the one with its checksum has no encoding
+none_is_file : (f : StateFile) → HasChecksum f → state_file f ≡ None → (bytes : List ℕ) → IsFileOf bytes f.state → ⊥
+none_is_file f checked none bytes file =
+    let body : file.checked.body ≡ checked.body = some_is _ _ (sym file.checked.encoded ∙ ap follower_state file.state ∙ checked.encoded) in
+    let checksum : file.file.checksum ≡ f.checksum = file.checked.digest ∙ ap sha256 body ∙ sym checked.digest in
+    let encoded : Some bytes ≡ None = sym file.encoded ∙ ap state_file (same_file file.file f checksum file.state) ∙ none in
+    absurd cc
+
+-- what encodes the state with its digest is the file of the state
+pub file_made : (f : StateFile) (result : Result (List ℕ) CodecFault) → MakesChecksum (follower_state f.state) (Ok f.checksum)
+    → MakesPiece (state_file f) result → MakesStateFile f.state result
+file_made f (Ok bytes) made encoded =
+    record { file = f; state = refl; checked = checksum_made f made; encoded = encoded }
+file_made f (Err (codec.Wire e)) made none =
+    (none_is_file f (checksum_made f made) none.0, ap (λ x. x.kind) none.1)
+file_made f (Err codec.OutOfMemory) made none = tt

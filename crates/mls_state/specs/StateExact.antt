@@ -1,43 +1,36 @@
 -- What is read of a state file is encoded so, and what is encoded so is read. Internal: no public contract uses this, but
 -- that of `Decode`.
-use Rattle.std.proofs.Common.{◌≡◌, ◌≢◌, ℕ, List, [], Option, Some, cond, eqb, refl, sym, subst, arith}
-use Rattle.std.proofs.lemmas.Bool.{eqb-true, eqb-false}
+use Rattle.std.proofs.Common.{◌≡◌, ◌≢◌, ◌^◌, ◌<◌, ℕ, Bool, true, false, List, [], Option, Some, None, cond, eqb, refl, sym, ap, subst, arith}
+use Rattle.std.specs.Prelude.{nat_lt}
+use Rattle.std.specs.Coded.{le_prop}
+use Rattle.std.proofs.lemmas.Bool.{eqb-true, eqb-false, ltb-false}
+use mathlib.Core.HLevel.{is_prop→PathP}
 use Rattle.std.specs.Int.{w8, w16}
 use Rattle.mls_wire.specs.Input.{Input}
-use Rattle.mls_wire.specs.Encoding.{◌⊕◌, number, vector, list}
-use Rattle.mls_wire.specs.Parsing.{number_at, vector_at, list_at}
+use Rattle.mls_wire.specs.Encoding.{◌⊕◌, number, vector, list, optional}
+use Rattle.mls_wire.specs.Parsing.{◌>>=◌, number_at, vector_at, list_at}
+use Rattle.mls_wire.specs.ParsingInternal.{optional_at}
+use Rattle.mls_wire.specs.ReadContracts.{IsEncodedAt}
+use Rattle.mls_wire.specs.OptionBind.{bind_some, some_is}
 use Rattle.mls_wire.specs.ExactParsers.{Exact, IsExact, IsLong, Any, field_then, made_of, chosen, tag_is, known, never, encoded_as}
 use Rattle.mls_wire.specs.IntegersExact.{wide8, wide16, number_exact, number_long}
 use Rattle.mls_wire.specs.VectorsExact.{vector_exact, vector_long}
 use Rattle.mls_wire.specs.ListsExact.{list_exact}
+use Rattle.mls_wire.specs.OptionalsExact.{optional_exact}
 use Rattle.mls_wire.specs.EncodingConcat.{long_left}
 use Rattle.mls_nodes.specs.Layout.{group_context}
 use Rattle.mls_nodes.specs.ParsingInternal.{group_context_at}
 use Rattle.mls_nodes.specs.NodesExact.{group_context_exact}
-use Rattle.mls_msgs.specs.Layout.{proposal, sender}
-use Rattle.mls_msgs.specs.Parsing.{proposal_at}
-use Rattle.mls_msgs.specs.Parsing.{sender_at}
-use Rattle.mls_msgs.specs.ProposalExact.{proposal_exact}
-use Rattle.mls_msgs.specs.FrameExact.{sender_exact}
-use Rattle.mls_state.specs.Layout.{known_entry, group_mode, follower_state, state_file}
-use Rattle.mls_state.specs.Parsing.{known_entry_at, members_phase_at, full_phase_at, group_mode_at, follower_state_at, state_file_at}
+use Rattle.mls_msgs.specs.Authenticated.{authenticated_content}
+use Rattle.mls_msgs.specs.FrameParsing.{authenticated_content_at}
+use Rattle.mls_msgs.specs.AuthenticatedExact.{authenticated_content_exact, authenticated_content_long}
+use Rattle.mls_msgs.specs.Rules.{rule_bits}
+use Rattle.mls_msgs.specs.declared.rules.Rules.{Rules}
+use Rattle.mls_state.specs.Layout.{group_mode, rule_set, follower_state, state_file}
+use Rattle.mls_state.specs.Parsing.{members_phase_at, full_phase_at, group_mode_at, rules_if, rules_of, rule_set_at, follower_state_at, state_file_at}
 use Rattle.mls_state.specs.declared.state.GroupMode.{GroupMode}
 use Rattle.mls_state.specs.declared.state.GroupMode.TheVariants.{Members, Full, Ended}
 use Rattle.mls_state.specs.declared.file.StateFile.{StateFile}
-
--- ---- proposals received in the current epoch
-
-pub known_entry_exact : IsExact known_entry known_entry_at
-unfolding known_entry known_entry_at
-known_entry_exact =
-    field_then Any (λ k. k.reference) vector _ vector_at _ vector_exact
-    (λ a. field_then _ (λ k. k.sender) sender _ sender_at _ sender_exact
-    (λ b. made_of _ (λ x. record { reference = a; sender = b; proposal = x }) proposal _ proposal_at proposal_exact
-    (λ x. ((tt, refl), refl)) (λ x. refl) (λ k p. (k.proposal, rw (← p.0.1, ← p.1) refl))))
-
-pub known_entry_long : IsLong known_entry
-unfolding known_entry
-known_entry_long k front h = long_left (vector k.reference) _ front (vector_long k.reference) h
 
 -- ---- the profile, and whether the group is over
 
@@ -137,19 +130,79 @@ group_mode_long Members front h = long_left (number w8 1) _ front (number_long w
 group_mode_long Full front h = long_left (number w8 2) _ front (number_long w8 wide8 2) h
 group_mode_long Ended front h = long_left (number w8 2) _ front (number_long w8 wide8 2) h
 
+-- ---- the set of strict rules
+
+-- a set is determined by its number
+rule_bits-determine : (r s : Rules) → rule_bits r ≡ rule_bits s → r ≡ s
+rule_bits-determine r s e = λ i. record { members = e i; fits = is_prop→PathP (λ j. e j < 2 ^ 13) (λ j. le_prop) r.fits s.fits i }
+
+rules_if-bits : (n : ℕ) (fits : Bool) (e : nat_lt n (2 ^ 13) ≡ fits) (r : Rules) → rules_if n fits e ≡ Some r → rule_bits r ≡ n
+rules_if-bits n true e r h = sym (ap rule_bits (some_is _ _ h))
+rules_if-bits n false e r h = absurd cc
+
+rules_if-none : (n : ℕ) (fits : Bool) (e : nat_lt n (2 ^ 13) ≡ fits) → fits ≡ false → rules_if n fits e ≡ None
+rules_if-none n true e h = absurd cc
+rules_if-none n false e h = refl
+
+rules_if-encoded : (r : Rules) (fits : Bool) (e : nat_lt (rule_bits r) (2 ^ 13) ≡ fits) → rules_if (rule_bits r) fits e ≡ Some r
+rules_if-encoded r true e = ap Some (rule_bits-determine _ r refl)
+rules_if-encoded r false e = let fits = r.fits in absurd (omega (arith, ltb-false (rule_bits r) (2 ^ 13) e))
+
+-- the set that a number encodes has this number
+pub rules_of-bits : (n : ℕ) (r : Rules) → rules_of n ≡ Some r → rule_bits r ≡ n
+unfolding rules_of
+rules_of-bits n r h = rules_if-bits n (nat_lt n (2 ^ 13)) refl r h
+
+-- the number of a set encodes the set
+pub rules_of-encoded : (r : Rules) → rules_of (rule_bits r) ≡ Some r
+unfolding rules_of
+rules_of-encoded r = rules_if-encoded r (nat_lt (rule_bits r) (2 ^ 13)) refl
+
+-- a number with a bit above bit 12 encodes no set
+pub rules_of-none : (n : ℕ) → nat_lt n (2 ^ 13) ≡ false → rules_of n ≡ None
+unfolding rules_of
+rules_of-none n h = rules_if-none n (nat_lt n (2 ^ 13)) refl h
+
+pub rule_set_exact : IsExact rule_set rule_set_at
+unfolding rule_set rule_set_at
+rule_set_exact = record {
+  takes = λ i r j e.
+      let b = bind_some (number_at w16 i) (λ n. rules_of n.0 >>= λ s. Some (s, n.1)) (r, j) e in
+      let c = bind_some (rules_of b.0.0) (λ s. Some (s, b.0.1)) (r, j) b.2 in
+      let bits : IsEncodedAt (number w16) b.0.0 i b.0.1 = ((number_exact w16 wide16).takes i b.0.0 b.0.1 b.1).1 in
+      let encoded : IsEncodedAt rule_set c.0 i b.0.1 =
+      subst (λ (n : ℕ). IsEncodedAt (number w16) n i b.0.1) (sym (rules_of-bits b.0.0 c.0 c.1)) bits in
+      (tt, subst (λ (x : Rules × Input). IsEncodedAt rule_set x.0 i x.1) (some_is (c.0, b.0.1) (r, j) c.2) encoded);
+  again = λ r front rest offset p e.
+      let one = (number_exact w16 wide16).again (rule_bits r) front rest offset tt e in
+      rw one (rw (rules_of-encoded r) refl);
+}
+
+pub rule_set_long : IsLong rule_set
+unfolding rule_set
+rule_set_long r front h = number_long w16 wide16 (rule_bits r) front h
+
 -- ---- states
+
+known_exact : IsExact (list authenticated_content) (list_at authenticated_content_at)
+known_exact = list_exact authenticated_content authenticated_content_at authenticated_content_exact authenticated_content_long
+
+added_exact : IsExact (optional (list vector)) (optional_at (list_at vector_at))
+added_exact = optional_exact (list vector) (list_at vector_at) (list_exact vector vector_at vector_exact vector_long)
 
 pub follower_state_exact : IsExact follower_state follower_state_at
 unfolding follower_state follower_state_at
 follower_state_exact =
     field_then Any (λ s. s.mode) group_mode _ group_mode_at _ group_mode_exact
-    (λ b. field_then _ (λ s. s.context) group_context _ group_context_at _ group_context_exact
+    (λ b. field_then _ (λ s. s.rules) rule_set _ rule_set_at _ rule_set_exact
+    (λ r. field_then _ (λ s. s.context) group_context _ group_context_at _ group_context_exact
     (λ c. field_then _ (λ s. s.interim) vector _ vector_at _ vector_exact
     (λ d. field_then _ (λ s. s.tree) vector _ vector_at _ vector_exact
-    (λ e. made_of _ (λ x. record { mode = b; context = c; interim = d; tree = e; known = x }) (list known_entry) _
-    (list_at known_entry_at) (list_exact known_entry known_entry_at known_entry_exact known_entry_long)
-    (λ x. ((((tt, refl), refl), refl), refl)) (λ x. refl)
-    (λ s p. (s.known, rw (← p.0.0.0.1, ← p.0.0.1, ← p.0.1, ← p.1) refl))))))
+    (λ e. field_then _ (λ s. s.known) (list authenticated_content) _ (list_at authenticated_content_at) _ known_exact
+    (λ k. made_of _ (λ x. record { mode = b; rules = r; context = c; interim = d; tree = e; known = k; added = x })
+    (optional (list vector)) _ (optional_at (list_at vector_at)) added_exact
+    (λ x. ((((((tt, refl), refl), refl), refl), refl), refl)) (λ x. refl)
+    (λ s p. (s.added, rw (← p.0.0.0.0.0.1, ← p.0.0.0.0.1, ← p.0.0.0.1, ← p.0.0.1, ← p.0.1, ← p.1) refl))))))))
 
 pub follower_state_long : IsLong follower_state
 unfolding follower_state
@@ -159,16 +212,16 @@ follower_state_long s front h = long_left (group_mode s.mode) _ front (group_mod
 
 -- the version of each file
 abbrev version_of : StateFile → ℕ
-version_of f = 1
+version_of f = 2
 
-no_file : (n : ℕ) → n ≢ 1 → (f : StateFile) → Unit {0} × (version_of f ≡ n) → ⊥
+no_file : (n : ℕ) → n ≢ 2 → (f : StateFile) → Unit {0} × (version_of f ≡ n) → ⊥
 no_file n x f h = x (sym h.1)
 
 pub state_file_exact : IsExact state_file state_file_at
 unfolding state_file state_file_at
 state_file_exact =
     field_then Any version_of (number w16) _ (number_at w16) _ (number_exact w16 wide16)
-    (λ n. tag_is version_of _ _ _ n 1
+    (λ n. tag_is version_of _ _ _ n 2
     (field_then _ (λ f. f.checksum) vector _ vector_at _ vector_exact
     (λ a. made_of _ (λ x. record { checksum = a; state = x }) follower_state _ follower_state_at follower_state_exact
     (λ x. ((tt, refl), refl)) (λ x. refl) (λ f p. (f.state, rw (← p.1) refl))))
@@ -176,4 +229,4 @@ state_file_exact =
 
 pub state_file_long : IsLong state_file
 unfolding state_file
-state_file_long f front h = long_left (number w16 1) _ front (number_long w16 wide16 1) h
+state_file_long f front h = long_left (number w16 2) _ front (number_long w16 wide16 2) h

@@ -1,4 +1,4 @@
-//! State files: a version, a checksum and a state.
+//! State files: the version 2, a checksum and a state.
 
 ghost use Rattle.std.specs.Prelude.{◌↔◌, IfOk, IsSome, IsTrue};
 ghost use Rattle.mls_wire.specs.ReadContracts.{seen};
@@ -37,7 +37,7 @@ impl Decode for StateFile {
     fn read(alloc: Global, reader: &mut Reader<'_>) -> Result<StateFile, CodecFault> {
         let mut ahead = reader.fork();
         let version = u16::read(alloc, &mut ahead)?;
-        if version != 1 {
+        if version != 2 {
             return Err(CodecFault::Wire(WireFault {
                 kind: WireFaultKind::BadTag(version),
                 at: reader.position(),
@@ -62,7 +62,7 @@ impl Encode for StateFile {
 
     #[tactic(auto, using(mls_wire::specs::WriteSequences::written), unfolding(crate::specs::Layout::state_file))]
     fn put(&self, alloc: Global, draft: &mut Draft) -> Result<(), CodecFault> {
-        draft.put_u16(1)?;
+        draft.put_u16(2)?;
         self.checksum.put(alloc, draft)?;
         self.state.put(alloc, draft)
     }

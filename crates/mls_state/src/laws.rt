@@ -1,13 +1,13 @@
 //! Theorems on state files.
 
-ghost use Rattle.mls_state.specs.Layout.{known_entry, group_mode, follower_state, state_file};
+ghost use Rattle.mls_state.specs.Layout.{group_mode, rule_set, follower_state, state_file};
 ghost use Rattle.mls_state.specs.StateFile.{StateIsUnique, FileIsUnique};
 ghost use Rattle.mls_wire.specs.Encoding.{IsUniquelyDecodable};
 
 /// Bytes encode at most one value of each type, and no encoding is a proper prefix of another.
 pub fn unambiguous()
-    ensures known_entry { IsUniquelyDecodable known_entry }
     ensures mode { IsUniquelyDecodable group_mode }
+    ensures rules { IsUniquelyDecodable rule_set }
     ensures state { IsUniquelyDecodable follower_state }
     ensures file { IsUniquelyDecodable state_file }
 {}

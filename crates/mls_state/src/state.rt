@@ -3,7 +3,8 @@
 ghost use Rattle.mls_wire.specs.Parsing.{GivesOrFull};
 ghost use Rattle.mls_state.specs.Parsing.{members_phase_at, full_phase_at};
 
-use crate::known_entry::KnownEntry;
+use crate::rule_set::{put_rules, read_rules, size_of_rules};
+use mls_msgs::{Authenticated, Rules};
 use mls_nodes::GroupContext;
 use mls_wire::{
     CodecFault, Decode, Draft, Encode, Opaque, Reader, Sequence, WireFault, WireFaultKind,
@@ -27,14 +28,20 @@ pub enum GroupMode {
 pub struct FollowerState {
     /// The profile in which the group is followed, and whether the group is over.
     pub mode: GroupMode,
+    /// The set of strict rules by which the group is followed (own rule).
+    pub rules: Rules,
     /// The group's context (RFC 9420, 8.1).
     pub context: GroupContext,
     /// The interim transcript hash (RFC 9420, 8.2).
     pub interim: Opaque,
     /// The body of the encoded ratchet tree (RFC 9420, 12.4.3.3): its nodes, without the length before them.
     pub tree: Opaque,
-    /// The proposals received in the current epoch, in the order in which they were accepted (RFC 9420, 12.4).
-    pub known: Sequence<KnownEntry>,
+    /// The proposals received in the current epoch, as AuthenticatedContents (RFC 9420, 6), in the order in which they
+    /// were accepted (12.4).
+    pub known: Sequence<Authenticated>,
+    /// The KeyPackageRefs (RFC 9420, 5.2) of the Adds of the last accepted commit, in the order of its list. `None` before
+    /// the first commit.
+    pub added: Option<Sequence<Opaque>>,
 }
 
 /// Returns the fault of a tag that encodes nothing here.
@@ -140,17 +147,21 @@ impl Decode for FollowerState {
     fn read(alloc: Global, reader: &mut Reader<'_>) -> Result<FollowerState, CodecFault> {
         let mut ahead = reader.fork();
         let mode = GroupMode::read(alloc, &mut ahead)?;
+        let rules = read_rules(alloc, &mut ahead)?;
         let context = GroupContext::read(alloc, &mut ahead)?;
         let interim = Opaque::read(alloc, &mut ahead)?;
         let tree = Opaque::read(alloc, &mut ahead)?;
         let known = Sequence::read(alloc, &mut ahead)?;
+        let added = Option::<Sequence<Opaque>>::read(alloc, &mut ahead)?;
         *reader = ahead;
         Ok(FollowerState {
             mode,
+            rules,
             context,
             interim,
             tree,
             known,
+            added,
         })
     }
 
@@ -165,10 +176,16 @@ impl Encode for FollowerState {
         add_sizes(
             self.mode.size(),
             add_sizes(
-                self.context.size(),
+                size_of_rules(self.rules),
                 add_sizes(
-                    self.interim.size(),
-                    add_sizes(self.tree.size(), self.known.size()),
+                    self.context.size(),
+                    add_sizes(
+                        self.interim.size(),
+                        add_sizes(
+                            self.tree.size(),
+                            add_sizes(self.known.size(), self.added.size()),
+                        ),
+                    ),
                 ),
             ),
         )
@@ -177,9 +194,11 @@ impl Encode for FollowerState {
     #[tactic(auto, using(mls_wire::specs::WriteSequences::written), unfolding(crate::specs::Layout::follower_state))]
     fn put(&self, alloc: Global, draft: &mut Draft) -> Result<(), CodecFault> {
         self.mode.put(alloc, draft)?;
+        put_rules(self.rules, draft)?;
         self.context.put(alloc, draft)?;
         self.interim.put(alloc, draft)?;
         self.tree.put(alloc, draft)?;
-        self.known.put(alloc, draft)
+        self.known.put(alloc, draft)?;
+        self.added.put(alloc, draft)
     }
 }

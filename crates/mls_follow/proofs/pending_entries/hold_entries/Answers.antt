@@ -11,3 +11,6 @@ pub loop-entry-preserved : goal.loop-entry-preserved
 loop-entry-preserved g c =
     continues_more _ _ _ _ _ _ c.loop-entry.invariant _ c.in-Some.entry.now c.in-Some.tail.now (search rules)
     (known_true _ c.if-not-branch.false c.in_ok-hold_entry.ensures.held)
+
+pub hold_entry-requires : goal.hold_entry-requires
+hold_entry-requires g c = record { checked = c.loop-entry.invariant.checked c.requires.checked }

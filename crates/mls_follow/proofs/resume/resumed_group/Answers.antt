@@ -10,10 +10,12 @@ returns-in_err-content-clause-refused g c =
 
 pub returns-clause-resumed : goal.returns-clause-resumed
 returns-clause-resumed g c =
-    state_of_bytes (g.C.SignatureCheck.meaning c.args.checker.now) c.args.bytes.now c.in_ok-content.content (plain c.in_ok-content.tree) c.in_ok-content.ensures.intact
+    let read = c.in_ok-content.ensures.intact in
+    state_of_bytes (g.C.SignatureCheck.meaning c.args.checker.now) c.args.bytes.items read.0 c.in_ok-content.content (plain c.in_ok-content.tree) read.1 read.2
     c.resumed_content.result c.resumed_content.ensures.resumed
 
 pub returns-clause-refused : goal.returns-clause-refused
 returns-clause-refused g c =
-    fault_of_bytes (g.C.SignatureCheck.meaning c.args.checker.now) c.args.bytes.now c.in_ok-content.content (plain c.in_ok-content.tree) c.in_ok-content.ensures.intact
+    let read = c.in_ok-content.ensures.intact in
+    fault_of_bytes (g.C.SignatureCheck.meaning c.args.checker.now) c.args.bytes.items read.0 c.in_ok-content.content (plain c.in_ok-content.tree) read.1 read.2
     c.resumed_content.result c.resumed_content.ensures.refused

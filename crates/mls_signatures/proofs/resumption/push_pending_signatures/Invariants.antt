@@ -5,5 +5,5 @@ use Rattle.mls_signatures.proofs.resumption.push_pending_signatures.Given as goa
 
 abbrev pub invariant-loop-pending : goal.invariant-loop-pending
 invariant-loop-pending l =
-    AppendsSignatures l.initial.list (pending_signatures l.context l.known)
-    (l.list ++ pending_signatures l.context (drop l.pending-index l.known))
+    AppendsSignatures l.initial.list (pending_signatures l.context l.tree.tree l.known)
+    (l.list ++ pending_signatures l.context l.tree.tree (drop l.pending-index l.known))

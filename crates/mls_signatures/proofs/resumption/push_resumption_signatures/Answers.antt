@@ -8,4 +8,4 @@ returns c =
     rw (← c.is_supported_context.ensures, c.if-not-is_supported_context.false)
     (extends-then c.args.list.now (tree_signatures context.cipher_suite context.group_id 0 c.args.tree.now.tree) c.push_tree_signatures.new.list
     c.in_ok-push_tree_signatures.ensures c.push_pending_signatures.result
-    (pending_signatures context c.args.known.now) c.push_pending_signatures.new.list c.push_pending_signatures.ensures)
+    (pending_signatures context c.args.tree.now.tree c.args.known.now) c.push_pending_signatures.new.list c.push_pending_signatures.ensures)

@@ -6,5 +6,5 @@ use Rattle.mls_follow.proofs.follower.Follower.resume.Goals as goal
 pub invariant_of-result : goal.invariant_of-result
 invariant_of-result g c =
     record {
-      checked = resumed_checked (g.C.SignatureCheck.meaning c.args.checker) c.args.bytes.now (group_state c.in-Ok.group) c.in-Ok.ensures.resumed;
+      checked = resumed_checked (g.C.SignatureCheck.meaning c.args.checker) c.args.bytes.items (group_state c.in-Ok.group) c.in-Ok.ensures.resumed;
     }

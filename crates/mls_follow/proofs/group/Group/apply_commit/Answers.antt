@@ -28,6 +28,6 @@ returns-in-Err-stage_strict_commit g c =
     (first_failing (applied_tree_rules (g.C.SignatureCheck.meaning c.args.checker.now) (group_state group) required commit.committer commit.path.now o))
     (changed_tree H commit.committer commit.path.now o) c.in-Err-stage_strict_commit.refusal)
     c.required_after.ensures c.in-Err-stage_strict_commit.ensures.refused in
-    let confirms : confirmed_hash H group.interim commit.auth.now ≡ Some c.in-Ok.transcript.confirmed = rw group.same_suite at c.in-Ok.ensures.confirmed in
-    let follows : interim_hash H c.in-Ok.transcript.confirmed commit.auth.now.confirmation_tag ≡ Some c.in-Ok.transcript.interim = rw group.same_suite at c.in-Ok.ensures.interim in
+    let confirms : confirmed_hash H group.interim commit.auth.now ≡ Some c.in-Ok.hashes.confirmed = rw group.same_suite at c.in-Ok.ensures.confirmed in
+    let follows : interim_hash H c.in-Ok.hashes.confirmed commit.auth.now.confirmation_tag ≡ Some c.in-Ok.hashes.interim = rw group.same_suite at c.in-Ok.ensures.interim in
     (tt, tt, commit_refused (group_state group) commit.strict commit.items.items commit.auth.now _ _ _ _ confirms follows _ refused, (search rules))

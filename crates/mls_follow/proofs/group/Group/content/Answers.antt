@@ -1,7 +1,6 @@
-use Rattle.std.proofs.Common.{◌∙◌, rules, sym}
+use Rattle.std.proofs.Common.{rules}
 use Rattle.std.proofs.lemmas.Result.{err_from_is_err_and}
 use Rattle.mls_tree.specs.PublicTreeModel.{plain}
-use Rattle.mls_msgs.proofs.RuleSets.{is_plain-iff}
 use Rattle.mls_follow.specs.GroupModel.{group_state}
 use Rattle.mls_follow.proofs.StoredStates.{no_tree_no_file}
 use Rattle.mls_follow.proofs.group.Group.content.Goals as goal
@@ -17,10 +16,12 @@ returns-clause-stores c = (
   c.in_ok-tree.ensures.body,
   record {
     mode = search rules;
-    rules = (is_plain-iff c.args.self.now.rules).0 (sym c.is_plain.ensures ∙ c.if-not-is_plain.false);
+    rules = search rules;
     context = search rules;
     tree = c.tree.ensures;
     interim = search rules;
     known = search rules;
+    referenced = c.args.self.now.referenced;
+    added = search rules;
   },
 )

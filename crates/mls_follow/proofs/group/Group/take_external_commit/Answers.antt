@@ -23,5 +23,11 @@ returns g c =
     ≡ first_failing (rules_with_requirements G (group_state group) NewMemberCommit commit.path (outcome items group.tree.tree) (required_after group.required (proposed_extensions items)))
     = past_join G (group_state group) group.required commit c.requires.path (is_less group.context.epoch last_epoch c.in_ok-items.ensures.not_last_epoch) c.in_ok-items.ensures.list
     ∙ ap (λ (xs : List ListItem). first_failing (rules_with_requirements G (group_state group) NewMemberCommit commit.path (outcome xs group.tree.tree) (required_after group.required (proposed_extensions xs)))) (sym same) in
-    let taken = rw c.auth-auth.ensures at c.take_resolved-answer.ensures in
+    let taken = rw c.auth-auth.ensures.value at c.take_resolved-answer.ensures in
     rw (whole, ← same) taken
+
+pub invariant_of-resolved-clause-commit : goal.invariant_of-resolved-clause-commit
+invariant_of-resolved-clause-commit g c = rw c.auth-auth.ensures.value c.requires.commit
+
+pub invariant_of-resolved-clause-hashed : goal.invariant_of-resolved-clause-hashed
+invariant_of-resolved-clause-hashed g c = rw c.auth-auth.ensures.value c.requires.hashed

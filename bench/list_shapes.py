@@ -243,13 +243,6 @@ def state_of_many_extensions(put):
     return validated_state(put, group, [content_of(group, 0, many_extensions(put.size(100_000)))])
 
 
-@shape
-def state_of_empty_references(put):
-    """A state whose last commit added many, by references without content: the first is refused. Such a reference may not
-    take much more memory than its byte."""
-    return validated_state(put, Group(2), [], [b""] * put.size(250_000))
-
-
 # ---- large authenticated data, and a large signature
 
 

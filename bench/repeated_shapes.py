@@ -1,7 +1,7 @@
 """Shapes for cost.py: many small messages or items that each touch something large."""
 from group import EXTERNAL_INIT, Group, leaf_bytes, new_leaf, number, vector
 from large_shapes import refused_by
-from messages import (EXTENSION, Sparse, add, bare_leaf, bare_update, commit, commit_with_path, content_of,
+from messages import (EXTENSION, Sparse, add, bare_leaf, bare_update, commit, commit_with_path,
                       extensions_of, external_commit, false_path, far_members, frozen, inline, inline_adds,
                       many_extensions, proposal, psk, put_leaves, reinit, remove, renew_paths, small_leaf, state_file,
                       updated_group, with_capabilities)
@@ -284,14 +284,6 @@ def signatures_of_a_state_of_a_long_group_id(put):
     """A state of members whose leaves each sign the group's long id. Their contents may not be held at once."""
     group = updated_group(put.size(250), bytes(96_000))
     return put.files(["signatures", "--state", "STATE"], {"STATE": state_file(group, [])})
-
-
-@shape
-def signatures_of_a_state_of_a_long_context(put):
-    """A state of pending proposals that each sign the group's long context. Their contents may not be held at once."""
-    group = Extended(EXTENSION * 32_000)
-    entries = [content_of(group, 0, remove(1), b"%d" % at) for at in range(put.size(250))]
-    return put.files(["signatures", "--state", "STATE"], {"STATE": state_file(group, entries)})
 
 
 @shape

@@ -10,7 +10,7 @@
 #
 # The script fails if reports differ, and beyond these parts:
 #
-# - a resumption of 100,000 members takes as long as the start, and 1.2 times its memory
+# - a resumption of 100,000 members takes 1.3 times as long as the start, whose input has no checksum, and 1.2 times its memory
 # - the pending proposals are stored and resumed in twice the time that their messages take
 #
 # PROGRAM in the environment names another program, and RUNS says how often each run is made, of which the fastest counts
@@ -93,7 +93,7 @@ for members in 1000 100000; do
     echo "  log $(seconds "$plain") s, $(memory "$plain") MB; log and store $(seconds "$saved") s, $(memory "$saved") MB"
     echo "  resume after the log $(seconds "$resumed") s, $(memory "$resumed") MB"
     if [ $members -eq 100000 ]; then
-        compare 'time of a resumption to that of a start' "$(seconds "$again")" "$(seconds "$start")" 1
+        compare 'time of a resumption to that of a start' "$(seconds "$again")" "$(seconds "$start")" 1.3
         compare 'memory of a resumption to that of a start' "$(memory "$again")" "$(memory "$start")" 1.2
     fi
     python3 - "$folder" <<'PY'

@@ -2,18 +2,19 @@
 # Drives the live gate over the real group of this folder, with true signatures: each message is first sent forged, and has to
 # be refused, and then as it is. The answers to these have to be those of `replay`. Then the same is done in two parts, the
 # second from the state that the first stores. Run it by hand, from anywhere: neither `rt ci` nor any test runs it. It needs
-# Debian's python3-cryptography.
+# Debian's python3-cryptography. PROGRAM in the environment names another program.
 set -eu
 
 cd -- "$(dirname -- "$0")/.."
 made=$(mktemp -d)
 trap 'rm -r -- "$made"' EXIT
+program=${PROGRAM:-./mlscheck}
 info=examples/real/epoch-1.info
 log=examples/real/handshakes.log
 
 examples/gate.py --forge --info "$info" --log "$log" >"$made/gate"
 examples/gate.py --info "$info" --log "$log" >"$made/plain"
-./mlscheck replay --info "$info" --log "$log" --receipts examples/real/receipts.txt >"$made/replay"
+"$program" replay --info "$info" --log "$log" --receipts examples/real/receipts.txt >"$made/replay"
 
 # The first line of the gate is that of the start, the last one of `replay` has the counts.
 sed 1d "$made/gate" >"$made/answers"

@@ -1,5 +1,5 @@
 -- How the numbers of the curves are held in limbs. Internal: no public contract uses this.
-use Rattle.std.specs.Prelude.{ℕ, ◌^◌}
+use Rattle.std.specs.Prelude.{ℕ}
 use Rattle.mls_curve.specs.declared.curve.Curve.{Curve}
 use Rattle.mls_curve.specs.declared.curve.Curve.TheVariants.{P256, P384, P521}
 
@@ -8,9 +8,3 @@ unfoldable pub limb_count : Curve → ℕ
 limb_count P256 = 4
 limb_count P384 = 6
 limb_count P521 = 9
-
--- `scale_of curve` is the power of 2 by which the prime is multiplied to fill all bits of its limbs.
-unfoldable pub scale_of : Curve → ℕ
-scale_of P256 = 1
-scale_of P384 = 1
-scale_of P521 = 2 ^ 55

@@ -1,14 +1,13 @@
 //! The curves and their numbers (FIPS 186-4, D.1.2).
 
-ghost use Rattle.std.specs.Prelude.{◌≡◌, ◌*◌, ◌<◌, ◌≤◌};
+ghost use Rattle.std.specs.Prelude.{◌≡◌, ◌+◌, ◌-◌, ◌*◌, ◌^◌, ◌%◌, ◌<◌, ◌≤◌};
 ghost use Rattle.mls_curve.specs.Curves.{coefficient, coordinate_length, prime};
-ghost use Rattle.mls_curve.specs.CurvesInternal.{limb_count, scale_of};
+ghost use Rattle.mls_curve.specs.CurvesInternal.{limb_count};
 ghost use Rattle.mls_curve.specs.Limbs.{limb_weight, value_below};
-ghost use Rattle.mls_curve.specs.Residues.{modulus};
 
 use crate::curve_numbers::{
-    COEFFICIENT_P256, COEFFICIENT_P384, COMPLEMENT_P256, COMPLEMENT_P384, SCALED_COEFFICIENT_P521,
-    SCALED_COMPLEMENT_P521,
+    COEFFICIENT_P256, COEFFICIENT_P384, COEFFICIENT_P521, COMPLEMENT_P256, COMPLEMENT_P384,
+    COMPLEMENT_P521,
 };
 use crate::limbs::LIMBS;
 
@@ -42,6 +41,7 @@ impl Curve {
     #[tactic(auto, unfolding(crate::specs::CurvesInternal::limb_count))]
     pub(crate) fn limb_count(self) -> usize
         ensures count { result ≡ limb_count self }
+        ensures least { 0 < result }
         ensures limit { result ≤ 9 }
     {
         match self {
@@ -51,39 +51,36 @@ impl Curve {
         }
     }
 
-    /// Returns the scale: the power of 2 by which the prime is multiplied to fill all bits of its limbs.
-    #[tactic(auto, unfolding(crate::specs::CurvesInternal::scale_of))]
-    pub(crate) fn scale(self) -> u64
-        ensures { result ≡ scale_of self }
-    {
-        match self {
-            Curve::P256 => 1,
-            Curve::P384 => 1,
-            Curve::P521 => 0x0080_0000_0000_0000,
-        }
-    }
-
-    /// Returns the complement of the scaled prime.
+    /// Returns the complement of the prime.
     pub(crate) fn complement(self) -> [u64; LIMBS]
-        ensures modulus { modulus result (limb_count self) ≡ scale_of self * prime self }
-        ensures fits { value_below result (limb_count self) < limb_weight (limb_count self) }
-        ensures half { 2 * value_below result (limb_count self) ≤ limb_weight (limb_count self) }
+        ensures { value_below result (limb_count self) + prime self ≡ limb_weight (limb_count self) }
     {
         match self {
             Curve::P256 => COMPLEMENT_P256,
             Curve::P384 => COMPLEMENT_P384,
-            Curve::P521 => SCALED_COMPLEMENT_P521,
+            Curve::P521 => COMPLEMENT_P521,
         }
     }
 
-    /// Returns the scaled coefficient b of the equation.
-    pub(crate) fn scaled_coefficient(self) -> [u64; LIMBS]
-        ensures { value_below result (limb_count self) ≡ scale_of self * coefficient self }
+    /// Returns the inverse of the complement modulo 2^64.
+    pub(crate) fn inverse(self) -> u64
+        ensures { (limb_weight (limb_count self) - prime self) * result % 2 ^ 64 ≡ 1 }
+    {
+        match self {
+            Curve::P256 => 1,
+            Curve::P384 => 0x0000_0001_0000_0001,
+            Curve::P521 => 1,
+        }
+    }
+
+    /// Returns the coefficient b of the equation.
+    pub(crate) fn coefficient(self) -> [u64; LIMBS]
+        ensures { value_below result (limb_count self) ≡ coefficient self }
     {
         match self {
             Curve::P256 => COEFFICIENT_P256,
             Curve::P384 => COEFFICIENT_P384,
-            Curve::P521 => SCALED_COEFFICIENT_P521,
+            Curve::P521 => COEFFICIENT_P521,
         }
     }
 }

@@ -1,7 +1,6 @@
 //! The numbers of the curves (FIPS 186-4, D.1.2) in limbs of 64 bits, the lowest first.
 //!
-//! The complement of a prime p is 2^(64 n) - p, where n is the curve's number of limbs. The prime of P-521 does not fill its
-//! nine limbs, so its numbers are scaled by 2^55.
+//! The complement of a prime p is 2^(64 n) - p, where n is the curve's number of limbs.
 
 use crate::limbs::LIMBS;
 
@@ -31,9 +30,9 @@ pub(crate) const COMPLEMENT_P384: [u64; LIMBS] = [
     0,
 ];
 
-/// The complement of the scaled prime of P-521: 2^55.
-pub(crate) const SCALED_COMPLEMENT_P521: [u64; LIMBS] = [
-    0x0080000000000000,
+/// The complement of the prime of P-521: 2^576 - 2^521 + 1.
+pub(crate) const COMPLEMENT_P521: [u64; LIMBS] = [
+    0x0000000000000001,
     0,
     0,
     0,
@@ -41,7 +40,7 @@ pub(crate) const SCALED_COMPLEMENT_P521: [u64; LIMBS] = [
     0,
     0,
     0,
-    0,
+    0xfffffffffffffe00,
 ];
 
 /// The coefficient b of P-256.
@@ -70,15 +69,15 @@ pub(crate) const COEFFICIENT_P384: [u64; LIMBS] = [
     0,
 ];
 
-/// The coefficient b of P-521 times 2^55.
-pub(crate) const SCALED_COEFFICIENT_P521: [u64; LIMBS] = [
-    0x8000000000000000,
-    0x78f7a28fea35a81f,
-    0x839ab9efc41e961a,
-    0xbd8b29605e9dd8df,
-    0xf0ab0c9ca8f63f49,
-    0xf9dc5a44c8c77884,
-    0x77516d392dccd98a,
-    0x0fc94d10d05b42a0,
-    0x28ca9f5cb0c70e4d,
+/// The coefficient b of P-521.
+pub(crate) const COEFFICIENT_P521: [u64; LIMBS] = [
+    0xef451fd46b503f00,
+    0x3573df883d2c34f1,
+    0x1652c0bd3bb1bf07,
+    0x56193951ec7e937b,
+    0xb8b489918ef109e1,
+    0xa2da725b99b315f3,
+    0x929a21a0b68540ee,
+    0x953eb9618e1c9a1f,
+    0x0000000000000051,
 ];

@@ -40,6 +40,30 @@ pub(crate) fn add_product(sum: &mut [u64; LIMBS], limbs: &[u64; LIMBS], by: u64,
     carry
 }
 
+/// Subtracts `by` times `limbs` from `sum`, and returns the borrow.
+#[inline(always)]
+pub(crate) fn subtract_product(
+    sum: &mut [u64; LIMBS],
+    limbs: &[u64; LIMBS],
+    by: u64,
+    len: usize,
+) -> u64
+    requires { len ≤ 9 }
+    ensures value { value_below sum.new len + value_below limbs.now len * by
+        ≡ value_below sum.old len + result * limb_weight len }
+    ensures fits { value_below sum.new len < limb_weight len }
+    ensures limit { result ≤ by }
+{
+    let mut borrow = 0;
+    for i in 0..len {
+        let wide = limbs[i] as u128 * by as u128 + borrow as u128;
+        let (rest, is_less) = sum[i].overflowing_sub((wide & 0xffff_ffff_ffff_ffff) as u64);
+        sum[i] = rest;
+        borrow = (wide >> 64) as u64 + u64::from(is_less);
+    }
+    borrow
+}
+
 /// Moves each limb up by one place, puts `lowest` into the lowest place, and returns the carry: the limb that was the highest.
 #[inline(always)]
 pub(crate) fn shift_up(limbs: &mut [u64; LIMBS], len: usize, lowest: u64) -> u64
@@ -51,6 +75,24 @@ pub(crate) fn shift_up(limbs: &mut [u64; LIMBS], len: usize, lowest: u64) -> u64
     for i in 0..len {
         let limb = limbs[i];
         limbs[i] = carry;
+        carry = limb;
+    }
+    carry
+}
+
+/// Moves each limb down by one place, puts `highest` into the highest place, and returns the limb that was the lowest.
+#[inline(always)]
+pub(crate) fn shift_down(limbs: &mut [u64; LIMBS], len: usize, highest: u64) -> u64
+    requires { len ≤ 9 }
+    ensures { value_below limbs.new len * 2 ^ 64 + result
+        ≡ value_below limbs.old len + highest * limb_weight len }
+{
+    let mut carry = highest;
+    let mut place = len;
+    while place > 0 {
+        place -= 1;
+        let limb = limbs[place];
+        limbs[place] = carry;
         carry = limb;
     }
     carry

@@ -1,22 +1,37 @@
-use Rattle.std.proofs.Common.{◌*◌}
+use Rattle.std.proofs.Common.{◌≡◌, [], ◌∷◌, refl}
+use Rattle.mls_curve.specs.declared.curve.Curve.{Curve}
+use Rattle.mls_curve.specs.declared.curve.Curve.TheVariants.{P256, P384, P521}
 use Rattle.mls_curve.specs.Curves.{coefficient, prime}
-use Rattle.mls_curve.specs.CurvesInternal.{limb_count, scale_of}
-use Rattle.mls_curve.specs.Limbs.{value_below}
-use Rattle.mls_curve.proofs.CurveLemmas.{prime_from_3, prime_pos, scale_pos}
+use Rattle.mls_curve.specs.CurvesInternal.{limb_count}
+use Rattle.mls_curve.specs.Limbs.{limb_weight, value_below}
+use Rattle.mls_curve.proofs.CurveLemmas.{prime_from_3, weight_inverse, weight_inverts}
 use Rattle.mls_curve.proofs.PointLemmas.{point_by_equation}
-use Rattle.mls_curve.proofs.ResidueLemmas.{left_scaled, right_scaled, scaled_sides, moved}
+use Rattle.mls_curve.proofs.ResidueLemmas.{equation_by_quotients, quotient_limit}
 use Rattle.mls_curve.proofs.equation.is_point.Goals as goal
+
+three_is : (curve : Curve) → value_below (3 ∷ 0 ∷ 0 ∷ 0 ∷ 0 ∷ 0 ∷ 0 ∷ 0 ∷ 0 ∷ []) (limb_count curve) ≡ 3
+unfolding value_below limb_weight limb_count
+three_is P256 = refl
+three_is P384 = refl
+three_is P521 = refl
+
+pub negated-requires : goal.negated-requires
+negated-requires c = rw (three_is c.args.curve) (prime_from_3 c.args.curve)
+
+pub is_multiple-requires : goal.is_multiple-requires
+is_multiple-requires c =
+    quotient_limit _ _ _ _ _ _ c.product-factor.ensures.fits (c.is_below.ensures.0 c.if-not-is_below.false) c.product-summand.ensures.fits c.product-sum.ensures.quotient
 
 pub returns : goal.returns
 returns c =
     let curve = c.args.curve in
     let x = value_below c.args.x.now (limb_count curve) in
     let y = value_below c.args.y.now (limb_count curve) in
-    let left = left_scaled _ (scale_of curve) _ _ _ _ _ c.in-Some.ensures.some c.in-Some-scaled.ensures.some c.left_side-left.ensures in
-    let right = right_scaled _ (scale_of curve) _ _ _ _ c.in-Some.ensures.some c.right_side-right.ensures in
-    let sides = scaled_sides (scale_of curve) (prime curve) _ _ _ _ (scale_pos curve) (prime_pos curve) left right in
-    let form = moved (prime curve) x (y * y) _ (coefficient curve) (prime_from_3 curve) in
-    point_by_equation curve x y c.are_congruent.result c.in-Some.ensures.below c.in-Some-scaled.ensures.below (
-      λ t. form.0 (sides.0 (c.are_congruent.ensures.0 t)),
-      λ e. c.are_congruent.ensures.1 (sides.1 (form.1 e)),
+    let minus_three = rw (three_is curve) at c.negated.ensures in
+    let summand = rw c.coefficient.ensures at c.product-summand.ensures.quotient in
+    let equation =
+    equation_by_quotients (prime curve) _ (weight_inverse curve) x y _ _ (coefficient curve) _ _ _ (prime_from_3 curve) minus_three c.negated-2.ensures (weight_inverts curve) c.product-factor.ensures.quotient summand c.product-sum.ensures.quotient in
+    point_by_equation curve x y c.is_multiple.result (c.is_below.ensures.0 c.if-not-is_below.false) (c.is_below-else-not-is_below.ensures.0 c.if-not-is_below-2.false) (
+      λ t. equation.0 (c.is_multiple.ensures.0 t),
+      λ e. c.is_multiple.ensures.1 (equation.1 e),
     )

@@ -4,7 +4,8 @@
     cost.py --list            prints the names of the shapes
     cost.py FOLDER SHAPE K    writes a shape's input, K times its least size, into the folder: `words`, the program's
                               arguments, one a line; `before`, those of a run that is subtracted, as of the start alone;
-                              and the files that they name. It prints how many bytes came after that start. If messages
+                              `words.piped` and `before.piped`, which the program reads from a pipe in each run; and the
+                              files that the arguments name. It prints how many bytes came after that start. If messages
                               touch much of the group, it also prints how many they are, and which share of the time
                               of a start each may take; if a tree came, how many nodes it has.
 

@@ -10,7 +10,7 @@
 #   start; if a tree came, which is the group, only if that is also more than 120 bytes a node
 # - at a fault, and if a run takes 100 seconds.
 #
-# A time below 0.25 seconds and a memory below 8 MB are too small to be compared.
+# A time below 0.25 seconds and a memory below 8 MB are too small to be compared. Records for the gate are its input.
 #
 #   cost.sh [SHAPE...]    runs the named shapes, or all
 #
@@ -31,7 +31,8 @@ measure() {
         (
             ulimit -t 100
             ulimit -v 4000000
-            xargs -d '\n' env time -q -o "$folder/usage" -f '%U %S %M %x' "$program" <"$folder/$1" 2>&1
+            xargs -a "$folder/$1" -d '\n' env time -q -o "$folder/usage" -f '%U %S %M %x' "$program" \
+                <"$folder/$1.piped" 2>&1
         ) | tail -n 1 | cut -c 1-60 >"$folder/report"
         tail -n 1 "$folder/usage"
         count=$((count - 1))

@@ -1,7 +1,7 @@
 """Shapes for cost.py: messages to large groups."""
 from group import EXTERNAL_INIT, KEY_PACKAGE, Group, Plan, leaf_bytes, new_leaf, number, vector
-from messages import (Sparse, add, commit, commit_with_path, extensions_of, external_commit, false_path, far_members,
-                      frozen, inline, inline_adds, psk, remove)
+from messages import (EXTENSION, Sparse, add, commit, commit_with_path, extensions_of, external_commit, false_path,
+                      far_members, frozen, inline, inline_adds, psk, remove)
 from shape import SHAPES, shape
 
 # ---- messages that are sent again and again to a large group
@@ -92,6 +92,46 @@ def full_group_join_refused_22(put):
 @shape
 def full_group_join_refused_25(put):
     return join_refused_by(put, Group(16_384, 2_048), 25, touches_all=True, share=0.05)
+
+
+def one_on_the_right():
+    """A full left half of 32,768 members, one of whom has renewed its path, and one member in the right half."""
+    group = Group(32_769)
+    group.renew(0, group.renewed(0))
+    return frozen(group), 32_768
+
+
+def resync(group, index, extensions=b""):
+    """An external commit by which the owner of this leaf joins again, at the same one."""
+    leaf = new_leaf("again", group.epoch)._replace(credential=group.leaves[index].credential, extensions=extensions)
+    group.remove(index)
+    path = group.path_bytes(index, group.renew(index, leaf), set())
+    return external_commit(group, [inline(EXTERNAL_INIT), inline(remove(index))], path)
+
+
+@shape
+def resyncs_of_the_right_half(put):
+    """External commits by which the only member in the right half joins again. The tree is truncated and extended for each,
+    and its nodes are moved, but the blank ones of the right half may not be hashed for each."""
+    group, last = one_on_the_right()
+    messages = []
+    for _ in range(put.size(25)):
+        messages.append(resync(group, last))
+        group.epoch += 1
+    return put.replay(group, messages, touches_all=True, share=0.1, profile="full")
+
+
+@shape
+def resyncs_of_the_right_half_refused_25(put):
+    group, last = one_on_the_right()
+    sent = resync(group, last, EXTENSION)
+    return put.replay(group, [sent] * put.size(25), touches_all=True, share=0.1, profile="full")
+
+
+@shape
+def queries_of_a_resync_of_the_right_half(put):
+    group, last = one_on_the_right()
+    return put.gate(group, [(b"q", resync(group, last))] * put.size(25), share=0.1, profile="full")
 
 
 @shape

@@ -1,4 +1,6 @@
 """Shapes for cost.py: many small messages or items that each touch something large."""
+import copy
+
 from group import EXTERNAL_INIT, Group, leaf_bytes, new_leaf, number, vector
 from large_shapes import refused_by
 from messages import (EXTENSION, Sparse, add, bare_leaf, bare_update, commit, commit_with_path,
@@ -85,6 +87,65 @@ def commits_below_a_long_context(put):
     return put.replay(group, [commit(group, [], NO_NODES)] * 4)
 
 
+# ---- many required types
+
+
+def required(kinds):
+    """The body of an extension that requires these types of extensions of each member (RFC 9420, 11.1)."""
+    return vector(b"".join(number(kind, 2) for kind in kinds)) + vector(b"") * 2
+
+
+def requiring(put):
+    """A group that requires a type of its members, which they list, and many more that need not be listed."""
+    kinds = [1 + at * 3 % 5 for at in range(put.size(50_000))] + [0xF000]
+    return with_capabilities(Extended(number(3, 2) + vector(required(kinds))), LISTING)
+
+
+def joins_without_a_required_type(group):
+    """An external commit of a client that lacks what the group requires. The group stays as it is."""
+    return frozen(group).external_commit(new_leaf("stranger"))
+
+
+@shape
+def joins_below_many_required_types_refused_25(put):
+    """External commits of a client that lacks one of many types that the group requires. A stranger can send them, and what
+    is required may neither be sorted nor be compared for each."""
+    group = requiring(put)
+    return put.replay(group, [joins_without_a_required_type(group)] * put.size(2_000), profile="full")
+
+
+@shape
+def queries_of_joins_below_many_required_types(put):
+    """Queries of the commits of the shape above. What is required may not be read for them."""
+    group = requiring(put)
+    return put.queries(group, [joins_without_a_required_type(group)] * put.size(2_000), profile="full")
+
+
+@shape
+def psks_below_many_required_types(put):
+    """Commits of a PSK each, which are accepted, in a group that requires many types. What is required may neither be sorted
+    nor be compared for each."""
+    group = frozen(requiring(put))
+    messages = []
+    for at in range(put.size(2_000)):
+        messages.append(commit(group, [inline(psk(at))]))
+        group.epoch += 1
+    return put.replay(group, messages, profile="full")
+
+
+@shape
+def commits_below_many_extensions(put):
+    """Commits of a PSK each, which are accepted, in a group whose context has many extensions of a type that each member
+    lists. With strict rule 51 their types may neither be read nor be sorted for each commit."""
+    group = frozen(with_capabilities(Extended(EXTENSION * put.size(50_000)), LISTING))
+    messages = []
+    for at in range(put.size(1_000)):
+        messages.append(commit(group, [inline(psk(at))]))
+        group.epoch += 1
+    only_51 = put.asking("--strict", "--allow", "40,41,42,43,44,45,46,47,48,49,50,52")
+    return only_51.replay(group, messages, profile="full")
+
+
 # ---- a long key
 
 
@@ -162,6 +223,60 @@ def large_leaf_hashed_again_refused_25(put):
     group.set_leaf(0, large_leaf(put.size(64_000)))
     path = frozen(group).renew(0, new_leaf("again")._replace(extensions=EXTENSION))
     return put.replay(group, [commit(group, [], group.path_bytes(0, path, set()))] * put.size(400))
+
+
+def large_leaf_removed_or_not(put):
+    """A group of four in which one leaf is large, a commit that removes it, and one that does not. Both are refused by 25,
+    for the new leaf of their path has an extension that it does not list. The parent hashes of the second path take the
+    hash of the large leaf."""
+    group, leaf = Group(4), new_leaf("again")._replace(extensions=EXTENSION)
+    group.set_leaf(2, large_leaf(put.size(64_000)))
+    first, second = copy.deepcopy(group), copy.deepcopy(group)
+    first.remove(2)
+    removing = commit(group, [inline(remove(2))], first.path_bytes(0, first.renew(0, leaf), set()))
+    return group, removing, commit(group, [], second.path_bytes(0, second.renew(0, leaf), set()))
+
+
+@shape
+def large_leaf_removed_in_turn_refused_25(put):
+    """Both commits in turn. Once the removal is undone, the large leaf may not be hashed again."""
+    group, removing, other = large_leaf_removed_or_not(put)
+    return put.replay(group, [removing, other] * put.size(400))
+
+
+@shape
+def large_leaf_removed_by_queries(put):
+    """The second commit, each time after a query of the first one, which may leave no trace."""
+    group, removing, other = large_leaf_removed_or_not(put)
+    return put.gate(group, [(b"q", removing), (b"m", other)] * put.size(400))
+
+
+def large_leaf_resynced_or_not(put):
+    """A group of three in which one leaf is large, an external commit by which its owner joins again, and one of another
+    client. A stranger can send both, and they are refused by 25 as those above."""
+    group = Group(3)
+    group.set_leaf(1, new_leaf("large")._replace(extensions=number(1, 2) + vector(bytes(put.size(64_000)))))
+    first, second = copy.deepcopy(group), copy.deepcopy(group)
+    first.remove(1)
+    leaf = new_leaf("again")._replace(credential=group.leaves[1].credential, extensions=EXTENSION)
+    path = first.path_bytes(1, first.renew(1, leaf), set())
+    resync = external_commit(group, [inline(EXTERNAL_INIT), inline(remove(1))], path)
+    path = second.path_bytes(3, second.renew(3, new_leaf("other")._replace(extensions=EXTENSION)), set())
+    return group, resync, external_commit(group, [inline(EXTERNAL_INIT)], path)
+
+
+@shape
+def large_leaf_resynced_in_turn_refused_25(put):
+    """Both external commits in turn. Once the first one is undone, the large leaf may not be hashed again."""
+    group, resync, other = large_leaf_resynced_or_not(put)
+    return put.replay(group, [resync, other] * put.size(400), profile="full")
+
+
+@shape
+def large_leaf_resynced_by_queries(put):
+    """The second external commit, each time after a query of the first one, which may leave no trace."""
+    group, resync, other = large_leaf_resynced_or_not(put)
+    return put.gate(group, [(b"q", resync), (b"m", other)] * put.size(400), profile="full")
 
 
 # ---- unmerged leaves
@@ -266,6 +381,50 @@ def required_unmet_by_the_last(put):
     renew_paths(group, range(0, count, 16))
     body = extensions_of([(3, vector(number(0xF000, 2)) + vector(b"") * 2)])
     return put.replay(group, [commit_with_path(frozen(group), [inline(body)])] * put.size(60), share=0.05)
+
+
+def members_with_long_lists(kinds):
+    """Members who each list these types of extensions, but for the last one, who lists all but the last type."""
+    count = 512
+    capabilities, shorter = (
+        bytes.fromhex("020001 020001") + vector(b"".join(number(kind, 2) for kind in listed)) + bytes.fromhex("00 020001")
+        for listed in (kinds, kinds[:-1]))
+    group = with_capabilities(Group(count), capabilities)
+    group.set_leaf(count - 1, new_leaf("made", count - 1, capabilities=shorter))
+    group.renewed = lambda index: new_leaf("renewed", index, group.epoch, capabilities=capabilities)
+    renew_paths(group, range(0, count, 16))
+    return group
+
+
+def commits_requiring(group, kinds):
+    """A commit that requires these types of extensions. The group stays as it is."""
+    return commit_with_path(frozen(group), [inline(extensions_of([(3, required(kinds))]))])
+
+
+@shape
+def one_required_of_long_lists_unmet_by_the_last(put):
+    """Commits that require a type that each member lists but the last, who has a long list too. Each list has to be read
+    once for each commit, but may be neither copied nor sorted."""
+    kinds = range(0x1000, 0x1000 + 2_000)
+    group = members_with_long_lists(kinds)
+    return put.replay(group, [commits_requiring(group, kinds[-1:])] * put.size(12), share=0.5)
+
+
+@shape
+def many_required_of_long_lists_unmet_by_the_last(put):
+    """Commits that require many types that each member lists, but for one that the last lacks. Each list has to be read once
+    for each commit, and each type looked up, but no list may be copied or sorted."""
+    kinds = range(0x1000, 0x1000 + 2_000)
+    group = members_with_long_lists(kinds)
+    return put.replay(group, [commits_requiring(group, kinds)] * put.size(12), share=1.0)
+
+
+@shape
+def queries_of_many_required_of_long_lists(put):
+    """Queries of the commits of the shape above. No member's list may be read for them."""
+    kinds = range(0x1000, 0x1000 + 2_000)
+    group = members_with_long_lists(kinds)
+    return put.queries(group, [commits_requiring(group, kinds)] * put.size(12), share=0.5)
 
 
 # ---- signatures: the output repeats what is large, so it is a product, and the memory may not be

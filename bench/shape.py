@@ -36,9 +36,11 @@ class Input:
             file.write(body)
         return path
 
-    def lists(self, words, before):
-        for name, listed in (("words", words), ("before", before)):
+    def lists(self, words, before, piped=(b"", b"")):
+        """Writes the arguments of both runs, and what each reads from a pipe."""
+        for name, listed, body in (("words", words, piped[0]), ("before", before, piped[1])):
             self.write(name, "".join(word + "\n" for word in listed).encode())
+            self.write(name + ".piped", body)
 
     def replay(self, group, messages, command="replay", touches_all=False, share=None, profile="members"):
         """A log through which the group is followed, in addition to the start alone. If its messages touch all of the tree, the
@@ -51,6 +53,23 @@ class Input:
         self.lists([*words, self.write("log", log)], [*words, self.write("empty", b"")])
         told = [len(log) + (len(group.tree()) if touches_all else 0)]
         return told if share is None else [*told, len(messages), share]
+
+    def queries(self, group, messages, before=(), share=None, profile="members"):
+        """Queries of a gate that follows the group, in addition to its start alone, and to the messages that it processes
+        before them."""
+        taken = [(b"m", body) for body in before]
+        return self.gate(group, [(b"q", body) for body in messages], share, profile, taken)
+
+    def gate(self, group, records, share=None, profile="members", before=()):
+        """Records for a gate that follows the group, each a letter and a message, in addition to its start, and to the
+        records before them."""
+        begin = vector(b"b") + b"".join(vector(letter + body) for letter, body in before)
+        sent = b"".join(vector(letter + body) for letter, body in records)
+        words = ["gate", "--info", self.write("info", group.info()), "--tree", self.write("tree", group.tree())]
+        words += ["--profile", "full"] if profile == "full" else []
+        words += [*self.rules, "--trust"]
+        self.lists(words, words, (begin + sent, begin))
+        return [len(sent)] if share is None else [len(sent), len(records), share]
 
     def validate_tree(self, context, tree, nodes=0):
         words = ["validate-tree", "--context", "CONTEXT", "--tree", "TREE", "--trust"]

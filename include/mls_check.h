@@ -3,7 +3,8 @@
  *
  * A service that delivers the handshakes of a group follows the group: it starts from a GroupInfo, and for each message it
  * calls mls_follower_query, verifies the signatures that are listed with a library of its own, calls mls_follower_learn
- * with the receipts of those that are good, and then mls_follower_judge. docs/LIBRARY.md shows such a service.
+ * with the receipts of those that are good, and then mls_follower_judge or, with a time, mls_follower_judge_at. docs/LIBRARY.md
+ * shows such a service.
  *
  * CONDITIONS
  *
@@ -158,7 +159,7 @@ enum mls_member_fault {
 
 /*
  * Why a message is refused: the first rule that it fails (RFC 9420, 6, 12.1 to 12.4; docs/FORMATS.md). The strict rules,
- * from 40 on, come after all others, in both profiles.
+ * 40 to 52, come after those of the profile, and 53 comes last, in both profiles.
  */
 enum mls_refusal {
     MLS_REFUSED_MALFORMED = 1,
@@ -210,7 +211,8 @@ enum mls_refusal {
     MLS_REFUSED_CERTIFICATE_KEY = 49,
     MLS_REFUSED_PSK_AHEAD = 50,
     MLS_REFUSED_GROUP_EXTENSION_UNSUPPORTED = 51,
-    MLS_REFUSED_POINT_OFF_CURVE = 52
+    MLS_REFUSED_POINT_OFF_CURVE = 52,
+    MLS_REFUSED_LIFETIME_OUTSIDE = 53       /* in mls_follower_judge_at alone, which is passed a time */
 };
 
 /* What an accepted message is. */
@@ -236,7 +238,7 @@ typedef struct {
 
 /* What came of a message. */
 typedef struct {
-    uint32_t number; /* 0: accepted. 1 to 52, an mls_refusal: refused. From 100 on: not processed. */
+    uint32_t number; /* 0: accepted. 1 to 53, an mls_refusal: refused. From 100 on: not processed. */
     uint32_t kind;   /* if accepted, an mls_kind, otherwise 0 */
     uint32_t inner;  /* if number is 25, an mls_member_fault, otherwise 0 */
     uint32_t leaf;   /* if number is 25, the leaf index, otherwise 0 */
@@ -410,8 +412,8 @@ uint32_t mls_follower_learn(mls_follower *follower, const uint8_t *receipts, siz
 
 /*
  * Processes a message (RFC 9420, 6), and accepts it if and only if it satisfies every rule of the profile, and every strict
- * rule of the follower's set. A refused message changes nothing. After a commit the calls above return the values of the
- * new epoch.
+ * rule of the follower's set. No lifetime is checked. A refused message changes nothing. After a commit the calls above
+ * return the values of the new epoch.
  *
  * The reference (5.2) of an accepted proposal is written to the front of the buffer `reference`, and has as many bytes as a
  * hash of the cipher suite (32, 48 or 64). The buffer must have MLS_REFERENCE_SIZE bytes, otherwise the number is
@@ -421,6 +423,21 @@ uint32_t mls_follower_learn(mls_follower *follower, const uint8_t *receipts, siz
  */
 mls_judgement mls_follower_judge(mls_follower *follower, const uint8_t *message, size_t message_len, uint8_t *reference,
                                  size_t reference_len);
+
+/*
+ * Processes a message as mls_follower_judge does, and checks one rule more, the last one: the lifetime of the leaf node of
+ * each Add that the message has by value, as a proposal or in a commit, includes the time `now` (RFC 9420, 7.2, 7.3, 10.1).
+ * Otherwise the number is MLS_REFUSED_LIFETIME_OUTSIDE. `now` is in seconds since 1970, as a Lifetime. The library reads no
+ * clock.
+ *
+ * No other lifetime is checked: a leaf node of the tree may have expired, and an Add that a commit names by reference was
+ * checked when it was received. The state has no time, and each call may be passed another one. Messages that were accepted
+ * before are processed again by mls_follower_judge: at a later time one of them might be refused.
+ *
+ * The number is 0, or an mls_refusal, or MLS_NO_FOLLOWER, MLS_BUFFER_TOO_SMALL, MLS_OUT_OF_MEMORY.
+ */
+mls_judgement mls_follower_judge_at(mls_follower *follower, uint64_t now, const uint8_t *message, size_t message_len,
+                                    uint8_t *reference, size_t reference_len);
 
 /*
  * Writes the state as a file (docs/FORMATS.md), from which mls_follower_resume resumes. It has the profile, the strict rules,
@@ -441,7 +458,7 @@ static inline const char *mls_refusal_name(uint32_t number) {
         "PskInvalid", "ReInitInvalid", "ExternalInitMisplaced", "PskTwice", "ReInitNotAlone", "JoinList",
         "ResyncInvalid", "", "", "TagLength", "ExtensionRepeated", "ExtensionMisplaced", "ExtensionUnreadable",
         "KeyForm", "CiphertextForm", "GroupUnlisted", "DefaultListed", "LifetimeEmpty", "CertificateKey", "PskAhead",
-        "GroupExtensionUnsupported", "PointOffCurve"};
+        "GroupExtensionUnsupported", "PointOffCurve", "LifetimeOutside"};
     return number < sizeof names / sizeof names[0] ? names[number] : "";
 }
 

@@ -1,7 +1,7 @@
 """A follower of a group's public state by the rules of RFC 9420 and of docs/FORMATS.md, for random_groups.py.
 
-It takes the bytes of a message and answers the next state, or raises Refused with the number of the first rule that
-fails. It shares no code with the crates: it reads a message whole, keeps a tree as a tuple, and makes every hash
+It takes the bytes of a message, and perhaps a time, and answers the next state, or raises Refused with the number of the first
+rule that fails. It shares no code with the crates: it reads a message whole, keeps a tree as a tuple, and makes every hash
 again.
 """
 import collections
@@ -14,11 +14,12 @@ from layouts import (ADD, APPLICATION_USE, AuthenticatedContent, BY_REFERENCE, B
                      NEW_COMMITTER, NEW_PROPOSER, PSK, PUBLIC, PublicMessage, REINIT, REMOVE, REPLACE, Requirements,
                      RESUMPTION_PSK, U16, U32, Unreadable, UPDATE, whole)
 
-NAMES = """Malformed NotPublic WrongGroup WrongEpoch SenderNotMember NotHandshake BadSignature KnownProposal AddInvalid
-    UpdateInvalid RemoveInvalid LastEpoch UnknownReference UpdateByCommitter RemovesCommitter SameLeafTwice PathMissing
-    TooManyLeaves PathLength PathSource PathKeyUsed CiphertextCount PathParentHash KeyRepeated Member TwoContextExtensions
-    ContextExtensionsInvalid GroupOver UnknownExternal SenderContent PskInvalid ReInitInvalid ExternalInitMisplaced PskTwice
-    ReInitNotAlone JoinList ResyncInvalid""".split()
+NAMES = dict(enumerate("""Malformed NotPublic WrongGroup WrongEpoch SenderNotMember NotHandshake BadSignature KnownProposal
+    AddInvalid UpdateInvalid RemoveInvalid LastEpoch UnknownReference UpdateByCommitter RemovesCommitter SameLeafTwice
+    PathMissing TooManyLeaves PathLength PathSource PathKeyUsed CiphertextCount PathParentHash KeyRepeated Member
+    TwoContextExtensions ContextExtensionsInvalid GroupOver UnknownExternal SenderContent PskInvalid ReInitInvalid
+    ExternalInitMisplaced PskTwice ReInitNotAlone JoinList ResyncInvalid""".split(), 1))
+TIMED_NAMES = {53: "LifetimeOutside"}
 MEMBER_NAMES = "ExtensionUnlisted RequirementUnmet CredentialUnsupported SignatureKeyRepeated LeafSignature".split()
 
 LAST_EPOCH = 2**64 - 1
@@ -198,6 +199,20 @@ def is_join_list(entries):
     return set(kinds) <= {EXTERNAL_INIT, REMOVE, PSK} and kinds.count(EXTERNAL_INIT) == 1 and kinds.count(REMOVE) <= 1
 
 
+def own_proposals(message):
+    """The proposals that a message has itself: that of a proposal, and those by value of a commit."""
+    kind, body = message.framed.content
+    if kind == IS_COMMIT:
+        return [proposal for tag, proposal in body.proposals if tag != BY_REFERENCE]
+    return [body] if kind == IS_PROPOSAL else []
+
+
+def is_valid_at(time, leaf):
+    """Whether a time is in the lifetime of the leaf of a KeyPackage (7.2, 7.3)."""
+    lifetime = leaf.source[1]
+    return lifetime.not_before <= time <= lifetime.not_after
+
+
 def message_of(content):
     """The bytes of a PublicMessage of an AuthenticatedContent. Which membership tag it has makes no difference here."""
     tag = b"" if content.framed.sender[0] == MEMBER else None
@@ -234,11 +249,14 @@ class Follower:
         interim = interim_hash(context.suite, context.confirmed, confirmation_tag)
         return State(context, tree, interim, (), False, None)
 
-    def take(self, state, data):
+    def take(self, state, data, time=None):
+        """The state after a message. If there is a time, in seconds since 1970, lifetimes are checked, after all else."""
         message = self.read(data)
         after = self.taken(state, message)
         if self.rules:
             self.check_strictly(state.context, message, after)
+        if time is not None:
+            check(53, all(is_valid_at(time, package.leaf_node) for kind, package in own_proposals(message) if kind == ADD))
         return after
 
     def check_strictly(self, context, message, after):
@@ -268,11 +286,7 @@ class Follower:
             raise Refused(1) from None
         kind, public = message.body
         if kind == PUBLIC and not self.full:
-            content, body = public.framed.content
-            sent = [body] if content == IS_PROPOSAL else []
-            if content == IS_COMMIT:
-                sent = [proposal for tag, proposal in body.proposals if tag != BY_REFERENCE]
-            check(1, not any(proposal[0] in (PSK, REINIT, EXTERNAL_INIT) for proposal in sent))
+            check(1, not any(proposal[0] in (PSK, REINIT, EXTERNAL_INIT) for proposal in own_proposals(public)))
         check(2, kind == PUBLIC)
         return public
 
@@ -455,7 +469,7 @@ def line_of(former, state):
 
 
 def name_of(rule):
-    return strict.NAMES[rule] if rule in strict.NAMES else NAMES[rule - 1]
+    return (NAMES | strict.NAMES | TIMED_NAMES)[rule]
 
 
 def refusal_line(refused):

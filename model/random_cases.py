@@ -24,6 +24,9 @@ KINDS = {ADD: "Add", REPLACE: "Update", REMOVE: "Remove", PSK: "PreSharedKey", R
 # The first rules of the faults that any message may have.
 COMMON = {1, 2, 3, 4, 5, 6, 7, 29}
 
+# The answer to what the rules without a time accept, and a lifetime does not.
+LIFETIME_REFUSED = "refused 53 LifetimeOutside"
+
 # What a fault may raise if it does not fit a draft that has another fault already.
 UNFIT = (AssertionError, AttributeError, IndexError, KeyError, StopIteration)
 
@@ -31,8 +34,9 @@ UNFIT = (AssertionError, AttributeError, IndexError, KeyError, StopIteration)
 Step = collections.namedtuple("Step", "message before after answer")
 
 # A group: its maker and follower, the state at the start, the message of its GroupInfo, its ratchet_tree if that is a file of
-# its own, and its log. `rules` are strict rules, of which the follower has those that the start meets.
-Case = collections.namedtuple("Case", "maker follower state info tree steps rules")
+# its own, and its log. `rules` are strict rules, of which the follower has those that the start meets. `time` is that at which
+# the messages of the log are taken, or None.
+Case = collections.namedtuple("Case", "maker follower state info tree steps rules time")
 
 
 class Mismatch(Exception):
@@ -120,10 +124,10 @@ def next_draft(maker, state):
     return make(state) or maker.member_commit(state)
 
 
-def answer(follower, state, message):
+def answer(follower, state, message, time=None):
     """The next state and the line, without its number."""
     try:
-        after = follower.take(state, message)
+        after = follower.take(state, message, time)
         return after, line_of(state, after)
     except Refused as refused:
         return state, refusal_line(refused)
@@ -219,18 +223,39 @@ def make_case(seed, number, count, is_strict=False):
     if is_strict:
         rules, follower = strictly(maker, plain, whole(Message, info).body[1], first.tree)
     state, steps = first, []
+    time = random_time(maker) if chosen.random() < 0.7 else None
     while len(steps) < count:
         for message in next_messages(maker, follower, state, steps):
-            after, line = answer(follower, state, message)
+            after, line = answer(follower, state, message, time)
             steps.append(Step(message, state, after, line))
             if line.startswith("accepted proposal"):
                 maker.sent[reference_of(maker.suite, whole(Message, message).body[1])] = message
             elif after is not state and not trees.is_valid(maker.suite, after.tree):
                 raise Mismatch("the model's tree is not valid")
-            if follower.rules:
-                check_step(plain, follower, steps[-1])
+            check_step(plain, follower, steps[-1], time)
             state = after
-    return Case(maker, follower, first, info, tree, steps, rules)
+    return Case(maker, follower, first, info, tree, steps, rules, time)
+
+
+def check_step(plain, follower, step, time):
+    """A follower with strict rules answers as followers with fewer do, and at a time as without one, except for 53."""
+    untimed = (step.after, step.answer) if time is None else answer(follower, step.before, step.message)
+    if follower.rules:
+        check_strict_answer(plain, follower, step, untimed)
+    check_time(step, time, untimed)
+
+
+# ---- times
+
+def random_time(maker):
+    return maker.chosen.choice([0, 2**64 - 1, *(maker.time + away for away in range(-3, 4))])
+
+
+def check_time(step, time, untimed):
+    """At a time a message is answered as without one, or it is accepted without one and refused by 53."""
+    is_late = untimed[0] is not step.before and step.answer == LIFETIME_REFUSED and step.after is step.before
+    if not is_late and (step.after, step.answer) != untimed:
+        raise Mismatch(f"a message is {untimed[1]}, and at {time} it is {step.answer}")
 
 
 # ---- strict rules
@@ -243,10 +268,10 @@ def strictly(maker, plain, info, tree):
     return rules, Follower(plain.good, plain.full, rules - unmet)
 
 
-def check_step(plain, follower, step):
+def check_strict_answer(plain, follower, step, found_by_all):
     """What the plain rules refuse is refused by the same rule. What they accept is refused by the first rule of the set
     by which a follower with this rule alone refuses it. If there is none, it leads to the plain state, and that meets
-    the rules."""
+    the rules. All this is without a time."""
     after, line = wanted = answer(plain, step.before, step.message)
     if line.startswith("accepted"):
         for rule in sorted(follower.rules):
@@ -256,12 +281,13 @@ def check_step(plain, follower, step):
                 if found != wanted:
                     raise Mismatch(f"a follower with {rule} alone answers {found[1]}, a plain one {line}")
                 break
-    if wanted != (step.after, step.answer):
-        raise Mismatch(f"a strict follower answers {step.answer}, by the plain one and single rules it is {wanted[1]}")
+    state, told = found_by_all
+    if wanted != found_by_all:
+        raise Mismatch(f"a strict follower answers {told}, by the plain one and single rules it is {wanted[1]}")
     try:
-        plain.made_strict(step.after, follower.rules)
+        plain.made_strict(state, follower.rules)
     except StrictRefused as fault:
-        raise Mismatch(f"after {step.answer} the state does not meet {fault.rule} at {fault.place}") from fault
+        raise Mismatch(f"after {told} the state does not meet {fault.rule} at {fault.place}") from fault
 
 
 # ---- resumptions

@@ -17,10 +17,14 @@ way or in two (faults.py), or in one bit.
 these rules, by chance, without those that its start does not meet. The model's follower with the set must give what
 follows from its followers without strict rules and with each rule alone.
 
+Some KeyPackages have a lifetime of some seconds. Most logs are followed at a time, by chance, which may lie outside of it. Each
+message must then be answered as without a time, except that 53 may refuse what is accepted without one.
+
 For each group the program must print what follower.py and signatures.py give:
 
 - `replay`, also of the log in two parts, the second from the file that the first stores, which has to be the model's
-- `gate`, which is sent the receipts of the good signatures that it lists, message by message
+- `gate`, which is sent the receipts of the good signatures that it lists, message by message, and of some groups other times
+  between the messages
 - `signatures`
 - `gate`, `signatures` and `validate` from that file, also without the receipt of a signature of each pending proposal
 - `validate`, on the model's GroupInfo and tree of each epoch that a commit begins, and on a start that does not meet
@@ -45,9 +49,9 @@ import tempfile
 import signatures
 import strict
 import tree as trees
-from layouts import BYTES, Message, U16, whole
+from layouts import BYTES, Message, U16, U64, whole
 from follower import Follower, Refused, content_of, message_of, short
-from random_cases import Mismatch, answer, check_resumption, cut_of, kind_of, make_case
+from random_cases import Mismatch, answer, check_resumption, cut_of, kind_of, make_case, random_time
 from stored_states import file_of
 
 
@@ -78,6 +82,7 @@ class Runs:
         if case.tree:
             self.files += ["--tree", write(folder, "tree", case.tree)]
         self.start = self.files + strict_words(case.follower.rules)
+        self.time = [] if case.time is None else ["--now", str(case.time)]
 
     def trust(self):
         if self.case.maker.trusting:
@@ -104,7 +109,7 @@ class Runs:
     def replays(self):
         """The whole log, then its two parts, the second from the file that the first stores. Of a follower with strict rules
         also from the file of the plain state at the start, to which the rules are added."""
-        steps, trust = self.case.steps, self.trust()
+        steps, trust = self.case.steps, self.trust() + self.time
         log = write(self.folder, "log", log_of(steps))
         self.compare(replay_lines(steps), "replay", *self.start, "--log", log, *trust)
         cut, stored = cut_of(self.case)
@@ -157,14 +162,24 @@ class Runs:
         none = [f"accepted 0 refused 0 broken 0 epoch {context.epoch}"]
         self.compare(none, "replay", *self.files, "--log", write(self.folder, "none", b""), "--save", state, *trust)
         added = ["--state", state, *strict_words(case.follower.rules)]
-        self.compare(replay_lines(case.steps), "replay", *added, "--log", log, *trust)
+        self.compare(replay_lines(case.steps), "replay", *added, "--log", log, *trust, *self.time)
         tree = case.state.tree
         line = group_line("state refused 10", strict.group_faults(case.rules, context, tree), context, tree)
         self.compare([line], "validate", "--state", state, *strict_words(case.rules), *trust)
 
     def gate(self):
-        """A gate that learns the receipts of the good signatures that it lists."""
+        """A gate that learns the receipts of the good signatures that it lists. For half of the groups other times come between
+        the records."""
         case, known, sent, lines = self.case, set(), [], []
+        chosen, state, time = case.maker.chosen, case.state, case.time
+        is_timed = chosen.random() < 0.5
+
+        def timed():
+            if not is_timed or chosen.random() < 0.8:
+                return time
+            found = random_time(case.maker)
+            sent.append(b"t" + U64.write(found))
+            return found
 
         def queried(signatures):
             new = [each for each in signatures if receipt(case.maker.suite, each) not in known]
@@ -175,17 +190,20 @@ class Runs:
             known.update(learnt)
             sent.append(b"r" + bytes.fromhex("".join(learnt)))
 
-        queried(signatures.of_start(whole(Message, case.info).body[1], case.state.tree))
-        context, members = case.state.context, len(trees.members(case.state.tree))
+        queried(signatures.of_start(whole(Message, case.info).body[1], state.tree))
+        context, members = state.context, len(trees.members(state.tree))
+        time = timed()
         sent.append(b"b")
         lines.append(f"ready epoch {context.epoch} members {members} tree {context.tree_hash.hex()}")
         for step in case.steps:
             sent.append(b"q" + step.message)
-            queried(signatures_of(step.before, case.follower.full, step.message) or [])
+            queried(signatures_of(state, case.follower.full, step.message) or [])
+            time = timed()
             sent.append(b"m" + step.message)
-            lines.append(step.answer)
+            state, line = answer(case.follower, state, step.message, time)
+            lines.append(line)
         records = b"".join(BYTES.write(record) for record in sent)
-        self.compare(lines, "gate", *self.start, sent=records)
+        self.compare(lines, "gate", *self.start, *self.time, sent=records)
 
     def signatures(self):
         """Those of the start and of the log, in the states to which the messages lead if each signature is good."""

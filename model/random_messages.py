@@ -21,6 +21,9 @@ Draft = collections.namedtuple("Draft", "sender content key tree index added")
 
 LISTED = (0xF001, 0xF002)
 
+# The lifetime of most KeyPackages.
+ALWAYS = Lifetime(0, 2**64 - 1)
+
 
 def pretended(key, content):
     return hashlib.sha256(b"signature" + BYTES.write(key) + content).digest()[:20]
@@ -37,6 +40,8 @@ class Maker:
         self.receipts = set()
         self.sent = {}
         self.made = 0
+        # Some KeyPackages begin or end near this time, in seconds since 1970.
+        self.time = chosen.choice([5, 1_800_000_000, 2**63, 2**64 - 6])
         self.credentials = chosen.choice([(1,), (1, 2)])
         self.senders = [(self.name("external"), self.credential()) for _ in range(3)]
 
@@ -107,7 +112,16 @@ class Maker:
         kind = self.chosen.choice(self.credentials)
         return kind, self.name("identity") if kind == 1 else (self.name("certificate"), b"issuer")
 
-    def leaf(self, source=(KEY_PACKAGE, Lifetime(0, 2**64 - 1)), index=0, **changes):
+    def lifetime(self):
+        """One that includes the time, or not by some seconds."""
+        if self.chosen.random() < 0.7:
+            return ALWAYS
+        first, last = (self.time + self.chosen.randrange(-4, 5) for _ in range(2))
+        return self.chosen.choice([Lifetime(first, 2**64 - 1), Lifetime(0, last), Lifetime(min(first, last), max(first, last))])
+
+    def leaf(self, source=None, index=0, **changes):
+        """A leaf, of a KeyPackage unless its source is given."""
+        source = source or (KEY_PACKAGE, self.lifetime())
         able = Capabilities((1,), (self.suite,), LISTED, (), self.credentials)
         extensions = (Extension(self.chosen.choice(LISTED), b"data"),) if self.chosen.random() < 0.2 else ()
         leaf = LeafNode(self.name("encryption"), self.name("signature"), self.credential(), able, source, extensions, b"")

@@ -14,7 +14,7 @@ import sys
 
 import tree as trees
 from layouts import BYTES, first_of, GroupContext, Message, TREE, whole
-from follower import MEMBER_NAMES, NAMES, Follower, Refused
+from follower import MEMBER_NAMES, Follower, Refused, name_of
 
 DATA = os.path.join(os.path.dirname(os.path.abspath(__file__)), "..", "crates", "mls_rows", "data")
 WORDS = re.compile(r'\s*("[^"]*"|\'[^\']*\'|\$[A-Z0-9_]+|H384\(|H512\(|H\(|hex\(|x[0-9]+\(|[<>()]|[0-9a-f]{2})')
@@ -101,6 +101,12 @@ def checker(field, names):
     return good
 
 
+def message_of(field, names):
+    """The bytes of a message, and the time before them or None."""
+    timed = re.match(r"\s*at (\d+)(?: |$)", field)
+    return value_of(field[timed.end():] if timed else field, names), timed and int(timed[1])
+
+
 def told(fields, names):
     """What the model makes of each message of a story, and the state at the end."""
     kind, info, good, *messages = fields
@@ -110,12 +116,12 @@ def told(fields, names):
     answers = []
     for message in messages:
         try:
-            former, state = state, follower.take(state, value_of(message, names))
+            former, state = state, follower.take(state, *message_of(message, names))
             accepted = state.pending[len(former.pending):] if state.context == former.context else None
             answers.append(f"proposal {accepted[0].reference.hex()}" if accepted else f"commit {state.context.epoch}")
         except Refused as refused:
             member = f" {MEMBER_NAMES[refused.member - 1]} {refused.leaf}" if refused.member else ""
-            answers.append(f"{refused.rule} {NAMES[refused.rule - 1]}{member}")
+            answers.append(f"{refused.rule} {name_of(refused.rule)}{member}")
     return answers, state
 
 

@@ -72,6 +72,7 @@ class Command:
         self.rules = strict.ALL if "strict" in self.given else frozenset()
         if self.given.get("allow"):
             self.rules -= {int(number) for number in self.given["allow"].split(",")}
+        self.time = int(self.given["now"]) if "now" in self.given else None
         self.known = Known(None if "trust" in self.given else self.receipts())
 
     def receipts(self):
@@ -201,7 +202,7 @@ def replay(command):
     for number, message in enumerate(records_of(command.file("log")), 1):
         line = "broken"
         if message is not None:
-            state, line = answer(follower, state, message)
+            state, line = answer(follower, state, message, command.time)
             line = short(line)
         lines.append(f"{number} {line}")
     counts = {word: sum(line.split()[1] == word for line in lines) for word in ("accepted", "refused", "broken")}
@@ -238,7 +239,7 @@ def gate(command):
     """The answers to records, by what is known to be good then."""
     known = command.known
     _, _, found = asked(command)
-    lines, follower, state = queried(known, found), None, None
+    lines, follower, state, time = queried(known, found), None, None, command.time
     for record in records_of(command.files["-"]):
         kind, body = record and record[:1], record and record[1:]
         if kind == b"r" and len(body) % 32 == 0:
@@ -252,8 +253,10 @@ def gate(command):
             lines.append(f"ready {valid_words(state)}")
         elif record == b"s" and follower:
             lines.append(f"state {file_of(follower, state).hex()}")
+        elif kind == b"t" and len(body) == 8:
+            time = int.from_bytes(body, "big")
         elif kind == b"m" and follower:
-            state, line = answer(follower, state, body)
+            state, line = answer(follower, state, body, time)
             lines.append(line)
         elif kind == b"q" and follower:
             lines += queried(known, random_groups.signatures_of(state, follower.full, body) or [])

@@ -11,7 +11,7 @@ import sys
 import run_rows
 from strict_rows import Examples, rows_of
 
-FILES = "states added gate signatures outside full_rules external suite_groups".split()
+FILES = "states added gate lifetimes signatures outside full_rules external suite_groups".split()
 
 
 def main():

@@ -99,6 +99,29 @@ replay --log --info there
 replay --log=missing --info=there --trust
 replay --log missing --log missing
 replay --log there --info missing --trust --save -
+replay --log there --info there --trust --now x
+replay --log there --info there --trust --now= --save -
+replay --log there --info there --trust --now=
+replay --log there --info there --trust --now=-1
+replay --log there --info there --trust --now -1
+replay --log there --info there --trust --now +1
+replay --log there --info there --trust --now 1.5
+replay --log there --info there --trust --now 18446744073709551616
+replay --log missing --info there --trust --now 18446744073709551615
+replay --log missing --info there --trust --now 00018446744073709551615
+replay --log missing --info there --trust --now 0
+replay --log there --info there --trust --now 1 --now 2
+replay --log there --info there --trust --now
+replay --log there --info there --trust --nov 1
+gate --info missing --now 1
+gate --info there --now 100000000000000000000
+gate --info there --trust --receipts there --now x
+gate --state there --now --trust
+signatures --info there --now 1
+validate --info there --trust --now 1
+validate-tree --tree there --context there --trust --now 1
+show tree there --now 1
+check tree-math there --now=1
 signatures --info missing --log there
 signatures --info missing --receipts -
 gate --info - --trust
@@ -117,7 +140,8 @@ WORDS = ["show", "check", "validate", "validate-tree", "replay", "signatures", "
          "tree-math", "transcript", "members", "full", "--info", "--tree", "--state", "--profile", "--log", "--save",
          "--trust", "--receipts", "--context", "--help", "-h", "-V", "--version", "--inf", "--stat", "--trust=1", "--info=x",
          "--log=missing", "--profile=full", "-", "--", "-x", "--nope", "there", "missing", "good", "", "sohw", "é",
-         "--strict", "--allow", "--allow=47", "--strict=1", "--stricter", "47", "47,48", "47,47", "39", "53", "4x"]
+         "--strict", "--allow", "--allow=47", "--strict=1", "--stricter", "47", "47,48", "47,47", "39", "53", "4x",
+         "--now", "--now=1", "--now=x"]
 
 
 def by_chance(number):
@@ -126,7 +150,8 @@ def by_chance(number):
     for _ in range(chance.randrange(8)):
         words += chance.choice([[chance.choice(WORDS)], ["--info", chance.choice(["there", "missing", "-"])], ["--trust"],
                                 ["--log", chance.choice(["there", "missing"])], ["--receipts", "good"], ["--strict"],
-                                ["--allow", chance.choice(["47", "46,52", "47,47", "39", "53", "047", "4x", "47,", ""])]])
+                                ["--allow", chance.choice(["47", "46,52", "47,47", "39", "53", "047", "4x", "47,", ""])],
+                                ["--now", chance.choice(["0", "18446744073709551615", "18446744073709551616", "x", ""])]])
     return words
 
 

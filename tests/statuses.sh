@@ -66,6 +66,17 @@ expect 2 notes 'usage: standard input can be given for one file' validate-tree -
 
 expect 2 notes 'usage: KIND is ' check nope examples/tree-math.json
 
+log=examples/six-members.tree
+for seconds in '' x -1 +1 1.5 18446744073709551616; do
+    expect 2 notes 'usage: SECONDS is a number from 0 to 18446744073709551615' replay \
+        --info examples/one-leaf.info --log "$log" --trust "--now=$seconds"
+    expect 2 notes 'usage: SECONDS is a number from 0 to 18446744073709551615' gate \
+        --info examples/one-leaf.info --trust "--now=$seconds"
+done
+expect 2 notes "'-1'" replay --info examples/one-leaf.info --log "$log" --trust --now -1
+expect 2 notes '--now <SECONDS>' gate --info examples/one-leaf.info --trust --now 1 --now 1
+expect 2 notes '--now' validate --info examples/one-leaf.info --trust --now 1
+
 expect 3 notes 'fault: read' show tree "$made/missing"
 expect 3 notes 'fault: read' check tree-math "$made/missing"
 expect 3 notes 'fault: read' validate-tree --context "$context" --tree "$tree" \

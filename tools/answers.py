@@ -33,15 +33,16 @@ VERSIONED = os.path.join("crates", "mls_commands", "src", "clap_command.rt")
 RULES = {"strict": None, "allow": "NUMBERS"}
 GROUP = {"info": "FILE", "tree": "FILE", "state": "FILE", "profile": "PROFILE", **RULES}
 CHECKER = {"trust": None, "receipts": "FILE"}
+TIME = {"now": "SECONDS"}
 
 # Of each command: its positional words, its options with what each takes, and the options that have to be given.
 COMMANDS = {
     "show": (["KIND", "FILE"], {"profile": "PROFILE"}, []),
     "validate-tree": ([], {"context": "FILE", "tree": "FILE", **RULES, **CHECKER}, ["context", "tree"]),
     "validate": ([], {**GROUP, **CHECKER}, []),
-    "replay": ([], {**GROUP, "log": "FILE", "save": "FILE", **CHECKER}, ["log"]),
+    "replay": ([], {**GROUP, "log": "FILE", "save": "FILE", **TIME, **CHECKER}, ["log"]),
     "signatures": ([], {**GROUP, "log": "FILE", "receipts": "FILE"}, []),
-    "gate": ([], {**GROUP, **CHECKER}, []),
+    "gate": ([], {**GROUP, **TIME, **CHECKER}, []),
     "check": (["KIND", "FILE"], {}, []),
 }
 KINDS = {
@@ -52,6 +53,9 @@ KINDS = {
 
 # The numbers of strict rules, with commas between.
 NUMBERS = re.compile(r"(?:4[0-9]|5[0-2])(?:,(?:4[0-9]|5[0-2]))*")
+
+# A number in decimal digits. It has to fit in 64 bits.
+SECONDS = re.compile(r"0*([0-9]{1,20})")
 
 NO_COMMAND = f"Usage: {PROGRAM} <COMMAND>"
 
@@ -238,6 +242,14 @@ def rules_fault(given):
     return None
 
 
+def time_fault(given):
+    """The text of the fault of the time, if there is one."""
+    seconds = SECONDS.fullmatch(given.get("now", "0"))
+    if seconds is None or int(seconds[1]) >= 2**64:
+        return "usage: SECONDS is a number from 0 to 18446744073709551615\n"
+    return None
+
+
 def usage_fault(name, given):
     """The text of the first rule for a command's words that clap does not know, if one is broken."""
     inputs = [file for file in INPUTS if given.get(file) == "-"]
@@ -268,7 +280,7 @@ def usage_fault(name, given):
         return "usage: PROFILE is members or full\n"
     if given.get("save") == "-":
         return "usage: a state is stored in a file with a name\n"
-    return None
+    return time_fault(given)
 
 
 def why_missing(file):

@@ -2,7 +2,8 @@
 // makes.
 //
 // A service starts a Follower from a GroupInfo. For each message it calls Query, verifies the signatures that are listed,
-// calls Learn with the receipts of the good ones, and then Judge. A service should start by StartBy with Strict.
+// calls Learn with the receipts of the good ones, and then Judge or, with a time, JudgeAt. A service should start by StartBy
+// with Strict.
 //
 // The library is proved; this package is not. It meets the conditions of include/mls_check.h if a Follower is
 // used by one goroutine at a time.
@@ -19,6 +20,7 @@ import (
 	"encoding/binary"
 	"errors"
 	"fmt"
+	"time"
 	"unsafe"
 )
 
@@ -333,10 +335,28 @@ func (f *Follower) Learn(receipts [][32]byte) error {
 }
 
 // Judge processes a message (6), and accepts it if and only if it satisfies every rule of the profile, and every strict rule
-// of the follower's set. The error is a Refusal if it does not, and nothing has changed then.
+// of the follower's set. No lifetime is checked. The error is a Refusal if it does not, and nothing has changed then.
 func (f *Follower) Judge(message []byte) (Accepted, error) {
 	reference := make([]byte, C.MLS_REFERENCE_SIZE)
-	answer := C.mls_follower_judge(&f.handle, at(message), size(message), at(reference), size(reference))
+	return f.answer(C.mls_follower_judge(&f.handle, at(message), size(message), at(reference), size(reference)), reference)
+}
+
+// JudgeAt processes a message as Judge does, at the time now, in whole seconds since 1970. A time before 1970 counts as 0. The
+// lifetime of the leaf node of each Add that the message has by value must include it (7.2, 7.3, 10.1), otherwise the error is
+// the Refusal 53. No other lifetime is checked, and the state has no time. Messages that were accepted before are processed
+// again by Judge: at a later time one of them might be refused.
+func (f *Follower) JudgeAt(now time.Time, message []byte) (Accepted, error) {
+	seconds := now.Unix()
+	if seconds < 0 {
+		seconds = 0
+	}
+	reference := make([]byte, C.MLS_REFERENCE_SIZE)
+	return f.answer(C.mls_follower_judge_at(&f.handle, C.uint64_t(seconds), at(message), size(message), at(reference),
+		size(reference)), reference)
+}
+
+// answer returns the answer to a message that was processed.
+func (f *Follower) answer(answer C.mls_judgement, reference []byte) (Accepted, error) {
 	switch {
 	case answer.number >= 100:
 		return Accepted{}, Fault(answer.number)

@@ -3,12 +3,14 @@ package mlscheck
 import (
 	"bytes"
 	"crypto/ed25519"
+	"encoding/binary"
 	"encoding/hex"
 	"fmt"
 	"math"
 	"os"
 	"strings"
 	"testing"
+	"time"
 )
 
 func file(t *testing.T, name string) []byte {
@@ -268,4 +270,55 @@ func TestGroupsThatAreNotStrict(t *testing.T) {
 	}
 	_, err = ValidateTreeStrict(replaced(context, len(context)-1, 1, repeated...), tree, receipts, Strict)
 	expect(t, err, Refused{9, 41, math.MaxUint64})
+}
+
+// keyPackage is the capabilities of the group's leaf nodes, and the source key_package. The lifetime follows (7.2).
+var keyPackage = []byte{2, 0, 1, 6, 0, 2, 0, 1, 0, 3, 0, 0, 2, 0, 1, 1}
+
+// lifetime returns the first and the last second of the lifetime of the leaf node that a message adds, or 0 if it adds none.
+func lifetime(message []byte) (first, last int64) {
+	_, after, found := bytes.Cut(message, keyPackage)
+	if !found {
+		return
+	}
+	return int64(binary.BigEndian.Uint64(after)), int64(binary.BigEndian.Uint64(after[8:]))
+}
+
+// Follows the group at times inside the lifetimes of those that are added. Outside each Add is refused, by the last rule.
+func TestTimes(t *testing.T) {
+	info := file(t, "real/epoch-1.info")
+	wanted, _ := StartQuery(info, nil, nil)
+	group, err := Start(info, nil, verified(wanted))
+	if err != nil {
+		t.Fatal(err)
+	}
+	defer group.Close()
+	adds := 0
+	for _, message := range messages(t) {
+		_, err := group.JudgeAt(time.Time{}, message)
+		expect(t, err, Refusal{7, 0, 0})
+		wanted, err := group.Query(message)
+		expect(t, err, nil)
+		expect(t, group.Learn(verified(wanted)), nil)
+		first, last := lifetime(message)
+		if first > 0 {
+			adds++
+			for _, now := range []time.Time{{}, time.Unix(-1, 0), time.Unix(first-1, 999999999), time.Unix(last+1, 0)} {
+				_, err := group.JudgeAt(now, message)
+				expect(t, err, Refusal{53, 0, 0})
+			}
+			if (Refusal{Number: 53}).Name() != "LifetimeOutside" {
+				t.Fatal(Refusal{Number: 53})
+			}
+		}
+		now := time.Unix(first, 0)
+		if adds%2 == 0 {
+			now = time.Unix(last, 999999999)
+		}
+		_, err = group.JudgeAt(now, message)
+		expect(t, err, nil)
+	}
+	if adds != 4 || group.Epoch() != 8 || group.Members() != 3 {
+		t.Fatal(adds, group.Epoch(), group.Members())
+	}
 }

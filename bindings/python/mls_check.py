@@ -1,8 +1,8 @@
 """Follows MLS groups (RFC 9420) from outside, by the proved library libmls_check.
 
 A service starts a Follower from a GroupInfo. For each message it calls `query`, verifies the signatures that are listed, calls
-`learn` with the receipts of the good ones, and then `judge`. A service should start with the strict rules, RULES_STRICT.
-MLS_CHECK_LIB names libmls_check.so, which tools/library makes.
+`learn` with the receipts of the good ones, and then `judge`, perhaps with a time. A service should start with the strict rules,
+RULES_STRICT. MLS_CHECK_LIB names libmls_check.so, which tools/library makes.
 
 The library is proved; this module is not. It meets the conditions of include/mls_check.h as long as a Follower is
 used by one thread at a time.
@@ -31,7 +31,7 @@ NAMES = (
     "GroupOver", "UnknownExternal", "SenderContent", "PskInvalid", "ReInitInvalid", "ExternalInitMisplaced", "PskTwice",
     "ReInitNotAlone", "JoinList", "ResyncInvalid", "", "", "TagLength", "ExtensionRepeated", "ExtensionMisplaced",
     "ExtensionUnreadable", "KeyForm", "CiphertextForm", "GroupUnlisted", "DefaultListed", "LifetimeEmpty",
-    "CertificateKey", "PskAhead", "GroupExtensionUnsupported", "PointOffCurve",
+    "CertificateKey", "PskAhead", "GroupExtensionUnsupported", "PointOffCurve", "LifetimeOutside",
 )
 
 # A signature that has to be verified: whether it is good for `content` under `key` in the cipher suite `suite` (5.1.2).
@@ -56,6 +56,13 @@ def _bits(rules):
     if not 0 <= rules <= RULES_STRICT:
         raise ValueError(f"{rules} is no set of strict rules")
     return rules
+
+
+def _seconds(now):
+    """A time as whole seconds since 1970. It fits a uint64, which ctypes does not check."""
+    if not 0 <= now < 2**64:
+        raise ValueError(f"{now} is no time")
+    return int(now)
 
 
 class Refused(Exception):
@@ -100,7 +107,7 @@ def _load():
     library = ctypes.CDLL(os.environ.get("MLS_CHECK_LIB", os.path.join(here, "../../build/libmls_check.so")))
     sized = [ctypes.c_char_p, ctypes.c_size_t]
     handle, size = ctypes.POINTER(_Handle), ctypes.POINTER(ctypes.c_size_t)
-    number, rules = ctypes.c_uint32, ctypes.c_uint16
+    number, rules, time = ctypes.c_uint32, ctypes.c_uint16, ctypes.c_uint64
     for name, result, words in (
         ("mls_validate_tree", _Verdict, sized * 4 + [size]),
         ("mls_validate_tree_strict", _Verdict, sized * 3 + [rules] + sized + [size]),
@@ -120,6 +127,7 @@ def _load():
         ("mls_follower_query", number, [handle] + sized * 2 + [size]),
         ("mls_follower_learn", number, [handle] + sized),
         ("mls_follower_judge", _Judgement, [handle] + sized * 2),
+        ("mls_follower_judge_at", _Judgement, [handle, time] + sized * 2),
         ("mls_follower_state", number, [handle] + sized + [size]),
     ):
         call = getattr(library, name)
@@ -311,11 +319,20 @@ class Follower:
         if number:
             raise Fault(number)
 
-    def judge(self, message):
-        """Processes a message (6): Accepted if it satisfies every rule, otherwise Refusal, and nothing has changed."""
+    def judge(self, message, now=None):
+        """Processes a message (6): Accepted if it satisfies every rule, otherwise Refusal, and nothing has changed.
+
+        `now` is a time in seconds since 1970, as that of time.time. The lifetime of the leaf node of each Add that the message
+        has by value must include it (7.2, 7.3, 10.1), otherwise the number of Refusal is 53. No other lifetime is checked, and
+        the state has no time. Messages that were accepted before are processed again without a time: at a later one of them
+        might be refused.
+        """
         buffer = ctypes.create_string_buffer(REFERENCE_SIZE)
-        handle = ctypes.byref(self._handle)
-        answer = _library.mls_follower_judge(handle, message, len(message), buffer, REFERENCE_SIZE)
+        words = (message, len(message), buffer, REFERENCE_SIZE)
+        if now is None:
+            answer = _library.mls_follower_judge(ctypes.byref(self._handle), *words)
+        else:
+            answer = _library.mls_follower_judge_at(ctypes.byref(self._handle), _seconds(now), *words)
         if answer.number >= 100:
             raise Fault(answer.number)
         if answer.number:

@@ -77,6 +77,18 @@ def with_repeated_extensions(message):
     return message[:-105] + b"\0\7" + REPEATED + message[-99:]
 
 
+# The capabilities of the group's leaf nodes, and the source key_package. The lifetime follows (7.2).
+KEY_PACKAGE = bytes.fromhex("020001 06000200010003 00 00 020001 01")
+
+
+def lifetime(message):
+    """The first and the last second of the lifetime of the leaf node that a message adds, or of all time if it adds none."""
+    _, found, after = message.partition(KEY_PACKAGE)
+    if not found:
+        return 0, 2**64 - 1
+    return int.from_bytes(after[:8], "big"), int.from_bytes(after[8:16], "big")
+
+
 def every(wanted):
     return [w.receipt for w in wanted]
 
@@ -230,6 +242,33 @@ class RealGroup(unittest.TestCase):
         self.assertEqual(judged(group, MESSAGES[4], every)[:8], "accepted")
         group.make_strict(repeats)
         self.assertEqual(group.rules, no_tags)
+
+    def test_times(self):
+        plain = mls_check.Follower(INFO, receipts=RECEIPTS)
+        group = mls_check.Follower(INFO, receipts=RECEIPTS)
+        adds = 0
+        for message in MESSAGES:
+            first, last = lifetime(message)
+            if first > 0:
+                adds += 1
+                for now in (0, first - 1, first - 0.5, last + 1, 2**64 - 1):
+                    self.assertEqual(group.judge(message, now), (53, "LifetimeOutside", 0, 0))
+            with mls_check.Follower.resume(group.state, RECEIPTS) as other:
+                self.assertEqual(other.state, plain.state)
+                answer = plain.judge(message)
+                self.assertIsInstance(answer, mls_check.Accepted)
+                self.assertEqual(other.judge(message, first + 0.5), answer)
+            self.assertEqual(group.judge(message, last), answer)
+        self.assertEqual((adds, group.state), (4, plain.state))
+        for now in (-1, 2**64):
+            with self.assertRaises(ValueError):
+                group.judge(message, now)
+        # It is the last rule.
+        group = mls_check.Follower.start_by(mls_check.RULES_STRICT, INFO, receipts=listed(mls_check.start_query(INFO)))
+        short = with_short_tag(MESSAGES[0])
+        self.assertEqual(group.judge(short, 0).number, 7)
+        group.learn(every(group.query(short)) + RECEIPTS)
+        self.assertEqual([group.judge(data, 0).number for data in (short, MESSAGES[0])], [40, 53])
 
     def test_groups_that_are_not_strict(self):
         info = repeated(INFO, 4 + len(file("real/epoch-1.context")) - 1)

@@ -128,6 +128,7 @@ static void expect_no_follower(mls_follower *group) {
     EXPECT(mls_follower_query(group, info.at, info.len, out, sizeof out, &needed) == MLS_NO_FOLLOWER);
     EXPECT(mls_follower_learn(group, receipts.at, receipts.len) == MLS_NO_FOLLOWER);
     EXPECT(is_judged(mls_follower_judge(group, info.at, info.len, out, sizeof out), MLS_NO_FOLLOWER));
+    EXPECT(is_judged(mls_follower_judge_at(group, 0, info.at, info.len, out, sizeof out), MLS_NO_FOLLOWER));
     EXPECT(mls_follower_state(group, out, sizeof out, &needed) == MLS_NO_FOLLOWER && needed == 0);
     EXPECT(out[0] == 7);
     mls_follower_free(group);
@@ -206,6 +207,8 @@ static void short_buffers(void) {
     EXPECT(mls_follower_state(&group, buffer, 0, &size) == MLS_BUFFER_TOO_SMALL && size > 0);
     EXPECT(mls_follower_state(&group, buffer, size - 1, &needed) == MLS_BUFFER_TOO_SMALL && needed == size);
     EXPECT(is_judged(mls_follower_judge(&group, message.at, message.len, buffer, MLS_REFERENCE_SIZE - 1),
+                     MLS_BUFFER_TOO_SMALL));
+    EXPECT(is_judged(mls_follower_judge_at(&group, 0, message.at, message.len, buffer, MLS_REFERENCE_SIZE - 1),
                      MLS_BUFFER_TOO_SMALL));
     for (size_t i = 0; i < 1 << 16; i++)
         if (buffer[i] != 0xaa)
@@ -497,6 +500,53 @@ static void trees(void) {
                                        sizeof hash, &needed),
               MLS_UNSUPPORTED_RULES, 0, 0));
     EXPECT(needed == 0 && hash[0] == 0x72);
+}
+
+/* ---- lifetimes at a time */
+
+/* The capabilities of the group's leaf nodes, and the source key_package. The lifetime follows (RFC 9420, 7.2). */
+static const uint8_t key_package[] = {2, 0, 1, 6, 0, 2, 0, 1, 0, 3, 0, 0, 2, 0, 1, 1};
+
+static uint64_t number_at(const uint8_t *at) {
+    uint64_t number = 0;
+    for (int i = 0; i < 8; i++)
+        number = number << 8 | at[i];
+    return number;
+}
+
+/* Writes the first and the last second of the lifetime of the leaf node that a message adds, if it adds one. */
+static int has_lifetime(struct bytes message, uint64_t *first, uint64_t *last) {
+    for (size_t at = 0; at + sizeof key_package + 16 <= message.len; at++)
+        if (memcmp(message.at + at, key_package, sizeof key_package) == 0) {
+            *first = number_at(message.at + at + sizeof key_package);
+            *last = number_at(message.at + at + sizeof key_package + 8);
+            return 1;
+        }
+    return 0;
+}
+
+/* Follows the group at times inside the lifetimes of those that are added. Outside each Add is refused. */
+static void times(void) {
+    mls_follower group = MLS_NO_FOLLOWER_YET;
+    uint8_t reference[MLS_REFERENCE_SIZE];
+    int adds = 0;
+    EXPECT(is(start(&group, receipts), MLS_OK, 0, 0));
+    for (struct bytes rest = log_bytes; rest.len > 0;) {
+        struct bytes message = take_vector(&rest);
+        uint64_t first = 0, last = UINT64_MAX;
+        if (has_lifetime(message, &first, &last)) {
+            uint64_t outside[] = {0, first - 1, last + 1, UINT64_MAX};
+            for (size_t i = 0; i < sizeof outside / sizeof outside[0]; i++)
+                EXPECT(is_judged(mls_follower_judge_at(&group, outside[i], message.at, message.len, reference,
+                                                       sizeof reference),
+                                 MLS_REFUSED_LIFETIME_OUTSIDE));
+            adds++;
+        }
+        EXPECT(mls_follower_judge_at(&group, adds % 2 ? first : last, message.at, message.len, reference, sizeof reference)
+                   .number == MLS_OK);
+    }
+    EXPECT(adds == 4 && strcmp(mls_refusal_name(MLS_REFUSED_LIFETIME_OUTSIDE), "LifetimeOutside") == 0);
+    mls_follower_free(&group);
 }
 
 /* ---- what meets all rules but the strict ones */
@@ -824,6 +874,7 @@ static void try_all(void) {
     queried_states();
     trees();
     short_tags();
+    times();
     refused_memory();
     kept_as_they_are();
     many_handles();

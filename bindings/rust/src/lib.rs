@@ -1,8 +1,8 @@
 //! Follows MLS groups (RFC 9420) from outside, by the proved library `libmls_check`.
 //!
 //! A service starts a [`Follower`] from a GroupInfo. For each message it calls [`Follower::query`], verifies the signatures
-//! that are listed, calls [`Follower::learn`] with the receipts of the good ones, and then [`Follower::judge`]. A service
-//! should start by [`Follower::start_by`] with [`Rules::STRICT`].
+//! that are listed, calls [`Follower::learn`] with the receipts of the good ones, and then [`Follower::judge`] or, with a
+//! time, [`Follower::judge_at`]. A service should start by [`Follower::start_by`] with [`Rules::STRICT`].
 //!
 //! The library is proved; this crate is not. It meets the conditions of `include/mls_check.h` by Rust's types:
 //! a slice is never null, a `&mut` overlaps nothing else, and a `Follower` owns its handle and is neither copied nor shared.
@@ -93,7 +93,7 @@ impl Rules {
 }
 
 /// Why a message is refused: the rule, and for 25 the number and the leaf index of the fault of the leaf node. The rules 40
-/// to 52 are the strict ones.
+/// to 52 are the strict ones, and 53 is that of [`Follower::judge_at`].
 #[derive(Clone, Copy, Debug, PartialEq, Eq)]
 pub struct Refusal {
     pub number: u32,
@@ -104,7 +104,7 @@ pub struct Refusal {
 impl Refusal {
     /// Returns the name of the rule, as `mlscheck` prints it.
     pub fn name(&self) -> &'static str {
-        const NAMES: [&str; 53] = [
+        const NAMES: [&str; 54] = [
             "", "Malformed", "NotPublic", "WrongGroup", "WrongEpoch", "SenderNotMember", "NotHandshake",
             "BadSignature", "KnownProposal", "AddInvalid", "UpdateInvalid", "RemoveInvalid", "LastEpoch",
             "UnknownReference", "UpdateByCommitter", "RemovesCommitter", "SameLeafTwice", "PathMissing",
@@ -114,6 +114,7 @@ impl Refusal {
             "ReInitNotAlone", "JoinList", "ResyncInvalid", "", "", "TagLength", "ExtensionRepeated",
             "ExtensionMisplaced", "ExtensionUnreadable", "KeyForm", "CiphertextForm", "GroupUnlisted", "DefaultListed",
             "LifetimeEmpty", "CertificateKey", "PskAhead", "GroupExtensionUnsupported", "PointOffCurve",
+            "LifetimeOutside",
         ];
         NAMES.get(self.number as usize).unwrap_or(&"")
     }
@@ -207,6 +208,10 @@ mod sys {
         pub fn mls_follower_learn(follower: *mut Handle, receipts: *const u8, receipts_len: usize) -> u32;
         pub fn mls_follower_judge(
             follower: *mut Handle, message: *const u8, message_len: usize, reference: *mut u8, reference_len: usize,
+        ) -> Judgement;
+        pub fn mls_follower_judge_at(
+            follower: *mut Handle, now: u64, message: *const u8, message_len: usize, reference: *mut u8,
+            reference_len: usize,
         ) -> Judgement;
         pub fn mls_follower_state(follower: *mut Handle, state: *mut u8, state_len: usize, needed: *mut usize) -> u32;
     }
@@ -488,7 +493,7 @@ impl Follower {
     }
 
     /// Processes a message (RFC 9420, 6), and accepts it if and only if it satisfies every rule of the profile, and every
-    /// strict rule of the follower's set. A refused message changes nothing.
+    /// strict rule of the follower's set. No lifetime is checked. A refused message changes nothing.
     pub fn judge(&mut self, message: &[u8]) -> Result<Result<Accepted, Refusal>, Fault> {
         let mut reference = [0; 64];
         let judgement = unsafe {
@@ -496,6 +501,27 @@ impl Follower {
                 &mut self.handle, message.as_ptr(), message.len(), reference.as_mut_ptr(), reference.len(),
             )
         };
+        self.answer(judgement, &reference)
+    }
+
+    /// Processes a message as [`Follower::judge`] does, at the time `now`, in seconds since 1970. The lifetime of the leaf node
+    /// of each Add that the message has by value must include it (RFC 9420, 7.2, 7.3, 10.1), otherwise the number of
+    /// [`Refusal`] is 53. No other lifetime is checked, and the state has no time. Messages that were accepted before are
+    /// processed again by [`Follower::judge`]: at a later time one of them might be refused.
+    pub fn judge_at(&mut self, now: u64, message: &[u8]) -> Result<Result<Accepted, Refusal>, Fault> {
+        let mut reference = [0; 64];
+        let judgement = unsafe {
+            sys::mls_follower_judge_at(
+                &mut self.handle, now, message.as_ptr(), message.len(), reference.as_mut_ptr(), reference.len(),
+            )
+        };
+        self.answer(judgement, &reference)
+    }
+
+    /// Returns the answer to a message that was processed.
+    fn answer(
+        &mut self, judgement: sys::Judgement, reference: &[u8; 64],
+    ) -> Result<Result<Accepted, Refusal>, Fault> {
         match judgement {
             sys::Judgement { number: 0, kind: 1, .. } => {
                 let size = self.tree_hash().len();

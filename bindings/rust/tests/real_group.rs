@@ -266,3 +266,50 @@ fn validates_a_tree() {
     assert_eq!(hex(&hash), "72763a49e8a0ffa3685769fd0066db78eb8b7f54aef69175360b742e692da9bf");
     assert_eq!(validate_tree(&context, &tree, &[]), Err(Refused { number: 6, inner: 5, place: 0 }));
 }
+
+/// The capabilities of the group's leaf nodes, and the source key_package. The lifetime follows (RFC 9420, 7.2).
+const KEY_PACKAGE: [u8; 16] = [2, 0, 1, 6, 0, 2, 0, 1, 0, 3, 0, 0, 2, 0, 1, 1];
+
+/// The first and the last second of the lifetime of the leaf node that a message adds, if it adds one.
+fn lifetime(message: &[u8]) -> Option<(u64, u64)> {
+    let at = message.windows(KEY_PACKAGE.len()).position(|part| part == KEY_PACKAGE)? + KEY_PACKAGE.len();
+    let number = |at: usize| u64::from_be_bytes(message[at..at + 8].try_into().unwrap());
+    Some((number(at), number(at + 8)))
+}
+
+#[test]
+fn checks_lifetimes_at_a_time() {
+    let info = file("real/epoch-1.info");
+    let mut plain = Follower::start(&info, None, &receipts()).unwrap();
+    let mut group = Follower::start(&info, None, &receipts()).unwrap();
+    let mut adds = 0;
+    for message in messages() {
+        let mut times = vec![0, u64::MAX];
+        if let Some((first, last)) = lifetime(&message) {
+            adds += 1;
+            for now in [0, first - 1, last + 1, u64::MAX] {
+                let refusal = group.judge_at(now, &message).unwrap().unwrap_err();
+                assert_eq!((refusal.number, refusal.name()), (53, "LifetimeOutside"));
+            }
+            times = vec![first, last];
+        }
+        let state = group.state().unwrap();
+        assert_eq!(state, plain.state().unwrap());
+        let answer = plain.judge(&message).unwrap();
+        assert!(answer.is_ok());
+        for now in times {
+            group = Follower::resume(&state, &receipts()).unwrap();
+            assert_eq!(group.judge_at(now, &message).unwrap(), answer);
+        }
+    }
+    assert_eq!((adds, group.epoch(), group.members()), (4, 8, 3));
+    assert_eq!(group.state(), plain.state());
+    // It is the last rule.
+    let good = good(&start_query(&info, None, &[]).unwrap());
+    let mut group = Follower::start_by(Rules::STRICT, Profile::Members, &info, None, &good).unwrap();
+    let message = messages().remove(0);
+    assert_eq!(group.judge_at(0, &message).unwrap().unwrap_err().number, 7);
+    assert_eq!(judged_with_trust(&mut group, &with_short_tag(&message)), "refused 40 TagLength");
+    assert_eq!(group.judge_at(0, &with_short_tag(&message)).unwrap().unwrap_err().number, 40);
+    assert_eq!(group.judge_at(0, &message).unwrap().unwrap_err().number, 53);
+}

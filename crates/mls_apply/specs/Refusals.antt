@@ -50,6 +50,7 @@ number_of refusals.ReInitNotAlone = 35
 number_of refusals.JoinList = 36
 number_of refusals.ResyncInvalid = 37
 number_of (refusals.Strict r) = strict_number r
+number_of refusals.LifetimeOutside = 53
 
 -- `name_of e` is the name of a refusal. A report adds the fault of a leaf node to Member.
 abbrev pub name_of : Refusal → List ℕ
@@ -92,6 +93,7 @@ name_of refusals.ReInitNotAlone = codes "ReInitNotAlone"
 name_of refusals.JoinList = codes "JoinList"
 name_of refusals.ResyncInvalid = codes "ResyncInvalid"
 name_of (refusals.Strict r) = strict_name r
+name_of refusals.LifetimeOutside = codes "LifetimeOutside"
 
 -- `member_refusal fault` is the same fault of a leaf node as a refusal.
 abbrev pub member_refusal : MemberFault → Refusal

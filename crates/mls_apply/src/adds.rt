@@ -7,6 +7,7 @@ ghost use Rattle.mls_tree.specs.Tree.{leaf_count, member_count};
 ghost use Rattle.mls_tree.specs.BlankLeaves.{first_blank_leaf, next_blank_leaf, AreNonBlankBelow};
 ghost use Rattle.mls_tree.specs.TreeOperations.{added_leaf, extended_if_full, add_all_unmerged, overfills, number_or};
 ghost use Rattle.mls_tree.specs.Journals.{before};
+ghost use Rattle.mls_tree.specs.LoggedHashes.{HasRightHashes};
 ghost use Rattle.mls_apply.specs.AppliedList.{after_adds, applied_tree, new_members};
 ghost use Rattle.mls_apply.specs.AddSteps.{PutsMember};
 ghost use Rattle.mls_apply.specs.Outline.{IsOutline};
@@ -35,6 +36,7 @@ pub(crate) fn leaf_for_member(
     ensures tree { OnOk result
         (tree.new.tree ≡ extended_if_full (first_blank_leaf 0 tree.old.tree) tree.old.tree) }
     ensures before { before journal.new tree.new.tree ≡ before journal.old tree.old.tree }
+    ensures hashes { HasRightHashes journal.old tree.old.tree → HasRightHashes journal.new tree.new.tree }
 {
     if let Some(index) = tree.next_blank_leaf(start) {
         return Ok(index);
@@ -60,6 +62,7 @@ fn put_member(
     requires capacity { member_count tree.old.tree < leaf_limit }
     ensures put { IfOk result (λ j. PutsMember tree.old.tree leaf.now j tree.new.tree) }
     ensures before { before journal.new tree.new.tree ≡ before journal.old tree.old.tree }
+    ensures hashes { HasRightHashes journal.old tree.old.tree → HasRightHashes journal.new tree.new.tree }
 {
     let index = leaf_for_member(tree, journal, start)?;
     put_shared(alloc, tree, journal, index, leaf)?;
@@ -82,6 +85,7 @@ fn add_unmerged(
     ensures possible_errors { IfErr result (λ e.
         (e ≡ ApplyFault.TooManyLeaves) ⊎ (e ≡ ApplyFault.OutOfMemory)) }
     ensures before { before journal.new tree.new.tree ≡ before journal.old tree.old.tree }
+    ensures hashes { HasRightHashes journal.old tree.old.tree → HasRightHashes journal.new tree.new.tree }
 {
     match journal.add_all_unmerged(alloc, tree, added) {
         Ok(()) => Ok(()),
@@ -108,6 +112,7 @@ pub(crate) fn apply_adds(
     ensures possible_errors { IfErr result (λ e.
         (e ≡ ApplyFault.TooManyLeaves) ⊎ (e ≡ ApplyFault.OutOfMemory)) }
     ensures before { before journal.new tree.new.tree ≡ before journal.old tree.old.tree }
+    ensures hashes { HasRightHashes journal.old tree.old.tree → HasRightHashes journal.new tree.new.tree }
 {
     let mut added = Vec::new(alloc);
     let mut start = 0;

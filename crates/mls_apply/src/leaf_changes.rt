@@ -4,6 +4,7 @@ ghost use Rattle.std.specs.Prelude.{◌≡◌, ◌<◌, Some, None, IfOk, OnOk};
 ghost use Rattle.mls_tree.specs.Tree.{leaf_count};
 ghost use Rattle.mls_tree.specs.TreeOperations.{put_leaf, blank_path};
 ghost use Rattle.mls_tree.specs.Journals.{before};
+ghost use Rattle.mls_tree.specs.LoggedHashes.{HasRightHashes};
 
 use mls_nodes::EncodedLeaf;
 use mls_tree::{Journal, PublicTree};
@@ -31,6 +32,7 @@ pub(crate) fn put_shared(
     requires { index < leaf_count tree.old.tree }
     ensures put { OnOk result (tree.new.tree ≡ put_leaf 0 tree.old.tree index (Some leaf.now)) }
     ensures before { before journal.new tree.new.tree ≡ before journal.old tree.old.tree }
+    ensures hashes { HasRightHashes journal.old tree.old.tree → HasRightHashes journal.new tree.new.tree }
 {
     let leaf = leaf_of(alloc, leaf)?;
     journal.set_leaf(tree, index, Some(leaf))?;

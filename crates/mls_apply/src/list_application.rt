@@ -2,6 +2,7 @@
 
 ghost use Rattle.std.specs.Prelude.{◌≡◌, Err, Some, None, IfOk, IsSome};
 ghost use Rattle.mls_tree.specs.Journals.{before};
+ghost use Rattle.mls_tree.specs.LoggedHashes.{HasRightHashes};
 ghost use Rattle.mls_apply.specs.AppliedList.{outcome, without_adds, applied_tree, ExceedsCapacity};
 
 use crate::adds::apply_adds;
@@ -41,6 +42,7 @@ fn apply_items(
     ensures too_many_leaves { result ≡ Err ApplyFault.TooManyLeaves
         → IsSome (without_adds items.now tree.old.tree) × (outcome items.now tree.old.tree ≡ None) }
     ensures before { before journal.new tree.new.tree ≡ before journal.old tree.old.tree }
+    ensures hashes { HasRightHashes journal.old tree.old.tree → HasRightHashes journal.new tree.new.tree }
 {
     apply_updates(alloc, tree, journal, items)?;
     apply_removes(alloc, tree, journal, items)?;
@@ -63,6 +65,7 @@ pub fn apply_list_in_place(
         → IsSome (without_adds items.now tree.old.tree) × (outcome items.now tree.old.tree ≡ None) }
     ensures no_room { ExceedsCapacity items.now tree.old.tree → result ≡ Err ApplyFault.TooManyLeaves }
     ensures before { before journal.new tree.new.tree ≡ before journal.old tree.old.tree }
+    ensures hashes { HasRightHashes journal.old tree.old.tree → HasRightHashes journal.new tree.new.tree }
 {
     if exceeds_capacity(tree, items) {
         return Err(ApplyFault::TooManyLeaves);

@@ -2,6 +2,7 @@
 
 ghost use Rattle.std.specs.Prelude.{◌≡◌, Err, None, IfOk, IsSome, OnOk};
 ghost use Rattle.mls_tree.specs.Journals.{before};
+ghost use Rattle.mls_tree.specs.LoggedHashes.{HasRightHashes};
 ghost use Rattle.mls_apply.specs.AppliedList.{outcome, without_adds, ExceedsCapacity};
 ghost use Rattle.mls_apply.specs.Outline.{IsOutline};
 
@@ -31,6 +32,7 @@ fn fit_items(
     ensures too_many_leaves { result ≡ Err ApplyFault.TooManyLeaves
         → IsSome (without_adds items.now tree.old.tree) × (outcome items.now tree.old.tree ≡ None) }
     ensures before { before journal.new tree.new.tree ≡ before journal.old tree.old.tree }
+    ensures hashes { HasRightHashes journal.old tree.old.tree → HasRightHashes journal.new tree.new.tree }
 {
     apply_updates(alloc, tree, journal, items)?;
     apply_removes(alloc, tree, journal, items)?;
@@ -54,6 +56,7 @@ pub(crate) fn check_list_fits(
     ensures too_many_leaves { result ≡ Err ApplyFault.TooManyLeaves
         → IsSome (without_adds items.now tree.old.tree) × (outcome items.now tree.old.tree ≡ None) }
     ensures before { before journal.new tree.new.tree ≡ before journal.old tree.old.tree }
+    ensures hashes { HasRightHashes journal.old tree.old.tree → HasRightHashes journal.new tree.new.tree }
 {
     if exceeds_capacity(tree, items) {
         return Err(ApplyFault::TooManyLeaves);

@@ -5,6 +5,7 @@
 ghost use Rattle.std.specs.Prelude.{◌≡◌, ◌<◌, Some, All, IfOk, IsSome, OnOk, [], length, map, reverse};
 ghost use Rattle.mls_tree.specs.TreeOperations.{blank_path, put_leaf};
 ghost use Rattle.mls_tree.specs.Journals.{before};
+ghost use Rattle.mls_tree.specs.LoggedHashes.{HasRightHashes};
 ghost use Rattle.mls_tree.specs.Tree.{leaf_count, subtree_at, IsParentNodeIndex};
 ghost use Rattle.mls_hash.specs.SuiteHash.{hash_of};
 ghost use Rattle.mls_hash.specs.WithoutLeaves.{tree_hash_at};
@@ -13,7 +14,7 @@ ghost use Rattle.mls_apply.specs.PathParents.{away_at, changed, path_hash_at, pa
 ghost use Rattle.mls_apply.specs.PathModel.{change_of, path_parents_model};
 
 use crate::leaf_changes::blank_direct_path;
-use mls_hash::{HashFault, Suite, fill_hashes, filled_hash, parent_hash_of, tree_hash};
+use mls_hash::{HashFault, Suite, filled_hash, parent_hash_of, tree_hash};
 use mls_nodes::{EncodedLeaf, ParentNode, Unmerged};
 use mls_tree::{HashValue, Journal, Part, PublicTree};
 use mls_wire::{Opaque, Shared};
@@ -65,17 +66,6 @@ pub(crate) fn copath_child(tree: &PublicTree, leaf: u32, node_index: u32) -> u32
         unreachable!()
     };
     if leaf < middle { right } else { left }
-}
-
-/// Fills the hash cache of a tree, so that each subtree is hashed once.
-pub(crate) fn fill(alloc: Global, suite: Suite, tree: &mut PublicTree) -> Result<(), AllocError>
-    ensures tree { tree.new.tree ≡ tree.old.tree }
-{
-    match fill_hashes(alloc, suite, tree) {
-        Ok(_) => Ok(()),
-        Err(HashFault::OutOfMemory) => Err(AllocError),
-        Err(_) => unreachable!(),
-    }
 }
 
 /// Fills the hash cache of a tree at a node index, and below it.
@@ -224,6 +214,7 @@ fn put_parents_in_place(
     ensures put { OnOk result
         (tree.new.tree ≡ changed 0 tree.old.tree (map change_of parents.items)) }
     ensures before { before journal.new tree.new.tree ≡ before journal.old tree.old.tree }
+    ensures hashes { HasRightHashes journal.old tree.old.tree → HasRightHashes journal.new tree.new.tree }
 {
     while let Some(parent) = parents.pop() {
         journal.put_parent(tree, parent.node_index, Some(parent.node))?;
@@ -245,6 +236,7 @@ pub(crate) fn put_path_in_place(
         put_leaf 0 (changed 0 (blank_path tree.old.tree leaf) (map change_of new.parents.items))
         leaf (Some new.leaf)) }
     ensures before { before journal.new tree.new.tree ≡ before journal.old tree.old.tree }
+    ensures hashes { HasRightHashes journal.old tree.old.tree → HasRightHashes journal.new tree.new.tree }
 {
     let NewNodes {
         leaf: node,

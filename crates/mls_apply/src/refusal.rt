@@ -136,9 +136,13 @@ pub enum Refusal {
     /// signature key (RFC 9420, 12.4.3.2).
     #[error("an external commit removes another client than its own")]
     ResyncInvalid,
-    /// A strict rule of the follower's set is not met (own rule). It is the last to be checked.
+    /// A strict rule of the follower's set is not met (own rule). These are checked after the rules of the profile.
     #[error("{0}")]
     Strict(StrictRule),
+    /// The message adds a client by a KeyPackage whose lifetime does not include the time that was handed in (RFC 9420, 7.2
+    /// and 10.1). It is the last to be checked.
+    #[error("an added key package is not valid at this time")]
+    LifetimeOutside,
     /// An allocation failed. It says nothing of the message.
     #[error("out of memory")]
     OutOfMemory,
@@ -148,8 +152,8 @@ impl Refusal {
     ghost use Rattle.std.specs.Prelude.{◌≡◌};
     ghost use Rattle.mls_apply.specs.Refusals.{number_of, name_of};
 
-    /// Returns the number by which reports name the refusal: 0 for `OutOfMemory`, that of the rule for `Strict`, else
-    /// from 1 on in the order of the variants.
+    /// Returns the number by which reports name the refusal: 0 for `OutOfMemory`, that of the rule for `Strict`, 53 for
+    /// `LifetimeOutside`, else from 1 on in the order of the variants.
     pub fn number(&self) -> u8
         ensures { result ≡ number_of self.now }
     {
@@ -193,6 +197,7 @@ impl Refusal {
             Refusal::JoinList => 36,
             Refusal::ResyncInvalid => 37,
             Refusal::Strict(rule) => rule.number(),
+            Refusal::LifetimeOutside => 53,
         }
     }
 
@@ -241,6 +246,7 @@ impl Refusal {
             Refusal::JoinList => "JoinList",
             Refusal::ResyncInvalid => "ResyncInvalid",
             Refusal::Strict(rule) => rule.name(),
+            Refusal::LifetimeOutside => "LifetimeOutside",
         }
     }
 }

@@ -5,6 +5,7 @@ ghost use Rattle.mls_tree.specs.Tree.{leaf_at};
 ghost use Rattle.mls_apply.specs.AppliedList.{after_removes};
 ghost use Rattle.mls_tree.specs.TreeOperations.{put_leaf, blank_path};
 ghost use Rattle.mls_tree.specs.Journals.{before};
+ghost use Rattle.mls_tree.specs.LoggedHashes.{HasRightHashes};
 
 use crate::fault::ApplyFault;
 use crate::list_item::ListItem;
@@ -28,6 +29,7 @@ fn clear_leaf(
     ensures possible_errors { IfErr result (λ e.
         (e ≡ ApplyFault.NoSuchLeaf) ⊎ (e ≡ ApplyFault.OutOfMemory)) }
     ensures before { before journal.new tree.new.tree ≡ before journal.old tree.old.tree }
+    ensures hashes { HasRightHashes journal.old tree.old.tree → HasRightHashes journal.new tree.new.tree }
 {
     if tree.leaf(index).is_none() {
         return Err(ApplyFault::NoSuchLeaf);
@@ -50,6 +52,7 @@ pub(crate) fn apply_removes(
     ensures possible_errors { IfErr result (λ e.
         (e ≡ ApplyFault.NoSuchLeaf) ⊎ (e ≡ ApplyFault.OutOfMemory)) }
     ensures before { before journal.new tree.new.tree ≡ before journal.old tree.old.tree }
+    ensures hashes { HasRightHashes journal.old tree.old.tree → HasRightHashes journal.new tree.new.tree }
 {
     let mut has_removed = false;
     for item in items {

@@ -3,7 +3,7 @@
 //! A proposal list and a path change a large tree in place, and the tree after both is checked from its changes. A
 //! [`StagedTree`] has what this needs. Until they are made final, the changes can be undone.
 
-ghost use Rattle.std.specs.Prelude.{◌≡◌, ◌≢◌, ◌<◌, ◌≤◌, ◌↔◌, ◌⊎◌, Err, None, Some, IsSome, IfOk, IfErr, OnOk, true};
+ghost use Rattle.std.specs.Prelude.{◌≡◌, ◌≢◌, ◌<◌, ◌≤◌, ◌↔◌, ◌⊎◌, Err, None, Some, IsSome, IsTrue, IfOk, IfErr, OnOk, true};
 ghost use Rattle.mls_hash.specs.SuiteHash.{hash_of};
 ghost use Rattle.mls_tree.specs.ChangedNodes.{AgreeExceptAt};
 ghost use Rattle.mls_tree.specs.Journals.{before};
@@ -26,12 +26,12 @@ use crate::fault::ApplyFault;
 use crate::list_application::{Leaves, apply_list_in_place};
 use crate::list_fit::check_list_fits;
 use crate::list_item::ListItem;
-use crate::new_parents::{fill, put_path_in_place};
+use crate::new_parents::put_path_in_place;
 use crate::path_merge::{check_keys_and_counts, filled_nodes, fitting_node_indices};
 use crate::refusal::Refusal;
 use crate::requirements::same_requirements;
-use mls_check::{MemberFault, OutOfMemory, SignatureCheck, first_unmet_requirement};
-use mls_hash::{Suite, tree_hash};
+use mls_check::{MemberFault, OutOfMemory, SignatureCheck};
+use mls_hash::{HashFault, Suite, filled_hash};
 use mls_index::{KeyKind, LeafRule, LeafRules, TreeIndex, first_changed_failing};
 use mls_nodes::RequiredCapabilities;
 use mls_tree::{HashValue, Journal, PublicTree};
@@ -270,7 +270,7 @@ impl StagedTree {
 
     /// Returns the smallest leaf index of a leaf whose capabilities lack what `rules` require (RFC 9420, 7.3). Each leaf of
     /// the tree before the changes must satisfy `former`. If these are the same requirements, only the changed leaves are
-    /// checked; else all are.
+    /// checked; else all are. `unchanged` says that they are the same, so that long lists need not be compared.
     ///
     /// # Errors
     ///
@@ -279,16 +279,18 @@ impl StagedTree {
         &self,
         alloc: Global,
         former: &RequiredCapabilities,
+        unchanged: bool,
         rules: &LeafRules<'_, C>,
     ) -> Result<Option<u32>, OutOfMemory>
         requires is_index_of_tree { self.now.indexed ≡ true }
+        requires unchanged { IsTrue unchanged → former.now ≡ rules.now.required.now }
         requires rules_hold { all_leaves (λ _ x. supports_required former.now x) 0 self.now.base ≡ true }
         ensures { IfOk result (FindsFailing (λ _ x. supports_required rules.now.required.now x) self.now.tree) }
     {
-        if same_requirements(former, rules.required) {
+        if same_requirements(former, rules.required.required(), unchanged) {
             return self.first_failing(alloc, rules, LeafRule::Requirements);
         }
-        first_unmet_requirement(alloc, &self.tree, rules.required)
+        rules.required.first_unmet(alloc, &self.tree)
     }
 
     /// Returns the smallest leaf index of a leaf that does not support the credential type of some leaf. The index has
@@ -317,8 +319,8 @@ impl StagedTree {
     /// Checks that every non-blank leaf of the tree is a valid leaf node (RFC 9420, 7.3), as
     /// [`mls_check::validate_members`] does. Those of the tree before the changes must be, under what the group required
     /// then, `former`. Rules that need no other leaf are checked of the changed leaves alone, except what the group
-    /// requires: if that changes, all leaves are checked. The others are decided by the index, which also has the first
-    /// leaf that fails one.
+    /// requires: if that changes, all leaves are checked. `unchanged` says that it does not. The others are decided by the
+    /// index, which also has the first leaf that fails one.
     ///
     /// # Errors
     ///
@@ -327,9 +329,11 @@ impl StagedTree {
         &self,
         alloc: Global,
         former: &RequiredCapabilities,
+        unchanged: bool,
         rules: &LeafRules<'_, C>,
     ) -> Result<(), MemberFault>
         requires is_index_of_tree { self.now.indexed ≡ true }
+        requires unchanged { IsTrue unchanged → former.now ≡ rules.now.required.now }
         requires rules_hold { LeavesAreValid (C.meaning rules.now.checker.now) rules.now.context.now.cipher_suite
             rules.now.context.now.group_id former.now self.now.base }
         ensures members { OnOk result (LeavesAreValid (C.meaning rules.now.checker.now)
@@ -340,7 +344,7 @@ impl StagedTree {
         if let Some(leaf) = self.first_failing(alloc, rules, LeafRule::Extensions)? {
             return Err(MemberFault::ExtensionUnlisted(leaf));
         }
-        if let Some(leaf) = self.first_unmet(alloc, former, rules)? {
+        if let Some(leaf) = self.first_unmet(alloc, former, unchanged, rules)? {
             return Err(MemberFault::RequirementUnmet(leaf));
         }
         if let Some(leaf) = self.first_unsupported() {
@@ -355,14 +359,15 @@ impl StagedTree {
         Ok(())
     }
 
-    /// The tree hash of the tree (RFC 9420, 7.8). The empty slots of its cached tree hashes are filled,
-    /// and nothing else is hashed or changes.
+    /// Returns the tree hash of the tree (RFC 9420, 7.8). Empty cache slots are filled, from the root down to filled ones:
+    /// what is below a filled slot is not hashed. The hashes of blank subtrees of a tree that was extended are computed
+    /// once. Nothing else changes.
     pub fn hash(&mut self, alloc: Global, suite: Suite) -> Result<HashValue, AllocError>
         ensures unchanged { self.new ≡ self.old }
         ensures hash { IfOk result (λ hash. tree_hash (hash_of suite) 0 self.old.tree ≡ Some hash) }
     {
-        fill(alloc, suite, &mut self.tree)?;
-        Ok(root_hash(suite, &self.tree))
+        self.blank_hashes.fill(alloc, suite, &mut self.tree)?;
+        root_hash(alloc, suite, &mut self.tree)
     }
 
     /// Makes the changes final: the tree as it is becomes the base. Does not allocate.
@@ -380,7 +385,8 @@ impl StagedTree {
         self.clean = true;
     }
 
-    /// Undoes the changes: the tree is the base again. Does not allocate.
+    /// Undoes the changes: the tree is the base again. The cached hashes of long nodes that the changes cleared are put back
+    /// ([`Journal::rollback_with_hashes`]). Does not allocate.
     pub fn rollback(&mut self)
         ensures base { self.new.base ≡ self.old.base }
         ensures tree { self.new.tree ≡ self.old.base }
@@ -389,16 +395,19 @@ impl StagedTree {
         self.staged_nodes = None;
         self.index.revert();
         self.clean = true;
-        self.journal.rollback(&mut self.tree);
+        self.journal.rollback_with_hashes(&mut self.tree);
     }
 }
 
-/// Returns the tree hash of a tree (RFC 9420, 7.8).
-fn root_hash(suite: Suite, tree: &PublicTree) -> HashValue
-    ensures { tree_hash (hash_of suite) 0 tree.now.tree ≡ Some result }
+/// Returns the tree hash of a tree (RFC 9420, 7.8), and fills the cache slots that it takes.
+fn root_hash(alloc: Global, suite: Suite, tree: &mut PublicTree) -> Result<HashValue, AllocError>
+    ensures tree { tree.new.tree ≡ tree.old.tree }
+    ensures hash { IfOk result (λ hash. tree_hash (hash_of suite) 0 tree.old.tree ≡ Some hash) }
 {
-    match tree_hash(suite, tree, tree.leaf_count() - 1) {
-        Ok(hash) => hash,
+    let root = tree.leaf_count() - 1;
+    match filled_hash(alloc, suite, tree, root) {
+        Ok(hash) => Ok(hash),
+        Err(HashFault::OutOfMemory) => Err(AllocError),
         Err(_) => unreachable!(),
     }
 }

@@ -4,6 +4,7 @@ ghost use Rattle.std.specs.Prelude.{◌≡◌, ◌⊎◌, ◌∷◌, List, Some,
 ghost use Rattle.mls_tree.specs.Tree.{Tree, leaf_at};
 ghost use Rattle.mls_tree.specs.TreeOperations.{update};
 ghost use Rattle.mls_tree.specs.Journals.{before};
+ghost use Rattle.mls_tree.specs.LoggedHashes.{HasRightHashes};
 ghost use Rattle.mls_apply.specs.AppliedList.{after_updates};
 ghost use Rattle.mls_apply.specs.LastUpdates.{AreApplied};
 ghost use Rattle.mls_apply.specs.declared.list_item.ListItem.{ListItem as Item};
@@ -30,6 +31,7 @@ fn replace_leaf(
     requires { IsSome (leaf_at 0 tree.old.tree index) }
     ensures updated { OnOk result (tree.new.tree ≡ update tree.old.tree index leaf.now) }
     ensures before { before journal.new tree.new.tree ≡ before journal.old tree.old.tree }
+    ensures hashes { HasRightHashes journal.old tree.old.tree → HasRightHashes journal.new tree.new.tree }
 {
     put_shared(alloc, tree, journal, index, leaf)?;
     journal.blank_path(alloc, tree, index)?;
@@ -55,6 +57,7 @@ fn apply_update(
     ensures possible_errors { IfErr result (λ e.
         (e ≡ ApplyFault.NoSuchLeaf) ⊎ (e ≡ ApplyFault.OutOfMemory)) }
     ensures before { before journal.new tree.new.tree ≡ before journal.old tree.old.tree }
+    ensures hashes { HasRightHashes journal.old tree.old.tree → HasRightHashes journal.new tree.new.tree }
 {
     let Proposal::Update(leaf) = item.proposal else {
         return Ok(());
@@ -85,6 +88,7 @@ pub(crate) fn apply_updates(
     ensures possible_errors { IfErr result (λ e.
         (e ≡ ApplyFault.NoSuchLeaf) ⊎ (e ≡ ApplyFault.OutOfMemory)) }
     ensures before { before journal.new tree.new.tree ≡ before journal.old tree.old.tree }
+    ensures hashes { HasRightHashes journal.old tree.old.tree → HasRightHashes journal.new tree.new.tree }
 {
     let mut replaced = BTreeSet::new(alloc);
     for index in (0..items.len()).rev() {

@@ -6,8 +6,8 @@ use Rattle.mls_signatures.specs.declared.signature_to_verify.SignatureToVerify.{
 use Rattle.mls_follow.specs.Acceptance.{EncodesNoMessage}
 use Rattle.mls_follow.specs.MessageHeader.{HasNoHeader, IsUnreadMessage}
 use Rattle.mls_follow.specs.MessageSignatures.{AreSignaturesOf}
-use Rattle.mls_follow.specs.Runs.{IsTransition}
 use Rattle.mls_follow.specs.StoredState.{EncodesState, HasNoFile}
+use Rattle.mls_follow.specs.TimedAcceptance.{IsTransitionAt}
 use Rattle.mls_apply.specs.declared.refusal.Refusal.{Refusal}
 use Rattle.mls_apply.specs.declared.refusal.Refusal.TheVariants as refusals
 use Rattle.mls_follow.specs.declared.taken.Taken.{Taken}
@@ -63,22 +63,24 @@ put_reference (Ok (Proposal reference)) old = put reference old
 put_reference (Ok (Commit epoch)) old = old
 put_reference (Err e) old = old
 
--- `ProcessesMessage f g message answer`: the follower processed the message with this result (`Follower::take`). Bytes
--- that are too long or have no header of a message, and messages that are not read, are refused even without memory.
-pub record ProcessesMessage (f g : GroupFollower) (message : List ℕ) (answer : Result Taken Refusal) : Type 0 where
-  pub takes : IsTransition (meaning_in f) (state_in f) message answer (state_in g)
+-- `ProcessesMessage now f g message answer`: the follower processed the message at the time `now`, if one is handed in, with
+-- this result (`Follower::take_at`). Bytes that are too long or have no header of a message, and messages that are not read,
+-- are refused even without memory.
+pub record ProcessesMessage (now : Option ℕ) (f g : GroupFollower) (message : List ℕ) (answer : Result Taken Refusal)
+    : Type 0 where
+  pub takes : IsTransitionAt now (meaning_in f) (state_in f) message answer (state_in g)
   pub meaning : meaning_in g ≡ meaning_in f
   pub limit : input_limit < length message → answer ≡ Err refusals.Malformed
   pub header : HasNoHeader message → answer ≡ Err refusals.Malformed
   pub unread : IsUnreadMessage message → answer ≡ Err refusals.NotPublic
 
--- `Judges f g message old new j`: the follower processed the message, and the judgement is its answer. If the buffer is
--- too small for a reference, the message was not processed.
-pub data Judges (f g : GroupFollower) (message old new : List ℕ) (j : Judgement) : Type 0 where
+-- `Judges now f g message old new j`: the follower processed the message at the time `now`, if one is handed in, and the
+-- judgement is its answer. If the buffer is too small for a reference, the message was not processed.
+pub data Judges (now : Option ℕ) (f g : GroupFollower) (message old new : List ℕ) (j : Judgement) : Type 0 where
   too_small : length old < reference_size → j ≡ not_judged buffer_too_small → g ≡ f → new ≡ old
-      → Judges f g message old new j
-  judges : (answer : Result Taken Refusal) → reference_size ≤ length old → ProcessesMessage f g message answer
-      → j ≡ judgement_of answer → new ≡ put_reference answer old → Judges f g message old new j
+      → Judges now f g message old new j
+  judges : (answer : Result Taken Refusal) → reference_size ≤ length old → ProcessesMessage now f g message answer
+      → j ≡ judgement_of answer → new ≡ put_reference answer old → Judges now f g message old new j
 
 -- ---- the state
 

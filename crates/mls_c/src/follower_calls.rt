@@ -86,14 +86,20 @@ impl GroupFollower {
         }
     }
 
-    /// Processes a message, and puts the reference of a proposal that is accepted into a buffer.
-    pub(crate) fn judge(&mut self, message: &[u8], reference: &mut [u8]) -> Judgement
-        ensures { Judges self.old self.new message.now reference.old reference.new result }
+    /// Processes a message at the time `now`, if one is handed in, and puts the reference of a proposal that is accepted into a
+    /// buffer.
+    pub(crate) fn judge(
+        &mut self,
+        now: Option<u64>,
+        message: &[u8],
+        reference: &mut [u8],
+    ) -> Judgement
+        ensures { Judges now self.old self.new message.now reference.old reference.new result }
     {
         if reference.len() < REFERENCE_SIZE {
             return not_judged(BUFFER_TOO_SMALL);
         }
-        let answer = self.follower.take(message);
+        let answer = self.follower.take_at(now, message);
         put_reference(&answer, reference);
         judgement_of(&answer)
     }

@@ -1,6 +1,6 @@
 //! The calls on a follower, for a caller in another language.
 
-ghost use Rattle.std.specs.Prelude.{◌≡◌, None, IfSome};
+ghost use Rattle.std.specs.Prelude.{◌≡◌, Some, None, IfSome};
 ghost use Rattle.mls_tree.specs.Tree.{member_count};
 ghost use Rattle.mls_msgs.specs.Rules.{rule_bits};
 ghost use Rattle.mls_msgs.specs.declared.rules.Rules.{Rules};
@@ -225,8 +225,8 @@ pub extern "C" fn mls_follower_learn(
     number
 }
 
-/// Processes a message (RFC 9420, 6), and accepts it if it satisfies every rule. A message that is refused changes nothing.
-/// The reference of a proposal that is accepted (5.2) is put into the buffer `reference`.
+/// Processes a message (RFC 9420, 6) without a time, and accepts it if it satisfies every rule. A message that is refused
+/// changes nothing. The reference of a proposal that is accepted (5.2) is put into the buffer `reference`.
 #[unsafe(no_mangle)]
 pub extern "C" fn mls_follower_judge(
     alloc: Global,
@@ -237,12 +237,35 @@ pub extern "C" fn mls_follower_judge(
     ensures none { follower.old.value ≡ None → (result ≡ numbers.not_judged no_follower)
         × (reference.new ≡ reference.old) }
     ensures judges { Moves follower.old.value follower.new.value
-        (λ f g. Judges f g message.now reference.old reference.new result) }
+        (λ f g. Judges None f g message.now reference.old reference.new result) }
 {
     let Some(mut open) = follower.take(alloc) else {
         return not_judged(NO_FOLLOWER);
     };
-    let judgement = open.judge(message, reference);
+    let judgement = open.judge(None, message, reference);
+    follower.put(open);
+    judgement
+}
+
+/// Processes a message as `mls_follower_judge` does, at the time `now`, in seconds since 1970: the lifetime of the leaf node
+/// of each Add that the message has by value must include it (RFC 9420, 7.2, 7.3 and 10.1). This is the last rule.
+#[unsafe(no_mangle)]
+pub extern "C" fn mls_follower_judge_at(
+    alloc: Global,
+    follower: &mut FollowerHandle,
+    now: u64,
+    message: &[u8],
+    reference: &mut [u8],
+) -> Judgement
+    ensures none { follower.old.value ≡ None → (result ≡ numbers.not_judged no_follower)
+        × (reference.new ≡ reference.old) }
+    ensures judges { Moves follower.old.value follower.new.value
+        (λ f g. Judges (Some now) f g message.now reference.old reference.new result) }
+{
+    let Some(mut open) = follower.take(alloc) else {
+        return not_judged(NO_FOLLOWER);
+    };
+    let judgement = open.judge(Some(now), message, reference);
     follower.put(open);
     judgement
 }

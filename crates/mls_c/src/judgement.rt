@@ -11,7 +11,7 @@ use mls_follow::{Refusal, Taken};
 #[repr(C)]
 #[derive(Clone, Copy)]
 pub struct Judgement {
-    /// 0 if the message is accepted, from 1 to 52 the first rule that it fails; from 100 on it was not processed.
+    /// 0 if the message is accepted, from 1 to 53 the first rule that it fails; from 100 on it was not processed.
     pub number: u32,
     /// 1 for a proposal that is accepted, 2 for a commit, otherwise 0.
     pub kind: u32,

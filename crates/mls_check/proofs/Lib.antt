@@ -23,6 +23,7 @@ pub mod Distinctness
 pub mod Decided
 pub mod Chains
 pub mod Faulted
+pub mod CodeSets
 pub mod IncreasingCodes
 pub mod OwnLeaves
 pub mod SortedLists

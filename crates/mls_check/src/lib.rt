@@ -3,8 +3,10 @@
 #![tactic(auto)]
 
 mod capability_support;
+mod code_set;
 mod credential_types;
 mod distinct_keys;
+mod group_requirements;
 mod group_tree;
 mod key_prefixes;
 pub mod laws;
@@ -28,6 +30,7 @@ pub use capability_support::{
 };
 pub use credential_types::first_unsupported_credential;
 pub use distinct_keys::has_distinct_keys;
+pub use group_requirements::GroupRequirements;
 pub use group_tree::{GroupTreeFault, validate_group_tree};
 pub use members::{
     LEAF_NODE_TBS, MemberFault, first_unmet_requirement, is_leaf_signed, validate_members,

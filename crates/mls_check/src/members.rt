@@ -7,8 +7,10 @@ ghost use Rattle.mls_nodes.specs.LeafNodeTBS.{leaf_tbs};
 ghost use Rattle.mls_tree.specs.Tree.{leaf_at};
 ghost use Rattle.mls_check.specs.Signatures.{VerifyFn};
 ghost use Rattle.mls_check.specs.LeafValidation.{LeavesAreValid, IsMemberFault, FindsFailing, member_number, supports_required, is_leaf_signed};
+ghost use Rattle.mls_check.specs.SortedRequirements.{requirements_of};
 
-use crate::capability_support::supports_required;
+use crate::capability_support::supports_required_by;
+use crate::code_set::CodeSet;
 use crate::plain_leaves::{are_plain, first_unlisted_extension, first_unsupported};
 use crate::signature_keys::first_repeated_signature_key;
 use crate::signatures::{OutOfMemory, SignatureCheck};
@@ -126,10 +128,24 @@ pub fn first_unmet_requirement(
     ensures { IfOk result
         (FindsFailing (λ _ x. supports_required requirements.now x) tree.now.tree) }
 {
-    let increasing = SortedRequirements::new(alloc, requirements)?;
+    let sorted = SortedRequirements::new(alloc, requirements)?;
+    first_unsupporting(alloc, tree, &sorted)
+}
+
+/// Returns the smallest leaf index of a leaf whose capabilities lack what the group requires (RFC 9420, 7.3). Time is
+/// linear in the size of the tree, however much is required.
+pub(crate) fn first_unsupporting(
+    alloc: Global,
+    tree: &PublicTree,
+    requirements: &SortedRequirements,
+) -> Result<Option<u32>, OutOfMemory>
+    ensures { IfOk result
+        (FindsFailing (λ _ x. supports_required (requirements_of requirements.now) x) tree.now.tree) }
+{
+    let mut set = CodeSet::new(alloc);
     for index in 0..tree.leaf_count() {
         if let Some(leaf) = tree.leaf(index) {
-            if !supports_required(alloc, leaf, &increasing)? {
+            if !supports_required_by(&mut set, leaf, requirements)? {
                 return Ok(Some(index));
             }
         }

@@ -23,7 +23,7 @@ pub struct SortedRequirements {
 }
 
 impl SortedRequirements {
-    ghost use Rattle.std.specs.Prelude.{IfOk};
+    ghost use Rattle.std.specs.Prelude.{◌≡◌, ◌↔◌, [], IfOk, IsTrue};
     ghost use Rattle.mls_check.specs.SortedRequirements.{RequireSame, requirements_of};
 
     /// Returns requirements that each leaf satisfies if and only if it satisfies those that are passed: their lists,
@@ -46,5 +46,12 @@ impl SortedRequirements {
             proposals,
             credentials,
         })
+    }
+
+    /// Returns whether nothing is required.
+    pub(crate) fn is_empty(&self) -> bool
+        ensures { IsTrue result ↔ (requirements_of self.now ≡ record { extensions = []; proposals = []; credentials = [] }) }
+    {
+        self.extensions.is_empty() && self.proposals.is_empty() && self.credentials.is_empty()
     }
 }

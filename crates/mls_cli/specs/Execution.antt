@@ -11,7 +11,7 @@ use Rattle.mls_commands.specs.declared.order.GroupReport.{GroupReport}
 use Rattle.mls_commands.specs.declared.order.GroupReport.TheVariants.{ValidateTree, Validate, Replay, Signatures, Gate}
 use Rattle.mls_commands.specs.declared.order.Order.{Order}
 use Rattle.mls_commands.specs.declared.order.Order.TheVariants.{Show, Group, Check}
-use Rattle.mls_commands.specs.declared.order.ReplayFiles.{ReplayFiles}
+use Rattle.mls_commands.specs.declared.order.ReplayOptions.{ReplayOptions}
 use Rattle.mls_msgs.specs.declared.rules.Rules.{Rules}
 use Rattle.mls_follow.specs.State as follower
 use Rattle.mls_follow.specs.StoredState.{EncodesState, HasNoFile}
@@ -120,23 +120,23 @@ module _ {File : Type 0} (F : Opener File) where
       → ReportResult → Type 0
   EndsReplay save Whole Part out1 outcome = EndsWhole save Whole out1 outcome ⊎ EndsPart Part out1 outcome
 
-  -- `RunsReplay G i files ..`: the log was opened, and the report `replay` was made of it.
-  pub record RunsReplay (G : VerifyFn) (i : Inputs) (files : ReplayFiles) (out0 out1 : Device)
+  -- `RunsReplay G i options ..`: the log was opened, and the report `replay` was made of it, at the time of the options.
+  pub record RunsReplay (G : VerifyFn) (i : Inputs) (options : ReplayOptions) (out0 out1 : Device)
       (outcome : ReportResult) : Type 0 where
     pub opened : File
     pub ended : File
-    pub given : F.gives files.log opened
-    pub replayed : EndsReplay files.save
-        (Replays G i (F.device opened).bytes (F.device ended).bytes out0.bytes out1.bytes)
-        (ReplaysPart G i (F.device opened).bytes (F.device ended).bytes out0.bytes out1.bytes)
+    pub given : F.gives options.log opened
+    pub replayed : EndsReplay options.save
+        (Replays options.time G i (F.device opened).bytes (F.device ended).bytes out0.bytes out1.bytes)
+        (ReplaysPart options.time G i (F.device opened).bytes (F.device ended).bytes out0.bytes out1.bytes)
         out1 outcome
     pub failed : ReadFails outcome (F.device ended)
 
-  -- `ExecutesReplay G group files ..`: the command `replay` was executed, or a file cannot be read or opened.
-  abbrev pub ExecutesReplay : VerifyFn → GroupFiles → ReplayFiles → Device → Device → ReportResult → Type 0
-  ExecutesReplay G group files out0 out1 outcome =
-      RunsWithStartOrEnds F group
-      (λ i. CannotOpen F files.log out0.bytes out1.bytes outcome ⊎ RunsReplay G i files out0 out1 outcome)
+  -- `ExecutesReplay G options ..`: the command `replay` was executed, or a file cannot be read or opened.
+  abbrev pub ExecutesReplay : VerifyFn → ReplayOptions → Device → Device → ReportResult → Type 0
+  ExecutesReplay G options out0 out1 outcome =
+      RunsWithStartOrEnds F options.group
+      (λ i. CannotOpen F options.log out0.bytes out1.bytes outcome ⊎ RunsReplay G i options out0 out1 outcome)
       out0 out1 outcome
 
   -- ---- the other commands
@@ -161,21 +161,25 @@ module _ {File : Type 0} (F : Opener File) where
       (λ i. CannotOpenNamed F log out0.bytes out1.bytes outcome ⊎ RunsSignatures G i log out0 out1 outcome)
       out0 out1 outcome
 
-  -- `RunsGate G i ..`: standard input, which has the records, was opened, and the report `gate` was made of it.
-  pub record RunsGate (G : VerifyFn) (i : Inputs) (out0 out1 : Device) (outcome : ReportResult) : Type 0 where
+  -- `RunsGate time G i ..`: standard input, which has the records, was opened, and the report `gate` was made of it. `time`
+  -- is the time at which lifetimes are judged at first.
+  pub record RunsGate (time : Option ℕ) (G : VerifyFn) (i : Inputs) (out0 out1 : Device) (outcome : ReportResult) :
+      Type 0 where
     pub opened : File
     pub ended : File
     pub given : F.gives stdin opened
-    pub printed : IfOk outcome (Gates G i (F.device opened).bytes (F.device ended).bytes out0.bytes out1.bytes)
-    pub part : IfErr outcome (GatesPart G i (F.device opened).bytes (F.device ended).bytes out0.bytes out1.bytes)
+    pub printed : IfOk outcome
+        (Gates time G i (F.device opened).bytes (F.device ended).bytes out0.bytes out1.bytes)
+    pub part : IfErr outcome
+        (GatesPart time G i (F.device opened).bytes (F.device ended).bytes out0.bytes out1.bytes)
     pub failed : ReadFails outcome (F.device ended)
 
-  -- `ExecutesGate G group ..`: the command `gate` was executed, or a file cannot be read or opened. G is the verification
-  -- function of what is known to be good at first.
-  abbrev pub ExecutesGate : VerifyFn → GroupFiles → Device → Device → ReportResult → Type 0
-  ExecutesGate G group out0 out1 outcome =
+  -- `ExecutesGate time G group ..`: the command `gate` was executed, or a file cannot be read or opened. G is the
+  -- verification function of what is known to be good at first.
+  abbrev pub ExecutesGate : Option ℕ → VerifyFn → GroupFiles → Device → Device → ReportResult → Type 0
+  ExecutesGate time G group out0 out1 outcome =
       RunsWithStartOrEnds F group
-      (λ i. CannotOpen F stdin out0.bytes out1.bytes outcome ⊎ RunsGate G i out0 out1 outcome)
+      (λ i. CannotOpen F stdin out0.bytes out1.bytes outcome ⊎ RunsGate time G i out0 out1 outcome)
       out0 out1 outcome
 
   -- `RunsCheck k name ..`: the report `check` of a file with this name.
@@ -198,9 +202,9 @@ module _ {File : Type 0} (F : Opener File) where
   ExecutesReport G (ValidateTree rules context tree) out0 out1 outcome =
       ExecutesValidateTree G rules context tree out0 out1 outcome
   ExecutesReport G (Validate group) out0 out1 outcome = ExecutesValidate G group out0 out1 outcome
-  ExecutesReport G (Replay group files) out0 out1 outcome = ExecutesReplay G group files out0 out1 outcome
+  ExecutesReport G (Replay options) out0 out1 outcome = ExecutesReplay G options out0 out1 outcome
   ExecutesReport G (Signatures group log) out0 out1 outcome = ExecutesSignatures G group log out0 out1 outcome
-  ExecutesReport G (Gate group) out0 out1 outcome = ExecutesGate G group out0 out1 outcome
+  ExecutesReport G (Gate group time) out0 out1 outcome = ExecutesGate time G group out0 out1 outcome
 
   -- `ExecutesOrder order ..`: a command was executed.
   abbrev pub ExecutesOrder : Order → Device → Device → ReportResult → Type 0
@@ -212,7 +216,7 @@ module _ {File : Type 0} (F : Opener File) where
 
 -- `report_stores report`: the report stores a state after it.
 abbrev pub report_stores : GroupReport → Bool
-report_stores (Replay group files) = is_some files.save
+report_stores (Replay options) = is_some options.save
 report_stores _ = false
 
 -- `stores_state order`: the command stores a state after its report.

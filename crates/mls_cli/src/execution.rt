@@ -15,7 +15,7 @@ ghost use Rattle.mls_cli.specs.ProgramCheckersInternal.{checker_verify};
 use crate::load_checker::load_checker;
 use crate::program_checker::{CheckerFault, ProgramChecker};
 use crate::read_files::{read_file, read_start};
-use mls_commands::{CheckerChoice, FileName, GroupFiles, GroupReport, Order, ReplayFiles};
+use mls_commands::{CheckerChoice, FileName, GroupFiles, GroupReport, Order, ReplayOptions};
 use mls_follow::Follower;
 use mls_gate::gate;
 use mls_msgs::Rules;
@@ -24,6 +24,7 @@ use mls_report::{
     Replayed, replay, report_unreadable_receipts, signatures, validate, validate_tree,
 };
 use mls_show::{CheckKind, Verdict};
+use mls_start::Judge;
 use mls_vectors::run_check;
 use mls_wire::{CodecFault, RunFault, Sink};
 use std::alloc::Global;
@@ -139,24 +140,27 @@ fn store_after<F: Files>(
 /// Follows a group through a log of handshakes, and stores its state if a file is named.
 fn execute_replay<F: Files, K: Sink>(
     alloc: Global,
-    group: &GroupFiles,
-    names: &ReplayFiles,
+    options: &ReplayOptions,
     files: &F,
     checker: ProgramChecker,
     out: &mut K,
 ) -> Result<Verdict, RunFault>
     requires { IsWorking (K.device out.old) }
-    ensures executed { ExecutesReplay (F.opener files.now) (checker_verify checker) group.now names.now
+    ensures executed { ExecutesReplay (F.opener files.now) (checker_verify checker) options.now
         (K.device out.old) (K.device out.new) result }
-    ensures write { MeansWrite (is_some names.now.save) (K.device out.new) result }
+    ensures write { MeansWrite (is_some options.now.save) (K.device out.new) result }
 {
-    let start = read_start(alloc, group, files)?;
-    let Some(mut log) = files.open(names.log.as_str()) else {
+    let start = read_start(alloc, &options.group, files)?;
+    let Some(mut log) = files.open(options.log.as_str()) else {
         return Err(RunFault::Read);
     };
-    match replay(alloc, start, &mut log, checker, out) {
+    let judge = Judge {
+        checker,
+        time: options.time,
+    };
+    match replay(alloc, start, &mut log, judge, out) {
         Ok(replayed) => {
-            let stored = store_after(&replayed, &names.save, files);
+            let stored = store_after(&replayed, &options.save, files);
             drop(replayed);
             stored
         }
@@ -202,11 +206,11 @@ fn execute_gate<F: Files, K: Sink>(
     alloc: Global,
     group: &GroupFiles,
     files: &F,
-    checker: ProgramChecker,
+    judge: Judge<ProgramChecker>,
     out: &mut K,
 ) -> Result<Verdict, RunFault>
     requires { IsWorking (K.device out.old) }
-    ensures executed { ExecutesGate (F.opener files.now) (checker_verify checker) group.now
+    ensures executed { ExecutesGate (F.opener files.now) judge.time (checker_verify judge.checker) group.now
         (K.device out.old) (K.device out.new) result }
     ensures write { WriteFails result (K.device out.new) }
 {
@@ -214,7 +218,7 @@ fn execute_gate<F: Files, K: Sink>(
     let Some(mut records) = files.open("-") else {
         return Err(RunFault::Read);
     };
-    gate(alloc, start, &mut records, checker, out)
+    gate(alloc, start, &mut records, judge, out)
 }
 
 /// Says why there is no checker.
@@ -258,14 +262,17 @@ fn report_by<F: Files, K: Sink>(
             tree,
         } => execute_validate_tree(alloc, *rules, context, tree, files, &checker, out),
         GroupReport::Validate(group) => execute_validate(alloc, group, files, checker, out),
-        GroupReport::Replay {
-            group,
-            files: names,
-        } => execute_replay(alloc, group, names, files, checker, out),
+        GroupReport::Replay(options) => execute_replay(alloc, options, files, checker, out),
         GroupReport::Signatures { group, log } => {
             execute_signatures(alloc, group, log, files, &checker, out)
         }
-        GroupReport::Gate(group) => execute_gate(alloc, group, files, checker, out),
+        GroupReport::Gate { group, time } => {
+            let judge = Judge {
+                checker,
+                time: *time,
+            };
+            execute_gate(alloc, group, files, judge, out)
+        }
     }
 }
 

@@ -11,7 +11,7 @@ mod read_files;
 
 pub use execution::execute_order;
 pub use mls_commands::{
-    CheckerChoice, FileName, GroupFiles, GroupReport, Order, OrderFault, ReplayFiles, order_of,
+    CheckerChoice, FileName, GroupFiles, GroupReport, Order, OrderFault, ReplayOptions, order_of,
 };
 pub use mls_msgs::{Profile, Rules};
 pub use mls_program::{Files, run_fault};

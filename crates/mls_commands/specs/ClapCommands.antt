@@ -60,14 +60,15 @@ with_group a =
 abbrev pub validate_app : App
 validate_app = with_checker (with_group (new_app (codes "validate")))
 
--- `replay --info FILE [--tree FILE] [--profile PROFILE] --log FILE [--save FILE]`, or with `--state FILE` in place of the
--- first three, and one of `--trust` and `--receipts FILE`
+-- `replay --info FILE [--tree FILE] [--profile PROFILE] --log FILE [--save FILE] [--now SECONDS]`, or with `--state FILE` in
+-- place of the first three, and one of `--trust` and `--receipts FILE`
 abbrev pub replay_app : App
 replay_app =
-    with_checker (with_rule (with_rule (with_group
+    with_checker (with_rule (with_rule (with_rule (with_group
     (new_app (codes "replay")))
     (needed_rule (codes "log")))
     (file_rule (codes "save")))
+    (file_rule (codes "now")))
 
 -- `signatures --info FILE [--tree FILE] [--profile PROFILE] [--log FILE] [--receipts FILE]`, or with `--state FILE` in place
 -- of the first three
@@ -78,10 +79,10 @@ signatures_app =
     (file_rule (codes "log")))
     (file_rule (codes "receipts"))
 
--- `gate --info FILE [--tree FILE] [--profile PROFILE]` or `gate --state FILE`, and at most one of `--trust` and
--- `--receipts FILE`
+-- `gate --info FILE [--tree FILE] [--profile PROFILE] [--now SECONDS]` or `gate --state FILE [--now SECONDS]`, and at most one
+-- of `--trust` and `--receipts FILE`
 abbrev pub gate_app : App
-gate_app = with_checker (with_group (new_app (codes "gate")))
+gate_app = with_checker (with_rule (with_group (new_app (codes "gate"))) (file_rule (codes "now")))
 
 -- `check KIND FILE`
 abbrev pub check_app : App

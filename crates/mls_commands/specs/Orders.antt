@@ -1,6 +1,7 @@
 -- The command that a command line gives. Used by contracts.
-use Rattle.std.specs.Prelude.{List, [], ◌∷◌, ℕ, ◌+◌, ◌-◌, ◌*◌, ◌≤◌, nat_le, Bool, false, true, not, ◌&&◌, ◌==◌, ◌≡◌, ◌≢◌, ◌⊎◌, Option, Some, None, codes}
+use Rattle.std.specs.Prelude.{List, [], ◌∷◌, ℕ, ◌+◌, ◌-◌, ◌*◌, ◌^◌, ◌<◌, ◌≤◌, nat_le, Bool, false, true, not, ◌&&◌, ◌==◌, ◌≡◌, ◌≢◌, ◌⊎◌, Option, Some, None, codes}
 use Rattle.std.specs.Str.{bytes_eq}
+use Rattle.std.specs.Str.Parse.{IsNumeral, digits_value}
 use Rattle.clap.specs.Words.{Text, Row, first_of, fault_of, subcommand_of, IsAmong}
 use Rattle.clap.specs.declared.error.kind.ErrorKind.TheVariants.{DisplayHelp, DisplayVersion}
 use Rattle.mls_commands.specs.ClapCommands.{mlscheck_app}
@@ -12,7 +13,7 @@ use Rattle.mls_commands.specs.declared.order.GroupReport.{GroupReport}
 use Rattle.mls_commands.specs.declared.order.GroupReport.TheVariants as report
 use Rattle.mls_commands.specs.declared.order.GroupFiles.{GroupFiles}
 use Rattle.mls_commands.specs.declared.order.GroupFiles.TheVariants as groups
-use Rattle.mls_commands.specs.declared.order.ReplayFiles.{ReplayFiles}
+use Rattle.mls_commands.specs.declared.order.ReplayOptions.{ReplayOptions}
 use Rattle.mls_commands.specs.declared.order.Order.{Order}
 use Rattle.mls_commands.specs.declared.order.Order.TheVariants as order
 use Rattle.mls_commands.specs.declared.order.OrderFault.{OrderFault}
@@ -168,21 +169,34 @@ IsValidate rows group c =
 abbrev pub IsSave : Option Text → Option Text → Type 0
 IsSave given save = (given ≡ save) × (is_stdin given ≡ false)
 
--- `IsReplay rows group files c`: these are the options of `replay`.
-abbrev pub IsReplay : List Row → GroupFiles → ReplayFiles → CheckerChoice → Type 0
-IsReplay rows group files c =
-    IsValidate rows group c × (first_of (codes "log") rows ≡ Some files.log)
-    × IsSave (first_of (codes "save") rows) files.save
+-- `IsTime given time`: lifetimes are judged at `time`, in seconds since 1970, where `given` is the value of `--now`, if it
+-- is there: one decimal digit or more, and nothing else, whose number is below 2^64. Without it they are not judged.
+abbrev pub IsTime : Option Text → Option ℕ → Type 0
+IsTime None time = time ≡ None
+IsTime (Some text) time =
+    IsNumeral 10 text × (digits_value 10 text < 2 ^ 64) × (time ≡ Some (digits_value 10 text))
+
+-- `AreReplayOptions rows options`: these are the options of `replay`, except the choice of a checker.
+abbrev pub AreReplayOptions : List Row → ReplayOptions → Type 0
+AreReplayOptions rows options =
+    IsGroup rows options.group × (first_of (codes "log") rows ≡ Some options.log)
+    × IsSave (first_of (codes "save") rows) options.save × IsTime (first_of (codes "now") rows) options.time
+
+-- `IsReplay rows options c`: these are the options of `replay`.
+abbrev pub IsReplay : List Row → ReplayOptions → CheckerChoice → Type 0
+IsReplay rows options c =
+    AreReplayOptions rows options × IsChecker (first_of (codes "trust") rows) (first_of (codes "receipts") rows) c
 
 -- `IsSignatures rows group log c`: these are the options of `signatures`.
 abbrev pub IsSignatures : List Row → GroupFiles → Option Text → CheckerChoice → Type 0
 IsSignatures rows group log c =
     IsGroup rows group × (first_of (codes "log") rows ≡ log) × SelectsReceipts (first_of (codes "receipts") rows) c
 
--- `IsGate rows group c`: these are the options of `gate`. No file is standard input, which has the records.
-abbrev pub IsGate : List Row → GroupFiles → CheckerChoice → Type 0
-IsGate rows group c =
-    IsGroup rows group × IsFirstChecker (first_of (codes "trust") rows) (first_of (codes "receipts") rows) c
+-- `IsGate rows group time c`: these are the options of `gate`. No file is standard input, which has the records.
+abbrev pub IsGate : List Row → GroupFiles → Option ℕ → CheckerChoice → Type 0
+IsGate rows group time c =
+    IsGroup rows group × IsTime (first_of (codes "now") rows) time
+    × IsFirstChecker (first_of (codes "trust") rows) (first_of (codes "receipts") rows) c
     × (stdin_count rows ≡ 0)
 
 -- `IsGroupReport found report c`: this is the report that clap found, with this choice of a checker.
@@ -192,12 +206,12 @@ IsGroupReport found (report.ValidateTree rules context tree) c =
     × IsValidateTree rows rules context tree c
 IsGroupReport found (report.Validate group) c =
     (rows : List Row) × (found ≡ Some (codes "validate", rows)) × IsValidate rows group c
-IsGroupReport found (report.Replay group files) c =
-    (rows : List Row) × (found ≡ Some (codes "replay", rows)) × IsReplay rows group files c
+IsGroupReport found (report.Replay options) c =
+    (rows : List Row) × (found ≡ Some (codes "replay", rows)) × IsReplay rows options c
 IsGroupReport found (report.Signatures group log) c =
     (rows : List Row) × (found ≡ Some (codes "signatures", rows)) × IsSignatures rows group log c
-IsGroupReport found (report.Gate group) c =
-    (rows : List Row) × (found ≡ Some (codes "gate", rows)) × IsGate rows group c
+IsGroupReport found (report.Gate group time) c =
+    (rows : List Row) × (found ≡ Some (codes "gate", rows)) × IsGate rows group time c
 
 -- `IsOrder found order`: this is the command that clap found: a subcommand's name, and the values of its arguments.
 abbrev pub IsOrder : Option (Text × List Row) → Order → Type 0

@@ -98,7 +98,7 @@ Example:
 const REPLAY_USAGE: &str = "\
 mlscheck replay
            (--info <FILE> [--tree <FILE>] [--profile <PROFILE>] | --state <FILE>)
-           [--strict [--allow <NUMBERS>]]
+           [--strict [--allow <NUMBERS>]] [--now <SECONDS>]
            --log <FILE> [--save <FILE>] (--trust | --receipts <FILE>)";
 
 const REPLAY_HELP: &str = "\
@@ -112,6 +112,10 @@ regular file is refused.
 extensions and capabilities, points of curves and certificates (RFC 9420, 5.1.1,
 7.2, 7.6, 12.1, 13.4). Anyone can see these faults, and real clients fail on
 them, so a service should use it.
+
+With --now a message is refused if the lifetime of a KeyPackage in it does not
+include this time (RFC 9420, 7.2): seconds since 1970, at most
+18446744073709551615. Without it no lifetime is checked.
 
 A receipt says that a signature is good. mlscheck signatures prints each
 signature to verify with its receipt; write the receipts of the good ones in a
@@ -156,12 +160,14 @@ Example:
 const GATE_USAGE: &str = "\
 mlscheck gate
            (--info <FILE> [--tree <FILE>] [--profile <PROFILE>] | --state <FILE>)
-           [--strict [--allow <NUMBERS>]] [--trust | --receipts <FILE>]";
+           [--strict [--allow <NUMBERS>]] [--now <SECONDS>]
+           [--trust | --receipts <FILE>]";
 
 const GATE_HELP: &str = "\
 Standard input is a sequence of records: a length, a letter, and what belongs to
 the letter. Each record is answered before the next is read:
   r RECEIPTS  these signatures are good (32 bytes each); no answer
+  t TIME      check lifetimes at this time from now on (8 bytes); no answer
   b           begin with the signatures that are known to be good
   q MESSAGE   print the signatures of the message that are not known to be good
   m MESSAGE   process the message
@@ -176,6 +182,10 @@ ReInit and external joins.
 extensions and capabilities, points of curves and certificates (RFC 9420, 5.1.1,
 7.2, 7.6, 12.1, 13.4). Anyone can see these faults, and real clients fail on
 them, so a service should use it.
+
+With --now a message is refused if the lifetime of a KeyPackage in it does not
+include this time (RFC 9420, 7.2): seconds since 1970, at most
+18446744073709551615. Without it no lifetime is checked until a record t.
 
 Exit status: 0 if the input ends after b and a whole record, 1 if the group
 can't be followed or a record is broken, 2 for a wrong command line, 3 for a
@@ -374,6 +384,18 @@ fn with_group<'a>(
     with_rules(alloc, command)
 }
 
+/// Adds `--now SECONDS` to the command.
+fn with_time<'a>(
+    alloc: Global,
+    command: Result<Command<'a>, AllocError>,
+) -> Result<Command<'a>, AllocError>
+    ensures { (app : App) → MakesApp app command.entry
+        → MakesApp (with_rule app (file_rule (codes "now"))) result }
+{
+    let help = "Checks lifetimes of KeyPackages at this time: seconds since 1970";
+    with(command, valued(alloc, "now", "SECONDS", help))
+}
+
 /// `validate --info FILE [--tree FILE] [--profile PROFILE]` or `validate --state FILE`, the strict rules, and one of
 /// `--trust` and `--receipts FILE`.
 fn validate_command<'a>(alloc: Global) -> Result<Command<'a>, AllocError>
@@ -385,8 +407,8 @@ fn validate_command<'a>(alloc: Global) -> Result<Command<'a>, AllocError>
     with_checker(alloc, command, SIGNATURES)
 }
 
-/// `replay --info FILE [--tree FILE] [--profile PROFILE] --log FILE [--save FILE]`, or with `--state FILE` in place of the
-/// first three, the strict rules, and one of `--trust` and `--receipts FILE`.
+/// `replay --info FILE [--tree FILE] [--profile PROFILE] --log FILE [--save FILE] [--now SECONDS]`, or with `--state FILE` in
+/// place of the first three, the strict rules, and one of `--trust` and `--receipts FILE`.
 fn replay_command<'a>(alloc: Global) -> Result<Command<'a>, AllocError>
     ensures { MakesApp replay_app result }
 {
@@ -405,6 +427,7 @@ fn replay_command<'a>(alloc: Global) -> Result<Command<'a>, AllocError>
         "The path under which the state after the log is stored",
     );
     let command = with(command, save);
+    let command = with_time(alloc, command);
     with_checker(alloc, command, SIGNATURES)
 }
 
@@ -432,14 +455,15 @@ fn signatures_command<'a>(alloc: Global) -> Result<Command<'a>, AllocError>
     with(command, receipts)
 }
 
-/// `gate --info FILE [--tree FILE] [--profile PROFILE]` or `gate --state FILE`, the strict rules, and at most one of
-/// `--trust` and `--receipts FILE`.
+/// `gate --info FILE [--tree FILE] [--profile PROFILE] [--now SECONDS]` or `gate --state FILE [--now SECONDS]`, the strict
+/// rules, and at most one of `--trust` and `--receipts FILE`.
 fn gate_command<'a>(alloc: Global) -> Result<Command<'a>, AllocError>
     ensures { MakesApp gate_app result }
 {
     let about = "Follows a group live, and says which signatures to verify";
     let command = Ok(titled(alloc, "gate", GATE_USAGE, about, GATE_HELP));
     let command = with_group(alloc, command);
+    let command = with_time(alloc, command);
     with_checker(alloc, command, KNOWN_SIGNATURES)
 }
 

@@ -3,11 +3,12 @@
 
 mod arguments;
 mod asked_rules;
+mod asked_time;
 mod clap_command;
 mod file_name;
 mod order;
 mod parse_order;
 
 pub use file_name::FileName;
-pub use order::{CheckerChoice, GroupFiles, GroupReport, Order, OrderFault, ReplayFiles};
+pub use order::{CheckerChoice, GroupFiles, GroupReport, Order, OrderFault, ReplayOptions};
 pub use parse_order::order_of;

@@ -43,13 +43,17 @@ pub enum GroupFiles {
     },
 }
 
-/// What a replay reads and stores.
+/// What a replay reads and stores, and the time at which it judges lifetimes.
 #[derive(Debug, Drop)]
-pub struct ReplayFiles {
+pub struct ReplayOptions {
+    /// What the group is followed from.
+    pub group: GroupFiles,
     /// The file of the log.
     pub log: FileName,
     /// `--save FILE`: the file in which the state after the log is stored, if one is named.
     pub save: Option<FileName>,
+    /// `--now SECONDS`: the time at which lifetimes are judged, in seconds since 1970. `None` if they are not judged.
+    pub time: Option<u64>,
 }
 
 /// A report on a group or a tree, with a checker of signatures.
@@ -68,12 +72,7 @@ pub enum GroupReport {
     /// `validate`: say whether a group can be followed.
     Validate(GroupFiles),
     /// `replay`: follow a group through a log of handshakes.
-    Replay {
-        /// What the group is followed from.
-        group: GroupFiles,
-        /// The log, and where the state after it is stored.
-        files: ReplayFiles,
-    },
+    Replay(ReplayOptions),
     /// `signatures`: print the signatures to verify of a group's start or resumption and its handshakes.
     Signatures {
         /// What the group is followed from.
@@ -82,7 +81,13 @@ pub enum GroupReport {
         log: Option<FileName>,
     },
     /// `gate`: answer the records of standard input, one after the other.
-    Gate(GroupFiles),
+    Gate {
+        /// What the group is followed from.
+        group: GroupFiles,
+        /// `--now SECONDS`: the time at which lifetimes are judged at first, in seconds since 1970. `None` if they are not
+        /// judged.
+        time: Option<u64>,
+    },
 }
 
 /// What the program is to do.

@@ -3,14 +3,15 @@
 ghost use Rattle.std.specs.Prelude.{◌≡◌, ◌≢◌, ◌⊎◌, IfOk, IfErr, codes, Some, option_map, map, string_bytes};
 ghost use Rattle.clap.specs.Values.{kind_of};
 ghost use Rattle.clap.specs.Words.{first_of, rows_of, found_of, subcommand_rows_of};
-ghost use Rattle.mls_commands.specs.Orders.{IsProfile, IsNamedProfile, IsChecker, IsGroup, IsSave, IsFirstChecker, SelectsReceipts, IsOrder, IsGiven, IsOrderOf, stdin_count, IsHelp, IsUsage, AsksForHelp, AsksForHelpAlone, RefusesArguments, kind_text, check_kind_text};
+ghost use Rattle.mls_commands.specs.Orders.{IsProfile, IsNamedProfile, IsChecker, IsGroup, IsSave, AreReplayOptions, IsFirstChecker, SelectsReceipts, IsOrder, IsGiven, IsOrderOf, stdin_count, IsHelp, IsUsage, AsksForHelp, AsksForHelpAlone, RefusesArguments, kind_text, check_kind_text};
 ghost use Rattle.mls_commands.specs.Orders as specs;
 
 use crate::arguments::{is_set, usage, value};
 use crate::asked_rules::asked_rules;
+use crate::asked_time::asked_time;
 use crate::clap_command::mlscheck_command;
 use crate::file_name::FileName;
-use crate::order::{CheckerChoice, GroupFiles, GroupReport, Order, OrderFault, ReplayFiles};
+use crate::order::{CheckerChoice, GroupFiles, GroupReport, Order, OrderFault, ReplayOptions};
 use clap::error::ErrorKind;
 use clap::{ArgMatches, Error};
 use mls_msgs::Profile;
@@ -239,20 +240,22 @@ fn save_of(alloc: Global, matches: &ArgMatches<'_>) -> Result<Option<FileName>, 
     }
 }
 
-/// Returns the log of a replay, and where the state after it is stored.
-fn replay_files(alloc: Global, matches: &ArgMatches<'_>) -> Result<ReplayFiles, OrderFault>
-    ensures log { IfOk result (λ files.
-        first_of (codes "log") (rows_of (found_of matches.now)) ≡ Some files.log) }
-    ensures save { IfOk result (λ files.
-        IsSave (first_of (codes "save") (rows_of (found_of matches.now))) files.save) }
-    ensures refused { IfErr result (RefusesArguments (λ (files : ReplayFiles).
-        (first_of (codes "log") (rows_of (found_of matches.now)) ≡ Some files.log)
-        × IsSave (first_of (codes "save") (rows_of (found_of matches.now))) files.save)) }
+/// Returns the options of `replay`, except the choice of a checker.
+fn replay_options(alloc: Global, matches: &ArgMatches<'_>) -> Result<ReplayOptions, OrderFault>
+    ensures options { IfOk result (AreReplayOptions (rows_of (found_of matches.now))) }
+    ensures refused { IfErr result (RefusesArguments (AreReplayOptions (rows_of (found_of matches.now)))) }
     ensures never_help { IfErr result (λ e. IsHelp e → ⊥) }
 {
+    let group = group_of(alloc, matches)?;
     let log = file_of(alloc, matches, "log")?;
     let save = save_of(alloc, matches)?;
-    Ok(ReplayFiles { log, save })
+    let time = asked_time(alloc, matches)?;
+    Ok(ReplayOptions {
+        group,
+        log,
+        save,
+        time,
+    })
 }
 
 /// Returns the command `replay`.
@@ -264,9 +267,7 @@ fn replay_order(alloc: Global, matches: &ArgMatches<'_>) -> Result<Order, OrderF
     ensures never_help { IfErr result (λ e. IsHelp e → ⊥) }
 {
     let checker = chosen_checker(alloc, matches)?;
-    let group = group_of(alloc, matches)?;
-    let files = replay_files(alloc, matches)?;
-    let report = GroupReport::Replay { group, files };
+    let report = GroupReport::Replay(replay_options(alloc, matches)?);
     Ok(Order::Group { report, checker })
 }
 
@@ -324,7 +325,9 @@ fn gate_order(alloc: Global, matches: &ArgMatches<'_>) -> Result<Order, OrderFau
         return Err(usage(alloc, "usage: standard input has the records of the gate\n"));
     }
     let checker = first_checker(alloc, matches)?;
-    let report = GroupReport::Gate(group_of(alloc, matches)?);
+    let group = group_of(alloc, matches)?;
+    let time = asked_time(alloc, matches)?;
+    let report = GroupReport::Gate { group, time };
     Ok(Order::Group { report, checker })
 }
 

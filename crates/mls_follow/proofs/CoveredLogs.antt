@@ -119,7 +119,7 @@ module _ (G K : VerifyFn) (s : State) (bytes : List ℕ)
   answers_alike answer new h = record { takes = takes_alike answer new h.takes; memory = h.memory }
 
 module _ (R : VerifyFn) (s : State) (bytes : List ℕ) (v : IsValidState R s) (covers : CoversMessage R s bytes) where
-  refusals_alike : (required : RequiredCapabilities) (m : Message) → EncodesMessage s.profile m bytes
+  pub refusals_alike : (required : RequiredCapabilities) (m : Message) → EncodesMessage s.profile m bytes
       → first_failing (all_rules R s required m) ≡ first_failing (all_rules all_good s required m)
   refusals_alike required m encoded =
       decide_refusals R all_good s required m

@@ -399,7 +399,7 @@ module _ (G : VerifyFn) (s : State) (required : RequiredCapabilities) where
       first_failing-left (message_rules G (with_rules s asked) required m) (strict_rules (with_rules s asked) m) e (plain_same asked m ∙ fails)
 
   -- the rules of the profile are kept where all are
-  plain_kept_by : (asked : Rules) (m : Message) → first_failing (all_rules G (with_rules s asked) required m) ≡ None → first_failing (message_rules G s required m) ≡ None
+  pub plain_kept_by : (asked : Rules) (m : Message) → first_failing (all_rules G (with_rules s asked) required m) ≡ None → first_failing (message_rules G s required m) ≡ None
   plain_kept_by asked m h = sym (plain_same asked m) ∙ plain_kept G (with_rules s asked) required m h
 
 pub no_plain_rule : (meets : StrictRule → Bool) (rs : List StrictRule) → first_unmet plain_rules meets rs ≡ None

@@ -29,7 +29,8 @@ use Rattle.mls_apply.specs.declared.refusal.Refusal.{Refusal}
 use Rattle.mls_apply.specs.declared.refusal.Refusal.TheVariants.{Malformed, NotPublic, OutOfMemory}
 use Rattle.mls_signatures.specs.declared.signature_to_verify.SignatureToVerify.{SignatureToVerify}
 use Rattle.mls_follow.specs.State.{State, EncodesMessage}
-use Rattle.mls_follow.specs.Acceptance.{EncodesNoMessage, FailsRule, IsFirstRefusal}
+use Rattle.mls_follow.specs.Acceptance.{EncodesNoMessage}
+use Rattle.mls_follow.specs.TimedAcceptance.{FailsRuleAt, IsFirstRefusalAt}
 use Rattle.mls_follow.specs.MessageSignatures.{AreSignaturesOf}
 use Rattle.mls_follow.specs.MessageHeader.{IsWireFormat, HasHeader, HasNoHeader, IsUnreadMessage}
 
@@ -154,16 +155,16 @@ none_listed s bytes list empty h = elim (h (λ e. absurd cc)) [
 ]
 
 -- it is the first rule that a PrivateMessage and a Welcome fail
-module _ (G : VerifyFn) (s : State) (required : RequiredCapabilities) (requires : Requires s.context required) (bytes : List ℕ) where
-  not_public : IsUnreadMessage bytes → FailsRule G s bytes NotPublic
+module _ (now : Option ℕ) (G : VerifyFn) (s : State) (required : RequiredCapabilities) (requires : Requires s.context required) (bytes : List ℕ) where
+  not_public : IsUnreadMessage bytes → FailsRuleAt now G s bytes NotPublic
   not_public u = record { message = messages.Unread u.wire_format u.header.0; encoded = encodes_unread s.profile bytes u; required = required; requires = requires; fails = refl }
 
   pub header_refused : (e : Refusal)
       → (e ≢ OutOfMemory → ((e ≡ Malformed) × EncodesNoMessage s.profile bytes) ⊎ ((e ≡ NotPublic) × IsUnreadMessage bytes))
-      → e ≢ OutOfMemory → IsFirstRefusal G s bytes e
+      → e ≢ OutOfMemory → IsFirstRefusalAt now G s bytes e
   header_refused e h own = elim (h own) [
     | inl malformed ↦ inl malformed
-    | inr unread ↦ inr (subst (FailsRule G s bytes) (sym unread.0) (not_public unread.1))
+    | inr unread ↦ inr (subst (FailsRuleAt now G s bytes) (sym unread.0) (not_public unread.1))
   ]
 
 -- what the wire format that was read says

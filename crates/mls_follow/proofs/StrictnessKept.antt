@@ -65,7 +65,7 @@ use Rattle.mls_follow.specs.Runs.{Call, IsRun, IsTransition}
 use Rattle.mls_follow.proofs.Stepping.{taken}
 use Rattle.mls_follow.specs.State.{State}
 use Rattle.mls_follow.specs.StrictRules.{all_rules, support_rules, supports_after, supports_extensions, supports_next, tag_meets}
-use Rattle.mls_follow.specs.StrictRulesInternal.{or_then, support_refusal, unmet_rule}
+use Rattle.mls_follow.specs.StrictRulesInternal.{comes_last, or_then, support_refusal, unmet_rule}
 use Rattle.mls_follow.specs.StrictnessKept.{IsStrictState, StartsAreStrict, RunsKeepStrictness, RunsKeepRules, FollowersAreStrict, AddedRulesKeepStrictness}
 use Rattle.mls_follow.specs.declared.taken.Taken.{Taken}
 use Rattle.mls_follow.proofs.Answering.{one_message}
@@ -504,14 +504,14 @@ module _ (s : State) (strict : IsStrictState s) where
 
 -- ---- what an accepted message meets
 
-none_refuses : (asked : Rules) (o : Option StrictRule) (b : Bool) → support_refusal asked o b ≡ None → o ≡ None
+none_refuses : (asked : Rules) (o : Option StrictRule) (b : Bool) → support_refusal asked (option_map Strict o) b ≡ None → o ≡ None
 none_refuses asked None b e = refl
-none_refuses asked (Some rules.PointOffCurve) b e = absurd (some_refuses (first_failing (support_rules asked b)) e)
+none_refuses asked (Some r) b e = absurd (go (comes_last (Strict r)) (first_failing (support_rules asked b)) e)
   where
-    some_refuses : (o : Option Refusal) → or_then o (Some (Strict rules.PointOffCurve)) ≡ None → ⊥
-    some_refuses None e = none-some (Strict rules.PointOffCurve) (sym e)
-    some_refuses (Some f) e = none-some f (sym e)
-none_refuses asked (Some r) b e = absurd (none-some (Strict r) (sym e))
+    go : (c : Bool) (o : Option Refusal) → (if c then or_then o (Some (Strict r)) else Some (Strict r)) ≡ None → ⊥
+    go true None e = none-some (Strict r) (sym e)
+    go true (Some f) e = none-some f (sym e)
+    go false o e = none-some (Strict r) (sym e)
 
 module _ (s : State) (p : PublicParts) where
   abbrev TagsMeet : Bool

@@ -1,9 +1,10 @@
 //! Checking the tree after a commit from its changes (RFC 9420, 7.3 and 12.4.2).
 
-ghost use Rattle.std.specs.Prelude.{◌≡◌, Some, None, IfOk, IfErr, OnOk, true};
+ghost use Rattle.std.specs.Prelude.{◌≡◌, Some, None, IfOk, IfErr, IsTrue, OnOk, true};
 ghost use Rattle.mls_hash.specs.SuiteHash.{hash_of};
 ghost use Rattle.mls_tree.specs.TreeHash.{tree_hash};
 ghost use Rattle.mls_check.specs.LeafValidation.{IsMemberFault, LeavesAreValid};
+ghost use Rattle.mls_strict.specs.LeafForms.{requires_types};
 ghost use Rattle.mls_apply.specs.RuleLists.{first_failing};
 ghost use Rattle.mls_apply.specs.StagedInternal.{SatisfiesTreeRules};
 ghost use Rattle.mls_follow.specs.AcceptanceInternal.{FailsWithRule};
@@ -11,24 +12,28 @@ ghost use Rattle.mls_follow.specs.MessageRules.{tree_rules};
 ghost use Rattle.mls_follow.specs.CommitTree.{in_context};
 
 use mls_apply::{Refusal, StagedTree};
-use mls_check::{MemberFault, SignatureCheck, SortedRequirements};
+use mls_check::{GroupRequirements, MemberFault, SignatureCheck};
 use mls_hash::Suite;
 use mls_index::LeafRules;
 use mls_msgs::Rules;
-use mls_nodes::{GroupContext, RequiredCapabilities};
+use mls_nodes::GroupContext;
 use mls_wire::Opaque;
 use std::alloc::Global;
 
-/// What the check needs: the GroupContext, its suite, what the group requires before the commit and after it, and the set of
-/// strict rules.
+/// What the check needs: the GroupContext, its suite, what the group requires before the commit and after it, whether that is
+/// certainly the same, what the types of the GroupContext's extensions require, and the set of strict rules.
 #[derive(Drop)]
 pub(crate) struct TreeRules<'a> {
     pub(crate) suite: Suite,
     pub(crate) context: &'a GroupContext,
-    pub(crate) former: &'a RequiredCapabilities,
-    pub(crate) required: &'a RequiredCapabilities,
+    pub(crate) former: &'a GroupRequirements,
+    pub(crate) required: &'a GroupRequirements,
+    pub(crate) unchanged: bool,
+    pub(crate) types: &'a GroupRequirements,
     pub(crate) asked: Rules,
     ghost same_suite: { suite ≡ context.now.cipher_suite },
+    ghost same_required: { IsTrue unchanged → former.now ≡ required.now },
+    ghost same_types: { types.now ≡ requires_types context.now.extensions },
 }
 
 /// Checks the leaf nodes of the tree after a commit (RFC 9420, 7.3). Those of the tree before it must be valid under the
@@ -47,14 +52,13 @@ fn check_leaf_nodes<C: SignatureCheck>(
     ensures fault { IfErr result (λ e. IsMemberFault (C.meaning checker.now)
         rules.now.context.now.cipher_suite rules.now.context.now.group_id rules.now.required.now tree.now.tree e) }
 {
-    let sorted = SortedRequirements::new(alloc, rules.required)?;
     let leaf_rules = LeafRules {
         context: rules.context,
         required: rules.required,
-        sorted: &sorted,
         checker,
     };
-    tree.check_members(alloc, rules.former, &leaf_rules)
+    let former = rules.former.required();
+    tree.check_members(alloc, former, rules.unchanged, &leaf_rules)
 }
 
 /// Checks the rules for the tree after a commit: its encryption keys are distinct, and its leaf nodes are valid (RFC

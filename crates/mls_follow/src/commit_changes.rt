@@ -20,7 +20,7 @@ ghost use Rattle.mls_follow.specs.State.{State, last_epoch};
 ghost use Rattle.mls_follow.specs.AcceptanceInternal.{FailsWithRule};
 ghost use Rattle.mls_msgs.specs.Rules.{has_rule};
 ghost use Rattle.mls_follow.specs.StrictRules.{supports_extensions};
-ghost use Rattle.mls_follow.specs.StrictRulesInternal.{RefusesCommit, commit_strict_refusal};
+ghost use Rattle.mls_follow.specs.StrictRulesInternal.{RefusesCommit, commit_late_refusal};
 ghost use Rattle.mls_follow.specs.GroupModel.{group_state};
 ghost use Rattle.mls_follow.specs.GroupModelInternal.{with_known};
 ghost use Rattle.mls_follow.specs.MessageRules.{changed_tree, inline_rules, applied_tree_rules, path_rules_of, committer_tree, resulting};
@@ -32,7 +32,7 @@ use crate::group::{Group, StagedContext};
 use crate::next_extensions::copy_of_proposed;
 use crate::proposals_by_value::check_inline;
 use crate::resolved::{ReceivedCommit, ResolvedCommit};
-use crate::strict_rules::check_strict_commit;
+use crate::strict_rules::check_late_commit;
 use mls_apply::{
     CommitterPath, EpochState, Leaves, ListItem, Refusal, StagedTree, check_join, check_list,
     have_distinct_added_keys, join_items, resolve_list,
@@ -40,7 +40,6 @@ use mls_apply::{
 use mls_check::SignatureCheck;
 use mls_hash::Suite;
 use mls_msgs::{Commit, Sender, UpdatePath};
-use mls_nodes::{Extensions, GroupContext};
 use mls_wire::Opaque;
 use std::alloc::Global;
 
@@ -280,20 +279,9 @@ fn stage_commit<C: SignatureCheck>(
     })
 }
 
-/// Returns the extensions of the GroupContext after a commit: those that it proposes, else the current ones.
-fn extensions_after<'a>(context: &'a GroupContext, staged: &'a StagedContext) -> &'a Extensions
-    ensures { let proposed = option_map (λ next. next.extensions) staged.now.extensions in
-        result.now ≡ unwrap_or proposed context.now.extensions }
-{
-    match &staged.extensions {
-        Some(next) => &next.extensions,
-        None => &context.extensions,
-    }
-}
-
 /// Stages a commit, as `stage_commit` does, if it also meets the strict rules, which are checked last. The changes can then be
 /// made final. On error a part of the commit may have been applied.
-pub(crate) fn stage_strict_commit<C: SignatureCheck>(
+pub(crate) fn stage_judged_commit<C: SignatureCheck>(
     alloc: Global,
     rules: &TreeRules<'_>,
     checker: &C,
@@ -310,10 +298,10 @@ pub(crate) fn stage_strict_commit<C: SignatureCheck>(
         (in_context rules.now.context.now) rules.now.required.now
         commit.now.committer commit.now.path.now o) ≡ None) }
     ensures strict_rules_hold { let extensions = new_extensions rules.now.context.now.extensions commit.now.items.items in
-        OnOk result (commit_strict_refusal rules.now.asked commit.now.strict extensions tree.new.tree ≡ None) }
+        OnOk result (commit_late_refusal rules.now.asked commit.now.late extensions tree.new.tree ≡ None) }
     ensures refused { let o = outcome commit.now.items.items tree.old.tree in
         let H = hash_of rules.now.context.now.cipher_suite in
-        IfErr result (RefusesCommit rules.now.context.now rules.now.asked commit.now.strict commit.now.items.items
+        IfErr result (RefusesCommit rules.now.context.now rules.now.asked commit.now.late commit.now.items.items
         (first_failing (applied_tree_rules (C.meaning checker.now) (in_context rules.now.context.now)
         rules.now.required.now commit.now.committer commit.now.path.now o))
         (changed_tree H commit.now.committer commit.now.path.now o)) }
@@ -329,8 +317,7 @@ pub(crate) fn stage_strict_commit<C: SignatureCheck>(
     ensures is_index_of_tree { OnOk result (tree.new.indexed ≡ true) }
 {
     let staged = stage_commit(alloc, rules, checker, tree, commit)?;
-    let extensions = extensions_after(rules.context, &staged);
-    let answer = check_strict_commit(alloc, rules, checker, tree, commit.strict, extensions);
+    let answer = check_late_commit(alloc, rules, checker, tree, commit.late, &staged);
     if let Err(refusal) = answer {
         drop(staged);
         return Err(refusal);

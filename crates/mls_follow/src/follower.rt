@@ -7,6 +7,7 @@ ghost use Rattle.mls_nodes.specs.ExternalSenders.{senders_by};
 ghost use Rattle.mls_nodes.specs.Requirements.{extension_of, Requires};
 ghost use Rattle.mls_msgs.specs.Rules.{plain_rules};
 ghost use Rattle.mls_msgs.specs.declared.profile.Profile.TheVariants.{Members};
+ghost use Rattle.mls_strict.specs.LeafForms.{requires_types};
 ghost use Rattle.mls_apply.specs.Staged.{IsSettled};
 ghost use Rattle.mls_follow.specs.CommitTree.{initial_state_of_tree};
 ghost use Rattle.mls_follow.specs.State.{EncodesMessage};
@@ -14,7 +15,7 @@ ghost use Rattle.mls_follow.specs.GroupModel.{group_state};
 ghost use Rattle.mls_follow.specs.FollowerInvariant.{HasUniqueKeysAndValidLeaves, HasUniqueKeysAndValidLeaves-prop};
 ghost use Rattle.mls_follow.specs.Acceptance.{IsAcceptable, IsNext, IsFirstRefusal};
 ghost use Rattle.mls_follow.specs.MessageHeader.{HasNoHeader, IsUnreadMessage};
-ghost use Rattle.mls_follow.specs.Runs.{IsTransition};
+ghost use Rattle.mls_follow.specs.TimedAcceptance.{IsAcceptableAt, IsFirstRefusalAt, IsTransitionAt};
 ghost use Rattle.mls_check.specs.GroupTree.{FailsSuite, IsSupportedContext};
 ghost use Rattle.mls_check.specs.ReceiptSets.{with_receipt};
 ghost use Rattle.mls_check.specs.Signatures.{Extends};
@@ -26,6 +27,7 @@ ghost use Rattle.mls_follow.specs.StoredState.{AreReferenced};
 use crate::added_rules::StrictRefused;
 use crate::framed_content_rules::read_message;
 use crate::group::Group;
+use crate::received_frame::ReceivedMessage;
 use crate::resume::{ResumeRefused, resumed_group};
 use crate::start::{StartParts, StartRefused, StartRules, check_start, supported_suite};
 use crate::start_fault::StartFault;
@@ -59,6 +61,7 @@ fn initial_group(
 ) -> Group
     requires suite_of_context { checked.suite ≡ info.context.cipher_suite }
     requires required { Requires info.context checked.required }
+    requires types { checked.types ≡ requires_types info.context.extensions }
     requires senders { checked.senders ≡ senders_by info.context.extensions }
     requires settled { IsSettled tree }
     ensures { group_state result ≡ initial_state_of_tree checked.asked profile info tree.tree checked.interim }
@@ -74,6 +77,7 @@ fn initial_group(
         added: None,
         suite: checked.suite,
         required: checked.required,
+        types: checked.types,
         senders: checked.senders,
     }
 }
@@ -355,29 +359,21 @@ impl<C: SignatureCheck> Follower<C> {
         self.group.add_rules(self.alloc, asked)
     }
 
-    /// Processes a message, which `bytes` must encode.
-    fn take_message(&mut self, message: &Message, bytes: &[u8]) -> Result<Taken, Refusal>
-        requires { EncodesMessage (state_of self.old).profile message.now bytes.now }
-        ensures takes { IsTransition (C.meaning (checker_of self.old)) (state_of self.old) bytes.now result
-            (state_of self.new) }
+    /// Processes a message that was received.
+    fn take_message(&mut self, received: &ReceivedMessage<'_>) -> Result<Taken, Refusal>
+        requires { EncodesMessage (state_of self.old).profile received.now.message.now received.now.bytes.now }
+        ensures takes { IsTransitionAt received.now.time (C.meaning (checker_of self.old)) (state_of self.old)
+            received.now.bytes.now result (state_of self.new) }
         ensures checker { C.meaning (checker_of self.new) ≡ C.meaning (checker_of self.old) }
     {
-        self.group.take(self.alloc, &self.checker, message, bytes)
+        self.group.take(self.alloc, &self.checker, received)
     }
 
-    /// Processes one message (RFC 9420, 6), and accepts it if it satisfies every rule: those of the profile, and then the
-    /// strict rules of the follower's set.
-    ///
-    /// After a commit the tree is checked from its changes. All leaves are visited only if the commit changes what the
-    /// group requires, or the types of the context's extensions and there is strict rule 51. A commit with a ReInit is applied
-    /// as any other, and ends the group (RFC 9420, 11.2).
+    /// Processes one message (RFC 9420, 6) without a time, as [`Follower::take_at`] does.
     ///
     /// # Errors
     ///
-    /// The first rule that fails, or `OutOfMemory`. The state is then unchanged.
-    ///
-    /// These are returned even without memory: `Malformed` for more than 268,435,456 bytes or for bytes without the
-    /// header of a message, and `NotPublic` for a PrivateMessage or a Welcome.
+    /// Those of [`Follower::take_at`], but for `LifetimeOutside`.
     pub fn take(&mut self, bytes: &[u8]) -> Result<Taken, Refusal>
         ensures accepted { OnOk result (IsAcceptable (C.meaning (checker_of self.old))
             (state_of self.old) bytes.now) }
@@ -392,8 +388,46 @@ impl<C: SignatureCheck> Follower<C> {
         ensures unchanged_on_error { OnErr result (state_of self.new ≡ state_of self.old) }
         ensures checker { C.meaning (checker_of self.new) ≡ C.meaning (checker_of self.old) }
     {
+        self.take_at(None, bytes)
+    }
+
+    /// Processes one message (RFC 9420, 6), and accepts it if it satisfies every rule: those of the profile, then the strict
+    /// rules of the follower's set, and last, if a time is handed in, that the lifetime of the leaf node of each Add that the
+    /// message has by value includes it (7.2, 7.3 and 10.1). `now` is in seconds since 1970, as a Lifetime. No clock is read,
+    /// and no state has the time: a leaf node of the tree stays valid when its lifetime ends, and an Add that a commit names by
+    /// reference was judged when it came.
+    ///
+    /// After a commit the tree is checked from its changes. All leaves are visited only if the commit changes what the
+    /// group requires, or the types of the context's extensions and there is strict rule 51. A commit with a ReInit is applied
+    /// as any other, and ends the group (RFC 9420, 11.2).
+    ///
+    /// # Errors
+    ///
+    /// The first rule that fails, or `OutOfMemory`. The state is then unchanged.
+    ///
+    /// These are returned even without memory: `Malformed` for more than 268,435,456 bytes or for bytes without the
+    /// header of a message, and `NotPublic` for a PrivateMessage or a Welcome.
+    pub fn take_at(&mut self, now: Option<u64>, bytes: &[u8]) -> Result<Taken, Refusal>
+        ensures accepted { OnOk result (IsAcceptableAt now (C.meaning (checker_of self.old))
+            (state_of self.old) bytes.now) }
+        ensures next { IfOk result (λ taken. IsNext (state_of self.old) bytes.now
+            (record { taken = taken; state = state_of self.new })) }
+        ensures refused { IfErr result (λ e. e ≢ Refusal.OutOfMemory
+            → IsFirstRefusalAt now (C.meaning (checker_of self.old)) (state_of self.old)
+            bytes.now e) }
+        ensures too_long { input_limit < length bytes.now → result ≡ Err Refusal.Malformed }
+        ensures no_header { HasNoHeader bytes.now → result ≡ Err Refusal.Malformed }
+        ensures unread { IsUnreadMessage bytes.now → result ≡ Err Refusal.NotPublic }
+        ensures unchanged_on_error { OnErr result (state_of self.new ≡ state_of self.old) }
+        ensures checker { C.meaning (checker_of self.new) ≡ C.meaning (checker_of self.old) }
+    {
         let message = read_message(self.alloc, self.group.profile, bytes)?;
-        let answer = self.take_message(&message, bytes);
+        let received = ReceivedMessage {
+            message: &message,
+            bytes,
+            time: now,
+        };
+        let answer = self.take_message(&received);
         drop(message);
         answer
     }

@@ -7,6 +7,7 @@ ghost use Rattle.mls_msgs.specs.Tbs.{confirmed_input};
 ghost use Rattle.mls_nodes.specs.ExternalSenders.{senders_by};
 ghost use Rattle.mls_nodes.specs.Requirements.{Requires, RequiresBy};
 ghost use Rattle.mls_nodes.proofs.RequiredOnce.{Requires-prop};
+ghost use Rattle.mls_strict.specs.LeafForms.{requires_types};
 ghost use Rattle.mls_apply.specs.PackageRefs.{added_references};
 ghost use Rattle.mls_apply.specs.Staged.{IsSettled};
 ghost use Rattle.mls_apply.specs.StagedInternal.{IsSettled-prop};
@@ -24,16 +25,18 @@ use mls_apply::{
     KnownProposal, PendingProposals, Refusal, StagedTree, added_references, confirmed_hash,
     interim_hash,
 };
+use mls_check::GroupRequirements;
 use mls_hash::Suite;
 use mls_msgs::{Profile, Rules};
-use mls_nodes::{ExternalSenders, GroupContext, RequiredCapabilities};
+use mls_nodes::{ExternalSenders, GroupContext};
 use mls_tree::HashValue;
 use mls_wire::{Opaque, copy_of};
 use std::alloc::{AllocError, Global};
 
 /// The public state of a group: the profile, the set of strict rules, its context, its tree, the interim transcript hash,
 /// the pending proposals, whether it is over, and the KeyPackageRefs of the Adds of the last commit; and, read from these, the
-/// cipher suite, what the group requires of its members, and its external senders, `None` if they cannot be read.
+/// cipher suite, what the group requires of its members, what the types of its extensions require, and its external senders,
+/// `None` if they cannot be read. What is required is stored with sorted lists, which are made once an epoch.
 #[derive(Drop)]
 pub(crate) struct Group {
     pub(crate) profile: Profile,
@@ -45,10 +48,12 @@ pub(crate) struct Group {
     pub(crate) ended: bool,
     pub(crate) added: Option<Vec<HashValue>>,
     pub(crate) suite: Suite,
-    pub(crate) required: RequiredCapabilities,
+    pub(crate) required: GroupRequirements,
+    pub(crate) types: GroupRequirements,
     pub(crate) senders: Option<ExternalSenders>,
     ghost same_suite: { suite ≡ context.cipher_suite },
     ghost requires_these: { Requires context required } by { Requires-prop context required },
+    ghost same_types: { types ≡ requires_types context.extensions },
     ghost same_senders: { senders ≡ senders_by context.extensions },
     ghost referenced: { AreReferenced context known },
     ghost settled: { IsSettled tree } by { IsSettled-prop tree },
@@ -142,13 +147,13 @@ impl Group {
         })
     }
 
-    /// Moves to the next epoch, whose tree is in place. The extensions, the external senders and the requirements are
+    /// Moves to the next epoch, whose tree is in place. The extensions, what is read in them and the requirements are
     /// replaced only if the commit proposes extensions. Does not allocate.
     pub(crate) fn begin_epoch(
         &mut self,
         staged: StagedContext,
         hashes: CommitHashes,
-        required: Option<RequiredCapabilities>,
+        required: Option<GroupRequirements>,
         ends: bool,
     ) -> Taken
         requires not_last_epoch { self.old.context.epoch < last_epoch }
@@ -167,6 +172,7 @@ impl Group {
         self.context.epoch += 1;
         if let Some(next) = extensions {
             self.context.extensions = next.extensions;
+            self.types = next.types;
             self.senders = next.senders;
         }
         if let Some(required) = required {

@@ -11,6 +11,7 @@ ghost use Rattle.mls_follow.specs.ResumptionParts.{HasProposal, IsKnownFault};
 ghost use Rattle.mls_follow.specs.State.{State};
 
 use crate::group::Group;
+use crate::received_frame::ReceivedMessage;
 use crate::resume_fault::ResumeFault;
 use mls_apply::Refusal;
 use mls_check::SignatureCheck;
@@ -114,7 +115,12 @@ fn hold_message<C: SignatureCheck>(
     if bytes.len() > MAX_INPUT || !group.profile.has_message(message) {
         return Ok(false);
     }
-    match group.take(alloc, checker, message, bytes.as_slice()) {
+    let received = ReceivedMessage {
+        message,
+        bytes: bytes.as_slice(),
+        time: None,
+    };
+    match group.take(alloc, checker, &received) {
         Ok(_) => Ok(true),
         Err(Refusal::OutOfMemory) => Err(AllocError),
         Err(_) => Ok(false),

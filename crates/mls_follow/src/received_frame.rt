@@ -1,11 +1,13 @@
-//! A PublicMessage that was received, what its sender has signed of it, and the strict rule that it does not meet.
+//! A PublicMessage that was received, what its sender has signed of it, and its refusal by the rules after those of the
+//! profile.
 
 ghost use Rattle.std.specs.Prelude.{◌≡◌, Some, None};
 ghost use Rattle.mls_msgs.specs.Message.{message};
 ghost use Rattle.mls_msgs.specs.Tbs.{content_tbs};
 ghost use Rattle.mls_msgs.specs.declared.message.Message.TheVariants.{Public};
 
-use mls_msgs::{Authenticated, PublicMessage, StrictRule};
+use mls_apply::Refusal;
+use mls_msgs::{Authenticated, Message, PublicMessage};
 use std::marker::Model;
 
 /// The AuthenticatedContent of a PublicMessage, and its FramedContentTBS without a GroupContext (RFC 9420, 6.1): a part of
@@ -56,9 +58,18 @@ impl<'a> ReceivedFrame<'a> {
     }
 }
 
-/// A PublicMessage that was received, and the first strict rule of the group's set that it does not meet by itself.
+/// A PublicMessage that was received, and its refusal by the first of the rules after those of the profile that it does not
+/// meet by itself: a strict one of the group's set, but for 51, or that for lifetimes.
 #[derive(Drop)]
 pub(crate) struct JudgedFrame<'a> {
     pub(crate) frame: ReceivedFrame<'a>,
-    pub(crate) strict: Option<StrictRule>,
+    pub(crate) late: Option<Refusal>,
+}
+
+/// A message that was received, its bytes, and the time at which it is judged, in seconds since 1970, if one is handed in.
+#[derive(Clone, Copy)]
+pub(crate) struct ReceivedMessage<'a> {
+    pub(crate) message: &'a Message,
+    pub(crate) bytes: &'a [u8],
+    pub(crate) time: Option<u64>,
 }

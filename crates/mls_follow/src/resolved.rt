@@ -1,19 +1,19 @@
 //! A proposal that was sent, and a commit before and after its proposal list is resolved (RFC 9420, 12.4). With each is the
-//! first strict rule that its message does not meet by itself.
+//! refusal by the first of the rules after those of the profile that its message does not meet by itself.
 
 ghost use Rattle.std.specs.Prelude.{IsSome, IsTrue};
 ghost use Rattle.mls_msgs.specs.Layout.{is_commit};
 ghost use Rattle.mls_msgs.specs.Tbs.{confirmed_input};
 ghost use Rattle.mls_follow.specs.CommitTree.{IsListed, IsListed-prop};
 
-use mls_apply::{ListItem, PendingProposals};
-use mls_msgs::{Authenticated, Commit, Proposal, Sender, StrictRule, UpdatePath};
+use mls_apply::{ListItem, PendingProposals, Refusal};
+use mls_msgs::{Authenticated, Commit, Proposal, Sender, UpdatePath};
 
 /// A message that a member has sent and signed: its AuthenticatedContent, and the member.
 #[derive(Clone, Copy)]
 pub(crate) struct MemberMessage<'a> {
     pub(crate) auth: &'a Authenticated,
-    pub(crate) strict: Option<StrictRule>,
+    pub(crate) late: Option<Refusal>,
     pub(crate) sender: u32,
 }
 
@@ -21,7 +21,7 @@ pub(crate) struct MemberMessage<'a> {
 #[derive(Clone, Copy)]
 pub(crate) struct SentProposal<'a> {
     pub(crate) auth: &'a Authenticated,
-    pub(crate) strict: Option<StrictRule>,
+    pub(crate) late: Option<Refusal>,
     pub(crate) sender: Sender,
     pub(crate) proposal: &'a Proposal,
 }
@@ -29,7 +29,7 @@ pub(crate) struct SentProposal<'a> {
 /// A member's commit that was decoded: the member, the commit, and the pending proposals that its list may name.
 #[derive(Clone, Copy)]
 pub(crate) struct ReceivedCommit<'a> {
-    pub(crate) strict: Option<StrictRule>,
+    pub(crate) late: Option<Refusal>,
     pub(crate) committer: u32,
     pub(crate) commit: &'a Commit,
     pub(crate) known: &'a PendingProposals,
@@ -40,7 +40,7 @@ pub(crate) struct ReceivedCommit<'a> {
 #[derive(Drop)]
 pub(crate) struct ResolvedCommit<'a> {
     pub(crate) auth: &'a Authenticated,
-    pub(crate) strict: Option<StrictRule>,
+    pub(crate) late: Option<Refusal>,
     pub(crate) committer: Sender,
     pub(crate) items: Vec<ListItem<'a>>,
     pub(crate) path: &'a Option<UpdatePath>,

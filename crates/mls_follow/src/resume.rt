@@ -10,6 +10,7 @@ ghost use Rattle.mls_nodes.specs.ExternalSenders.{senders_by};
 ghost use Rattle.mls_nodes.specs.Requirements.{Requires};
 ghost use Rattle.mls_check.specs.GroupTree.{IsSupportedContext, HasMembers};
 ghost use Rattle.mls_check.specs.Signatures.{VerifyFn};
+ghost use Rattle.mls_strict.specs.LeafForms.{requires_types};
 ghost use Rattle.mls_apply.specs.Staged.{IsSettled};
 ghost use Rattle.mls_state.specs.Layout.{state_file};
 ghost use Rattle.mls_state.specs.StateFile.{HasChecksum, IsFileOf};
@@ -20,16 +21,16 @@ ghost use Rattle.mls_follow.specs.FollowerInvariant.{HasUniqueKeysAndValidLeaves
 ghost use Rattle.mls_follow.specs.Resumption.{HasInterim, IsStateOf, IsContentFault, IsResumed, IsResumeFault, is_over, profile_of_mode};
 ghost use Rattle.mls_follow.specs.ResumptionParts.{IsStateFault, MakesState, ReadsReferences, ReadsTreeBody, state_without_pending, without_tree};
 
+use crate::epoch_parts::EpochParts;
 use crate::group::Group;
 use crate::group_tree::{UnsupportedContext, group_requirements, suite_of};
 use crate::pending_entries::hold_entries;
 use crate::resume_fault::ResumeFault;
 use mls_apply::{PendingProposals, StagedTree};
-use mls_check::{OutOfMemory, SignatureCheck};
+use mls_check::{GroupRequirements, OutOfMemory, SignatureCheck};
 use mls_hash::{Suite, decode_with_leaf_hashes};
 use mls_msgs::{Profile, Rules};
 use mls_nodes::{ExternalSenders, GroupContext, NodeFault, RequiredCapabilities};
-use mls_signatures::senders_of;
 use mls_state::{FollowerState, GroupMode, StateFile, StateFileFault, decode_state_file};
 use mls_tree::{HashValue, PublicTree};
 use mls_wire::{CodecFault, Opaque, Sequence, bytes_of, copy_of, read_input};
@@ -183,7 +184,8 @@ fn resumed_interim(suite: Suite, interim: &Opaque) -> Option<HashValue>
 struct Found {
     suite: Suite,
     tree: StagedTree,
-    required: RequiredCapabilities,
+    required: GroupRequirements,
+    types: GroupRequirements,
     senders: Option<ExternalSenders>,
     interim: HashValue,
 }
@@ -200,6 +202,7 @@ fn check_content<C: SignatureCheck>(
     ensures tree { IfOk result (λ found. found.tree.tree ≡ tree.tree) }
     ensures settled { IfOk result (λ found. IsSettled found.tree) }
     ensures required { IfOk result (λ found. Requires content.now.context found.required) }
+    ensures types { IfOk result (λ found. found.types ≡ requires_types content.now.context.extensions) }
     ensures senders { IfOk result (λ found. found.senders ≡ senders_by content.now.context.extensions) }
     ensures interim { IfOk result (λ found. found.interim ≡ content.now.interim) }
     ensures based { OnOk result (HasInterim (C.meaning checker.now) content.now (plain tree)) }
@@ -208,17 +211,17 @@ fn check_content<C: SignatureCheck>(
     let suite = resumed_suite(&content.context)?;
     let (tree, required) = resumed_tree(alloc, suite, &content.context, tree, checker)?;
     match resumed_interim(suite, &content.interim) {
-        Some(interim) => match senders_of(alloc, &content.context.extensions) {
-            Ok(senders) => Ok(Found {
+        Some(interim) => match EpochParts::of(alloc, &content.context.extensions, required) {
+            Ok(parts) => Ok(Found {
                 suite,
                 tree,
-                required,
-                senders,
+                required: parts.required,
+                types: parts.types,
+                senders: parts.senders,
                 interim,
             }),
             Err(OutOfMemory) => {
                 drop(tree);
-                drop(required);
                 Err(ResumeFault::OutOfMemory)
             }
         },
@@ -262,6 +265,7 @@ fn bare_group(
     requires suite { found.suite ≡ context.now.cipher_suite }
     requires settled { IsSettled found.tree }
     requires required { Requires context.now found.required }
+    requires types { found.types ≡ requires_types context.now.extensions }
     requires senders { found.senders ≡ senders_by context.now.extensions }
     ensures { IfOk result (λ group. group_state group
         ≡ state_without_pending mode context.now found.tree.tree found.interim) }
@@ -284,6 +288,7 @@ fn bare_group(
         added: None,
         suite: found.suite,
         required: found.required,
+        types: found.types,
         senders: found.senders,
     })
 }
@@ -329,6 +334,7 @@ fn group_of<C: SignatureCheck>(
     requires suite { found.suite ≡ content.now.context.cipher_suite }
     requires settled { IsSettled found.tree }
     requires required { Requires content.now.context found.required }
+    requires types { found.types ≡ requires_types content.now.context.extensions }
     requires senders { found.senders ≡ senders_by content.now.context.extensions }
     requires checked { HasUniqueKeysAndValidLeaves (C.meaning checker.now)
         (state_without_pending content.now.mode content.now.context found.tree.tree found.interim) }

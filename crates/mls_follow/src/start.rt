@@ -11,19 +11,20 @@ ghost use Rattle.mls_msgs.specs.declared.profile.Profile.{Profile};
 ghost use Rattle.mls_apply.specs.Staged.{IsSettled};
 ghost use Rattle.mls_follow.specs.CommitTree.{initial_state_of_tree};
 ghost use Rattle.mls_msgs.specs.declared.rules.Rules.{Rules};
+ghost use Rattle.mls_strict.specs.LeafForms.{requires_types};
 ghost use Rattle.mls_strict.specs.StrictTrees.{IsStrict};
 ghost use Rattle.mls_follow.specs.Start.{UsesTree, UsesNoTree, InfoMeets, IsInfoFault, IsStart, IsStartFault, info_interim, is_info_signed};
 ghost use Rattle.mls_follow.specs.StartInternal.{StartsWith, FailsWith, FailsStrictly, IsSignedIn, FailsSigned};
 
 use crate::context_pieces::ContextPieces;
+use crate::epoch_parts::EpochParts;
 use crate::group_tree::{UnsupportedContext, group_requirements, suite_of};
 use crate::start_fault::StartFault;
 use mls_apply::{StagedTree, interim_hash};
-use mls_check::{OutOfMemory, SignatureCheck, signed_in_pieces};
+use mls_check::{GroupRequirements, OutOfMemory, SignatureCheck, signed_in_pieces};
 use mls_hash::Suite;
 use mls_msgs::{GROUP_INFO_LABEL, GroupInfo, Rules, StrictRule};
 use mls_nodes::{EncodedLeaf, ExternalSenders, NodeFault, RequiredCapabilities, find_extension};
-use mls_signatures::senders_of;
 use mls_strict::{StrictFault, StrictTreeFault, has_each_once, validate_strict};
 use mls_tree::{HashValue, PublicTree};
 use mls_wire::EncodedLength;
@@ -57,7 +58,8 @@ pub(crate) struct StartRules {
 pub(crate) struct StartParts {
     pub(crate) asked: Rules,
     pub(crate) suite: Suite,
-    pub(crate) required: RequiredCapabilities,
+    pub(crate) required: GroupRequirements,
+    pub(crate) types: GroupRequirements,
     pub(crate) senders: Option<ExternalSenders>,
     pub(crate) interim: HashValue,
 }
@@ -260,6 +262,7 @@ fn check_info_and_tree<C: SignatureCheck>(
     ensures asked { IfOk result (λ checked. checked.asked ≡ rules.now.asked) }
     ensures suite { IfOk result (λ checked. checked.suite ≡ info.now.context.cipher_suite) }
     ensures required { IfOk result (λ checked. Requires info.now.context checked.required) }
+    ensures types { IfOk result (λ checked. checked.types ≡ requires_types info.now.context.extensions) }
     ensures senders { IfOk result (λ checked. checked.senders ≡ senders_by info.now.context.extensions) }
     ensures started { IfOk result (λ checked. StartsWith rules.now.asked
         (C.meaning checker.now) info.now (plain tree.old) checked.interim) }
@@ -268,18 +271,16 @@ fn check_info_and_tree<C: SignatureCheck>(
     let suite = rules.suite;
     let required = validated_requirements(alloc, suite, info, tree, checker)?;
     match verified_interim_hash(alloc, rules, info, tree, checker) {
-        Ok(interim) => match senders_of(alloc, &info.context.extensions) {
-            Ok(senders) => Ok(StartParts {
+        Ok(interim) => match EpochParts::of(alloc, &info.context.extensions, required) {
+            Ok(parts) => Ok(StartParts {
                 asked: rules.asked,
                 suite,
-                required,
-                senders,
+                required: parts.required,
+                types: parts.types,
+                senders: parts.senders,
                 interim,
             }),
-            Err(OutOfMemory) => {
-                drop(required);
-                Err(StartFault::OutOfMemory)
-            }
+            Err(OutOfMemory) => Err(StartFault::OutOfMemory),
         },
         Err(fault) => {
             drop(required);
@@ -303,6 +304,7 @@ fn check_tree<C: SignatureCheck>(
     ensures asked { IfOk result (λ found. found.1.asked ≡ rules.now.asked) }
     ensures suite { IfOk result (λ found. found.1.suite ≡ info.now.context.cipher_suite) }
     ensures required { IfOk result (λ found. Requires info.now.context found.1.required) }
+    ensures types { IfOk result (λ found. found.1.types ≡ requires_types info.now.context.extensions) }
     ensures senders { IfOk result (λ found. found.1.senders ≡ senders_by info.now.context.extensions) }
     ensures started { IfOk result (λ found. StartsWith rules.now.asked
         (C.meaning checker.now) info.now (plain tree) found.1.interim) }
@@ -334,6 +336,7 @@ fn check_embedded_tree<C: SignatureCheck>(
     ensures asked { IfOk result (λ found. found.1.asked ≡ rules.now.asked) }
     ensures suite { IfOk result (λ found. found.1.suite ≡ info.now.context.cipher_suite) }
     ensures required { IfOk result (λ found. Requires info.now.context found.1.required) }
+    ensures types { IfOk result (λ found. found.1.types ≡ requires_types info.now.context.extensions) }
     ensures senders { IfOk result (λ found. found.1.senders ≡ senders_by info.now.context.extensions) }
     ensures started { IfOk result (λ found. (profile : Profile) → IsStart rules.now.asked profile (C.meaning checker.now)
         info.now None (initial_state_of_tree rules.now.asked profile info.now found.0.tree found.1.interim)) }
@@ -366,6 +369,7 @@ pub(crate) fn check_start<C: SignatureCheck>(
     ensures asked { IfOk result (λ found. found.1.asked ≡ rules.now.asked) }
     ensures suite { IfOk result (λ found. found.1.suite ≡ info.now.context.cipher_suite) }
     ensures required { IfOk result (λ found. Requires info.now.context found.1.required) }
+    ensures types { IfOk result (λ found. found.1.types ≡ requires_types info.now.context.extensions) }
     ensures senders { IfOk result (λ found. found.1.senders ≡ senders_by info.now.context.extensions) }
     ensures started { IfOk result (λ found. (profile : Profile) → IsStart rules.now.asked profile (C.meaning checker.now)
         info.now (option_map plain tree) (initial_state_of_tree rules.now.asked profile info.now found.0.tree found.1.interim)) }

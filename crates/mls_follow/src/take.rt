@@ -20,25 +20,24 @@ ghost use Rattle.mls_follow.specs.MessageRulesInternal.{external_commit_refusal,
 ghost use Rattle.mls_follow.specs.NextState.{after_commit, after_content, after_join, after_outside, after_proposal, after_sender, after_tree, with_list};
 ghost use Rattle.mls_follow.specs.State.{EncodesMessage, last_epoch};
 ghost use Rattle.mls_follow.specs.AcceptanceInternal.{Takes};
-ghost use Rattle.mls_follow.specs.StrictRulesInternal.{strict_refusal};
-ghost use Rattle.mls_follow.specs.Runs.{IsTransition};
+ghost use Rattle.mls_follow.specs.StrictRulesInternal.{late_refusal};
+ghost use Rattle.mls_follow.specs.TimedAcceptance.{IsTransitionAt};
 
 use crate::changed_tree_check::TreeRules;
-use crate::commit_changes::{check_items, check_join_items, stage_strict_commit};
+use crate::commit_changes::{check_items, check_join_items, stage_judged_commit};
 use crate::framed_content_rules::{
     check_header, check_joiner_frame, check_member_frame, check_outside_frame,
 };
 use crate::group::Group;
 use crate::next_extensions::{proposed_requirements, required_after};
 use crate::proposal_message::check_proposal_message;
-use crate::received_frame::{JudgedFrame, ReceivedFrame};
+use crate::received_frame::{JudgedFrame, ReceivedFrame, ReceivedMessage};
 use crate::resolved::{MemberMessage, ReceivedCommit, ResolvedCommit, SentProposal};
-use crate::strict_rules::unmet_rule;
+use crate::strict_rules::late_rule;
 use crate::taken::Taken;
 use mls_apply::{PendingProposals, Refusal, has_reinit};
-use mls_check::SignatureCheck;
+use mls_check::{GroupRequirements, SignatureCheck};
 use mls_msgs::{Authenticated, Commit, Content, Message, Profile, Proposal, Sender};
-use mls_nodes::RequiredCapabilities;
 use std::alloc::{AllocError, Global};
 use std::mem::replace;
 
@@ -55,15 +54,15 @@ impl Group {
         requires framed { IsSentIn self.old.context sent.now.auth.now sent.now.sender sent.now.proposal.now }
         requires referenced { IsSome (reference_of self.old.context sent.now.auth.now) }
         ensures { let s = group_state self.old in
-            Takes (strict_refusal self.old.rules sent.now.strict)
+            Takes (late_refusal self.old.rules sent.now.late)
             (proposal_refusal (C.meaning checker.now) s sent.now.auth.now sent.now.sender sent.now.proposal.now)
             (option_map (after_proposal s sent.now.auth.now sent.now.sender sent.now.proposal.now)
             (reference_of self.old.context sent.now.auth.now))
             s result (group_state self.new) }
     {
         let reference = check_proposal_message(alloc, self, checker, sent)?;
-        if let Some(rule) = sent.strict {
-            return Err(Refusal::Strict(rule));
+        if let Some(refusal) = sent.late {
+            return Err(refusal);
         }
         Ok(self.store_proposal(alloc, reference, sent)?)
     }
@@ -81,7 +80,7 @@ impl Group {
         requires framed { IsSentIn self.old.context message.now.auth.now (Member message.now.sender) proposal.now }
         requires referenced { IsSome (reference_of self.old.context message.now.auth.now) }
         ensures { let s = group_state self.old in
-            Takes (strict_refusal self.old.rules message.now.strict)
+            Takes (late_refusal self.old.rules message.now.late)
             (handshake_refusal (C.meaning checker.now) s self.old.required message.now.auth.now
             message.now.sender (contents.Proposal proposal.now))
             (after_content s message.now.auth.now message.now.sender (contents.Proposal proposal.now))
@@ -89,7 +88,7 @@ impl Group {
     {
         let sent = SentProposal {
             auth: message.auth,
-            strict: message.strict,
+            late: message.late,
             sender: Sender::Member(message.sender),
             proposal,
         };
@@ -104,7 +103,7 @@ impl Group {
         alloc: Global,
         checker: &C,
         commit: &ResolvedCommit<'_>,
-        required: Option<RequiredCapabilities>,
+        required: Option<GroupRequirements>,
     ) -> Result<Taken, Refusal>
         requires present { IsTrue (is_present self.old.tree.tree commit.now.committer) }
         requires not_last_epoch { self.old.context.epoch < last_epoch }
@@ -115,7 +114,7 @@ impl Group {
             let o = outcome commit.now.items.items self.old.tree.tree in
             let H = hash_of self.old.context.cipher_suite in
             let listed = with_list s (Some commit.now.items.items) in
-            Takes (strict_refusal self.old.rules commit.now.strict)
+            Takes (late_refusal self.old.rules commit.now.late)
             (first_failing (applied_tree_rules (C.meaning checker.now) s (unwrap_or required self.old.required)
             commit.now.committer commit.now.path.now o))
             (option_and_then (after_tree listed commit.now.auth.now) (changed_tree H commit.now.committer
@@ -129,14 +128,17 @@ impl Group {
                 return Err(Refusal::OutOfMemory);
             }
         };
+        let after = required_after(&self.required, &required);
         let rules = TreeRules {
             suite: self.suite,
             context: &self.context,
             former: &self.required,
-            required: required_after(&self.required, &required),
+            required: after.required,
+            unchanged: after.unchanged,
+            types: &self.types,
             asked: self.rules,
         };
-        match stage_strict_commit(alloc, &rules, checker, &mut self.tree, commit) {
+        match stage_judged_commit(alloc, &rules, checker, &mut self.tree, commit) {
             Ok(staged) => {
                 self.tree.settle();
                 let ends = has_reinit(commit.items.as_slice());
@@ -164,7 +166,7 @@ impl Group {
             let required = required_after self.old.required (proposed_extensions commit.now.items.items) in
             let H = hash_of self.old.context.cipher_suite in
             let listed = with_list s (Some commit.now.items.items) in
-            Takes (strict_refusal self.old.rules commit.now.strict)
+            Takes (late_refusal self.old.rules commit.now.late)
             (first_failing (rules_with_requirements (C.meaning checker.now) s commit.now.committer
             commit.now.path.now o required))
             (option_and_then (after_tree listed commit.now.auth.now) (changed_tree H commit.now.committer
@@ -189,7 +191,7 @@ impl Group {
         requires commit { IsTrue (is_commit auth.now.content.content) }
         requires checked { HasUniqueKeysAndValidLeaves (C.meaning checker.now) (group_state self.old) }
         ensures { let s = group_state self.old in
-            Takes (strict_refusal self.old.rules received.now.strict)
+            Takes (late_refusal self.old.rules received.now.late)
             (handshake_refusal (C.meaning checker.now) (with_known s received.now.known.now) self.old.required
             auth.now received.now.committer (contents.Commit received.now.commit.now))
             (after_content (with_known s received.now.known.now) auth.now received.now.committer (contents.Commit
@@ -199,7 +201,7 @@ impl Group {
         let items = check_items(alloc, self, checker, received)?;
         let resolved = ResolvedCommit {
             auth,
-            strict: received.strict,
+            late: received.late,
             committer: Sender::Member(received.committer),
             items,
             path: &received.commit.path,
@@ -223,7 +225,7 @@ impl Group {
         requires commit { IsTrue (is_commit message.now.auth.now.content.content) }
         requires checked { HasUniqueKeysAndValidLeaves (C.meaning checker.now) (group_state self.old) }
         ensures { let s = group_state self.old in
-            Takes (strict_refusal self.old.rules message.now.strict)
+            Takes (late_refusal self.old.rules message.now.late)
             (handshake_refusal (C.meaning checker.now) s self.old.required message.now.auth.now
             message.now.sender (contents.Commit commit.now))
             (after_content s message.now.auth.now message.now.sender (contents.Commit commit.now))
@@ -231,7 +233,7 @@ impl Group {
     {
         let known = replace(&mut self.known, PendingProposals::new(alloc));
         let received = ReceivedCommit {
-            strict: message.strict,
+            late: message.late,
             committer: message.sender,
             commit,
             known: &known,
@@ -259,7 +261,7 @@ impl Group {
         requires referenced { IsSome (reference_of self.old.context judged.now.frame) }
         requires checked { HasUniqueKeysAndValidLeaves (C.meaning checker.now) (group_state self.old) }
         ensures { let s = group_state self.old in
-            Takes (strict_refusal self.old.rules judged.now.strict)
+            Takes (late_refusal self.old.rules judged.now.late)
             (sender_refusal (C.meaning checker.now) s self.old.required judged.now.frame (Member sender))
             (after_sender s judged.now.frame (Member sender))
             s result (group_state self.new) }
@@ -268,7 +270,7 @@ impl Group {
         let auth = judged.frame.auth();
         let message = MemberMessage {
             auth,
-            strict: judged.strict,
+            late: judged.late,
             sender,
         };
         match &auth.content().content {
@@ -292,7 +294,7 @@ impl Group {
         requires framed { IsFramedIn self.old.context judged.now.frame }
         requires referenced { IsSome (reference_of self.old.context judged.now.frame) }
         ensures { let s = group_state self.old in
-            Takes (strict_refusal self.old.rules judged.now.strict)
+            Takes (late_refusal self.old.rules judged.now.late)
             (outside_refusal (C.meaning checker.now) s judged.now.frame judged.now.frame.content.sender)
             (after_outside s judged.now.frame judged.now.frame.content.sender judged.now.frame.content.content)
             s result (group_state self.new) }
@@ -301,7 +303,7 @@ impl Group {
         let auth = judged.frame.auth();
         let sent = SentProposal {
             auth,
-            strict: judged.strict,
+            late: judged.late,
             sender: auth.content().sender,
             proposal,
         };
@@ -320,7 +322,7 @@ impl Group {
         requires framed { IsFramedIn self.old.context judged.now.frame }
         requires referenced { IsSome (reference_of self.old.context judged.now.frame) }
         ensures { let s = group_state self.old in
-            Takes (strict_refusal self.old.rules judged.now.strict)
+            Takes (late_refusal self.old.rules judged.now.late)
             (first_failing (if_full self.old.profile (outside_rules (C.meaning checker.now) s judged.now.frame
             judged.now.frame.content.sender)))
             (after_outside s judged.now.frame judged.now.frame.content.sender judged.now.frame.content.content)
@@ -346,7 +348,7 @@ impl Group {
         requires commit { IsTrue (is_commit judged.now.frame.content.content) }
         requires checked { HasUniqueKeysAndValidLeaves (C.meaning checker.now) (group_state self.old) }
         ensures { let s = group_state self.old in
-            Takes (strict_refusal self.old.rules judged.now.strict)
+            Takes (late_refusal self.old.rules judged.now.late)
             (external_commit_refusal (C.meaning checker.now) s self.old.required commit.now)
             (after_commit s judged.now.frame NewMemberCommit commit.now (Some (join_items commit.now.proposals)))
             s result (group_state self.new) }
@@ -355,7 +357,7 @@ impl Group {
         let auth = judged.frame.auth();
         let resolved = ResolvedCommit {
             auth,
-            strict: judged.strict,
+            late: judged.late,
             committer: Sender::NewMemberCommit,
             items,
             path: &commit.path,
@@ -375,7 +377,7 @@ impl Group {
         requires hashed { IsSome (confirmed_input judged.now.frame) }
         requires checked { HasUniqueKeysAndValidLeaves (C.meaning checker.now) (group_state self.old) }
         ensures { let s = group_state self.old in
-            Takes (strict_refusal self.old.rules judged.now.strict)
+            Takes (late_refusal self.old.rules judged.now.late)
             (joiner_refusal (C.meaning checker.now) s self.old.required judged.now.frame judged.now.frame.content.content)
             (after_join s judged.now.frame judged.now.frame.content.content)
             s result (group_state self.new) }
@@ -396,7 +398,7 @@ impl Group {
         requires hashed { IsSome (confirmed_input judged.now.frame) }
         requires checked { HasUniqueKeysAndValidLeaves (C.meaning checker.now) (group_state self.old) }
         ensures { let s = group_state self.old in
-            Takes (strict_refusal self.old.rules judged.now.strict)
+            Takes (late_refusal self.old.rules judged.now.late)
             (first_failing (if_full self.old.profile (joiner_rules (C.meaning checker.now) s self.old.required
             judged.now.frame judged.now.frame.content.content)))
             (after_join s judged.now.frame judged.now.frame.content.content)
@@ -420,7 +422,7 @@ impl Group {
         requires referenced { IsSome (reference_of self.old.context judged.now.frame) }
         requires checked { HasUniqueKeysAndValidLeaves (C.meaning checker.now) (group_state self.old) }
         ensures { let s = group_state self.old in
-            Takes (strict_refusal self.old.rules judged.now.strict)
+            Takes (late_refusal self.old.rules judged.now.late)
             (frame_refusal (C.meaning checker.now) s self.old.required judged.now.frame)
             (after_sender s judged.now.frame judged.now.frame.content.sender)
             s result (group_state self.new) }
@@ -434,24 +436,23 @@ impl Group {
         }
     }
 
-    /// Processes a message, which `bytes` must encode.
+    /// Processes a message, which `bytes` must encode, at this time if one is handed in.
     pub(crate) fn take<C: SignatureCheck>(
         &mut self,
         alloc: Global,
         checker: &C,
-        message: &Message,
-        bytes: &[u8],
+        received: &ReceivedMessage<'_>,
     ) -> Result<Taken, Refusal>
-        requires input { EncodesMessage self.old.profile message.now bytes.now }
+        requires input { EncodesMessage self.old.profile received.now.message.now received.now.bytes.now }
         requires checked { HasUniqueKeysAndValidLeaves (C.meaning checker.now) (group_state self.old) }
-        ensures { IsTransition (C.meaning checker.now) (group_state self.old) bytes.now result
-            (group_state self.new) }
+        ensures { IsTransitionAt received.now.time (C.meaning checker.now) (group_state self.old)
+            received.now.bytes.now result (group_state self.new) }
     {
-        match message {
+        match received.message {
             Message::Public(public) => {
-                let frame = ReceivedFrame::new(public, bytes);
-                let strict = unmet_rule(self, public);
-                let judged = JudgedFrame { frame, strict };
+                let frame = ReceivedFrame::new(public, received.bytes);
+                let late = late_rule(self, received.time, public);
+                let judged = JudgedFrame { frame, late };
                 self.take_frame(alloc, checker, &judged)
             }
             _ => Err(Refusal::NotPublic),

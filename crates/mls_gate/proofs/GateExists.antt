@@ -3,16 +3,16 @@ use Rattle.std.proofs.Common.{◌≡◌, ◌≢◌, ◌∙◌, ℕ, zero, suc, L
 use Rattle.mls_check.specs.Signatures.{VerifyFn}
 use Rattle.mls_follow.specs.CoveredLogs.{all_good}
 use Rattle.mls_follow.specs.MessageSignatures.{message_signatures_in_state}
-use Rattle.mls_follow.specs.Runs.{IsAnswer, HasAnswer}
 use Rattle.mls_follow.specs.State.{State}
+use Rattle.mls_follow.specs.TimedAnswers.{IsAnswerAt, HasAnswerAt}
 use Rattle.mls_apply.specs.declared.refusal.Refusal.{Refusal}
 use Rattle.mls_apply.specs.declared.refusal.Refusal.TheVariants.{OutOfMemory}
 use Rattle.mls_follow.specs.declared.taken.Taken.{Taken}
 use Rattle.mls_follow.specs.RisingRuns.{last_meaning}
-use Rattle.mls_follow.proofs.Deciding.{an_answer}
 use Rattle.mls_follow.proofs.Holding.{run_steady}
 use Rattle.mls_follow.proofs.RisingRuns.{as_run}
 use Rattle.mls_follow.proofs.StoredFiles.{some_file}
+use Rattle.mls_follow.proofs.TimedAnswers.{timed_answer}
 use Rattle.mls_signatures.specs.declared.signature_to_verify.SignatureToVerify.{SignatureToVerify}
 use Rattle.mls_start.proofs.FirstStates.{first_or_declined, first_or_refused, first_starts, first_steady}
 use Rattle.mls_start.specs.Inputs.{Inputs}
@@ -31,7 +31,7 @@ use Rattle.mls_gate.specs.GateSteps.{IsReady}
 use Rattle.mls_gate.specs.Phases.{Phase, Opening, Following, end_verdict}
 use Rattle.mls_gate.specs.Requests.{request_of}
 use Rattle.mls_gate.specs.declared.request.Request.{Request}
-use Rattle.mls_gate.specs.declared.request.Request.TheVariants.{Learn, Begin, Query, Process, Store}
+use Rattle.mls_gate.specs.declared.request.Request.TheVariants.{Learn, Begin, Query, Process, Time, Store}
 use Rattle.mls_gate.proofs.RecordsOnce.{RecordLines}
 use Rattle.mls_gate.proofs.Rising.{Reached, ready-reached, reached-none, reached-on}
 
@@ -41,12 +41,12 @@ own : (e : Refusal) → (◌≡◌ {A = Result Taken Refusal} (Err e) (Err OutOf
 own e memory same = memory (ap Err same)
 
 -- a message that is processed has signatures, or it is none
-some_needed : (G : VerifyFn) (s : State) (bytes : List ℕ) (answer : Result Taken Refusal) (new : State) → IsAnswer G s bytes answer new
+some_needed : (time : Option ℕ) (G : VerifyFn) (s : State) (bytes : List ℕ) (answer : Result Taken Refusal) (new : State) → IsAnswerAt time G s bytes answer new
     → (needed : Option (List SignatureToVerify)) × HasSignatures s bytes needed
-some_needed G s bytes (Ok taken) new h =
+some_needed time G s bytes (Ok taken) new h =
     let message = h.takes.0 in
     (Some (message_signatures_in_state s message.message), record { message = message.message; encoded = message.encoded; same = refl })
-some_needed G s bytes (Err e) new h =
+some_needed time G s bytes (Err e) new h =
     elim (h.takes.1 (own e h.memory)) [
       | inl none ↦ (None, none.1)
       | inr message ↦ (Some (message_signatures_in_state s message.message), record { message = message.message; encoded = message.encoded; same = refl })
@@ -54,50 +54,52 @@ some_needed G s bytes (Err e) new h =
 
 -- ---- a record
 
-module _ (i : Inputs) (G : VerifyFn) (can_start : IsReady (Some (Opening i G))) where
+module _ (i : Inputs) (initial : Option ℕ) (G : VerifyFn) (can_start : IsReady (Some (Opening i initial G))) where
   abbrev Here : Phase → Type 0
   Here = Reached i G
 
   -- there is an answer to any message
-  some_answer : (K : VerifyFn) (s : State) (bytes : List ℕ) → HasStarted i G K s → HasAnswer K s bytes
-  some_answer K s bytes h =
+  some_answer : (time : Option ℕ) (K : VerifyFn) (s : State) (bytes : List ℕ) → HasStarted i G K s → HasAnswerAt time K s bytes
+  some_answer time K s bytes h =
       let L = last_meaning h.known h.run.events in
       let run = as_run h.known h.first h.run.events s h.run.rises in
       let steady = run_steady L h.first run.calls s (first_steady h.known i h.first h.started) run.run in
-      subst (λ (M : VerifyFn). HasAnswer M s bytes) h.run.meaning (an_answer L s steady.required bytes steady.held steady.requires)
+      subst (λ (M : VerifyFn). HasAnswerAt time M s bytes) h.run.meaning (timed_answer time L s steady.required bytes steady.held steady.requires)
 
-  some_begin : (j : Inputs) (K : VerifyFn) → IsReady (Some (Opening j K)) → (o : Outcome) × specs.Begins j K o
-  some_begin j K r =
+  some_begin : (j : Inputs) (time : Option ℕ) (K : VerifyFn) → IsReady (Some (Opening j time K)) → (o : Outcome) × specs.Begins j time K o
+  some_begin j time K r =
       elim (first_or_refused K j r.0 r.1) [
-        | inl s ↦ (Goes (ready_line s.0) (Following K s.0), inl (s.0, s.1, refl))
+        | inl s ↦ (Goes (ready_line s.0) (Following time K s.0), inl (s.0, s.1, refl))
         | inr f ↦ (Ends (finding_line f.0), inr (f.0, f.1, refl))
       ]
 
-  some_store : (K : VerifyFn) (s : State) → (o : Outcome) × specs.StoresState K s o
-  some_store K s =
+  some_store : (time : Option ℕ) (K : VerifyFn) (s : State) → (o : Outcome) × specs.StoresState time K s o
+  some_store time K s =
       elim (some_file s) [
-        | inl file ↦ (Goes (stored_line file.0) (Following K s), inl (file.0, file.1, refl))
-        | inr none ↦ (Goes no_file_line (Following K s), inr (none, refl))
+        | inl file ↦ (Goes (stored_line file.0) (Following time K s), inl (file.0, file.1, refl))
+        | inr none ↦ (Goes no_file_line (Following time K s), inr (none, refl))
       ]
 
   some_response : (p : Phase) (request : Option Request) (rest : List ℕ) → Here p → (o : Outcome) × Responds p request rest o
-  some_response (Opening j K) (Some Learn) rest r = (Goes [] (Opening j (having_learnt K rest)), refl)
-  some_response (Opening j K) (Some Begin) rest r = some_begin j K (ready-reached i G can_start (Opening j K) r)
-  some_response (Opening j K) (Some Query) rest r = (Ends broken_line, refl)
-  some_response (Opening j K) (Some Process) rest r = (Ends broken_line, refl)
-  some_response (Opening j K) (Some Store) rest r = (Ends broken_line, refl)
-  some_response (Opening j K) None rest r = (Ends broken_line, refl)
-  some_response (Following K s) (Some Learn) rest r = (Goes [] (Following (having_learnt K rest) s), refl)
-  some_response (Following K s) (Some Begin) rest r = (Ends broken_line, refl)
-  some_response (Following K s) (Some Query) rest r =
-      let answer = some_answer K s rest r in
-      let needed = some_needed K s rest answer.0 answer.1 answer.2 in
-      (Goes (message_query K needed.0) (Following K s), (needed.0, needed.1, refl))
-  some_response (Following K s) (Some Process) rest r =
-      let answer = some_answer K s rest r in
-      (Goes (message_answer_line answer.0 answer.1) (Following K answer.1), (answer.0, answer.1, answer.2, refl))
-  some_response (Following K s) (Some Store) rest r = some_store K s
-  some_response (Following K s) None rest r = (Ends broken_line, refl)
+  some_response (Opening j time K) (Some Learn) rest r = (Goes [] (Opening j time (having_learnt K rest)), refl)
+  some_response (Opening j time K) (Some Begin) rest r = some_begin j time K (ready-reached i G initial can_start (Opening j time K) r)
+  some_response (Opening j time K) (Some Query) rest r = (Ends broken_line, refl)
+  some_response (Opening j time K) (Some Process) rest r = (Ends broken_line, refl)
+  some_response (Opening j time K) (Some (Time seconds)) rest r = (Goes [] (Opening j (Some seconds) K), refl)
+  some_response (Opening j time K) (Some Store) rest r = (Ends broken_line, refl)
+  some_response (Opening j time K) None rest r = (Ends broken_line, refl)
+  some_response (Following time K s) (Some Learn) rest r = (Goes [] (Following time (having_learnt K rest) s), refl)
+  some_response (Following time K s) (Some Begin) rest r = (Ends broken_line, refl)
+  some_response (Following time K s) (Some Query) rest r =
+      let answer = some_answer time K s rest r in
+      let needed = some_needed time K s rest answer.0 answer.1 answer.2 in
+      (Goes (message_query K needed.0) (Following time K s), (needed.0, needed.1, refl))
+  some_response (Following time K s) (Some Process) rest r =
+      let answer = some_answer time K s rest r in
+      (Goes (message_answer_line answer.0 answer.1) (Following time K answer.1), (answer.0, answer.1, answer.2, refl))
+  some_response (Following time K s) (Some (Time seconds)) rest r = (Goes [] (Following (Some seconds) K s), refl)
+  some_response (Following time K s) (Some Store) rest r = some_store time K s
+  some_response (Following time K s) None rest r = (Ends broken_line, refl)
 
   -- ---- all records
 
@@ -199,11 +201,11 @@ module _ (i : Inputs) (G : VerifyFn) (can_start : IsReady (Some (Opening i G))) 
 -- ---- the report
 
 pub some_gate : GateExists
-some_gate G i records =
+some_gate time G i records =
     elim (first_or_declined all_good i) [
       | inl s ↦
           (let starts = first_starts i s.0 s.1 in
-          let all : IsServed i G s record_limit (Opening i G) records = served i G s record_limit (Opening i G) records (reached-none i G) in (
+          let all : IsServed i time G s record_limit (Opening i time G) records = served i time G s record_limit (Opening i time G) records (reached-none i G time) in (
             query_text G starts.0 ++ (answers all.turns ++ all.text),
             all.verdict,
             record {

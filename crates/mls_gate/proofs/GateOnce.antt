@@ -22,7 +22,7 @@ written_both : (before : List ℕ) (between : Option (List ℕ)) (text line more
 written_both before between text line more a b = written_is before text (line ++ more) (Appends-trans (Some before) between (Some (before ++ text)) line more a b)
 
 -- two reports from the same bytes
-module _ (G : VerifyFn) (i : Inputs) (records : List ℕ) (r q : Option (List ℕ)) (before after text other : List ℕ) (v o : Verdict) where
+module _ (time : Option ℕ) (G : VerifyFn) (i : Inputs) (records : List ℕ) (r q : Option (List ℕ)) (before after text other : List ℕ) (v o : Verdict) where
   -- no follower starts, twice
   both_decline : DeclinesGate i (Some records) r (Some before) (Some (before ++ text)) v → DeclinesGate i (Some records) q (Some after) (Some (after ++ other)) o
       → AreAlikeTexts text other × (v ≡ o)
@@ -33,18 +33,18 @@ module _ (G : VerifyFn) (i : Inputs) (records : List ℕ) (r q : Option (List �
       )
 
   -- a follower starts, twice
-  both_open : OpensGate G i (Some records) r (Some before) (Some (before ++ text)) v → OpensGate G i (Some records) q (Some after) (Some (after ++ other)) o
+  both_open : OpensGate time G i (Some records) r (Some before) (Some (before ++ text)) v → OpensGate time G i (Some records) q (Some after) (Some (after ++ other)) o
       → AreAlikeTexts text other × (v ≡ o)
   both_open a b =
       let list = one_list i a.state b.state a.signatures b.signatures a.can_start b.can_start in
-      let same = one_answering (Opening i G) records r q a.between (Some (before ++ text)) b.between (Some (after ++ other)) v o a.reports b.reports in (
+      let same = one_answering (Opening i time G) records r q a.between (Some (before ++ text)) b.between (Some (after ++ other)) v o a.reports b.reports in (
         inl (written_both before a.between text (query_text G a.signatures) (answers a.reports.turns ++ a.reports.text) a.wrote a.reports.wrote
             ∙ (λ k. query_text G (list k) ++ same.0 k)
             ∙ sym (written_both after b.between other (query_text G b.signatures) (answers b.reports.turns ++ b.reports.text) b.wrote b.reports.wrote)),
         same.1,
       )
 
-  either : Gates G i (Some records) r (Some before) (Some (before ++ text)) v → Gates G i (Some records) q (Some after) (Some (after ++ other)) o
+  either : Gates time G i (Some records) r (Some before) (Some (before ++ text)) v → Gates time G i (Some records) q (Some after) (Some (after ++ other)) o
       → AreAlikeTexts text other × (v ≡ o)
   either (inl a) (inl b) = both_decline a b
   either (inl a) (inr b) = absurd (first_or_declines all_good i a.finding b.state a.declines (starts_first i b.state b.signatures b.can_start))
@@ -52,4 +52,5 @@ module _ (G : VerifyFn) (i : Inputs) (records : List ℕ) (r q : Option (List �
   either (inr a) (inr b) = both_open a b
 
 pub one_gate : GateIsUnique
-one_gate G i records text other verdict more a b = either G i records a.records_left b.records_left a.before b.before text other verdict more a.gates b.gates
+one_gate time G i records text other verdict more a b =
+    either time G i records a.records_left b.records_left a.before b.before text other verdict more a.gates b.gates

@@ -21,14 +21,14 @@ use Rattle.mls_gate.specs.GateReport.{Gates, GatesPart, RecordsPart, ReportsReco
 use Rattle.mls_gate.specs.GateSteps.{StopsInQueryText}
 use Rattle.mls_gate.specs.Phases.{Opening}
 
-module _ (G : VerifyFn) (i : Inputs) where
+module _ (time : Option ℕ) (G : VerifyFn) (i : Inputs) where
   -- no record was read
   module _ (r w0 w1 : Option (List ℕ)) where
-    pub before-opening : Appends w0 w1 [] → GatesPart G i r r w0 w1 Memory
+    pub before-opening : Appends w0 w1 [] → GatesPart time G i r r w0 w1 Memory
     before-opening none = inl (inl (record { unread = refl; wrote = none }))
 
     pub reports-decline : (finding : Finding) → Declines all_good i finding → (verdict : Verdict)
-        → Appends w0 w1 (finding_line finding) × (verdict ≡ finding_verdict finding) → Gates G i r r w0 w1 verdict
+        → Appends w0 w1 (finding_line finding) × (verdict ≡ finding_verdict finding) → Gates time G i r r w0 w1 verdict
     reports-decline finding declines verdict printed = inl (record {
       finding = finding;
       declines = declines;
@@ -37,11 +37,11 @@ module _ (G : VerifyFn) (i : Inputs) where
       verdict_is = printed.1 ∙ ap (λ (b : Bool). if b then Yes else No) declines.not_valid;
     })
 
-    pub in-decline : (finding : Finding) → Declines all_good i finding → AppendsPrefix w0 w1 (finding_line finding) → GatesPart G i r r w0 w1 Write
+    pub in-decline : (finding : Finding) → Declines all_good i finding → AppendsPrefix w0 w1 (finding_line finding) → GatesPart time G i r r w0 w1 Write
     in-decline finding declines part = inl (inl (record { finding = finding; declines = declines; unread = refl; wrote = part }))
 
     pub in-opening : (s : State) (signatures : List SignatureToVerify) → StartsWith i s signatures → (fault : RunFault) → StopsInQueryText G signatures w0 w1 fault
-        → GatesPart G i r r w0 w1 fault
+        → GatesPart time G i r r w0 w1 fault
     in-opening s signatures can Read stops = absurd stops
     in-opening s signatures can Write stops =
         inl (inr (record { state = s; signatures = signatures; can_start = can; unread = refl; wrote = stops }))
@@ -56,8 +56,8 @@ module _ (G : VerifyFn) (i : Inputs) where
 
   -- the signatures were listed
   module _ (r0 r1 w0 w1 w2 : Option (List ℕ)) (s : State) (signatures : List SignatureToVerify) (can : StartsWith i s signatures) (wrote : Appends w0 w1 (query_text G signatures)) where
-    pub reports-after : (verdict : Verdict) → ReportsRecords (Opening i G) r0 r1 w1 w2 verdict → Gates G i r0 r1 w0 w2 verdict
+    pub reports-after : (verdict : Verdict) → ReportsRecords (Opening i time G) r0 r1 w1 w2 verdict → Gates time G i r0 r1 w0 w2 verdict
     reports-after verdict h = inr (record { state = s; signatures = signatures; can_start = can; between = w1; wrote = wrote; reports = h })
 
-    pub part-after : (fault : RunFault) → RecordsPart (Opening i G) r0 r1 w1 w2 fault → GatesPart G i r0 r1 w0 w2 fault
+    pub part-after : (fault : RunFault) → RecordsPart (Opening i time G) r0 r1 w1 w2 fault → GatesPart time G i r0 r1 w0 w2 fault
     part-after fault h = inr (record { state = s; signatures = signatures; can_start = can; between = w1; wrote = wrote; reports = h })

@@ -23,7 +23,7 @@ use Rattle.mls_gate.specs.declared.phase.Answer.TheVariants as said
 use Rattle.mls_gate.specs.declared.phase.GatePhase.{GatePhase}
 use Rattle.mls_gate.specs.declared.phase.GatePhase.TheVariants as phases
 use Rattle.mls_gate.specs.declared.request.Request.{Request}
-use Rattle.mls_gate.specs.declared.request.Request.TheVariants.{Learn, Begin}
+use Rattle.mls_gate.specs.declared.request.Request.TheVariants.{Learn, Begin, Time}
 
 -- ---- in a phase that is known
 
@@ -32,42 +32,54 @@ pub replies-at : (o p : Option Phase) → o ≡ p → (request : Option Request)
 replies-at o p at request rest after text last r = subst (λ (q : Option Phase). Replies (RespondsIn q request rest) text last after) (sym at) r
 
 -- a phase in which no follower has started
-module _ {C : Type 0} {g : _} (meaning : C → VerifyFn) (phase : GatePhase C g) (none : (follower : _) → phase ≡ phases.Following follower → ⊥) where
-  pub unstarted : (request : Option Request) (rest : List ℕ) → ((i : Inputs) (G : VerifyFn) → Responds (Opening i G) request rest (Ends broken_line))
+module _ {C : Type 0} {g : _} (meaning : C → VerifyFn) (phase : GatePhase C g) (none : (follower : _) (time : _) → phase ≡ phases.Following follower time → ⊥) where
+  pub unstarted : (request : Option Request) (rest : List ℕ) → ((i : Inputs) (time : Option ℕ) (G : VerifyFn) → Responds (Opening i time G) request rest (Ends broken_line))
       → RespondsIn (phase_of meaning phase) request rest (Ends broken_line)
   unstarted request rest opening = broken-of phase none
     where
-      broken-of : (p : GatePhase C g) → ((follower : _) → p ≡ phases.Following follower → ⊥) → RespondsIn (phase_of meaning p) request rest (Ends broken_line)
-      broken-of (phases.Opening start checker) own = opening (inputs_of start) (meaning checker)
-      broken-of (phases.Following follower) own = absurd (own follower refl)
+      broken-of : (p : GatePhase C g) → ((follower : _) (time : _) → p ≡ phases.Following follower time → ⊥) → RespondsIn (phase_of meaning p) request rest (Ends broken_line)
+      broken-of (phases.Opening start judge) own = opening (inputs_of start) judge.time (meaning judge.checker)
+      broken-of (phases.Following follower time) own = absurd (own follower time refl)
       broken-of phases.Over own = refl
 
 -- a phase in which one has, or that has ended
-pub unopened : {C : Type 0} {g : _} (meaning : C → VerifyFn) (phase : GatePhase C g) → ((start : _) (checker : _) → phase ≡ phases.Opening start checker → ⊥) → (rest : List ℕ)
+pub unopened : {C : Type 0} {g : _} (meaning : C → VerifyFn) (phase : GatePhase C g) → ((start : _) (judge : _) → phase ≡ phases.Opening start judge → ⊥) → (rest : List ℕ)
     → RespondsIn (phase_of meaning phase) (Some Begin) rest (Ends broken_line)
-unopened meaning (phases.Opening start checker) own rest = absurd (own start checker refl)
-unopened meaning (phases.Following follower) own rest = refl
+unopened meaning (phases.Opening start judge) own rest = absurd (own start judge refl)
+unopened meaning (phases.Following follower time) own rest = refl
 unopened meaning phases.Over own rest = refl
 
 -- receipts are learnt before the follower has started
-pub learnt-opening : (o : Option Phase) (i : Inputs) (G K : VerifyFn) (receipts : List ℕ) → o ≡ Some (Opening i G) → K ≡ having_learnt G receipts
-    → Gives (RespondsIn o (Some Learn) receipts) (Some (Opening i K)) said.Silent
-learnt-opening o i G K receipts at learnt =
-    replies-at o (Some (Opening i G)) at (Some Learn) receipts (Some (Opening i K)) [] false
-    (Opening i (having_learnt G receipts), refl, λ k. Some (Opening i (learnt k)))
+pub learnt-opening : (o : Option Phase) (i : Inputs) (time : Option ℕ) (G K : VerifyFn) (receipts : List ℕ) → o ≡ Some (Opening i time G) → K ≡ having_learnt G receipts
+    → Gives (RespondsIn o (Some Learn) receipts) (Some (Opening i time K)) said.Silent
+learnt-opening o i time G K receipts at learnt =
+    replies-at o (Some (Opening i time G)) at (Some Learn) receipts (Some (Opening i time K)) [] false
+    (Opening i time (having_learnt G receipts), refl, λ k. Some (Opening i time (learnt k)))
 
 -- and after it
-pub learnt-following : (o : Option Phase) (G K : VerifyFn) (s new : State) (receipts : List ℕ) → o ≡ Some (Following G s) → K ≡ having_learnt G receipts → new ≡ s
-    → Gives (RespondsIn o (Some Learn) receipts) (Some (Following K new)) said.Silent
-learnt-following o G K s new receipts at learnt stays =
-    replies-at o (Some (Following G s)) at (Some Learn) receipts (Some (Following K new)) [] false
-    (Following (having_learnt G receipts) s, refl, λ k. Some (Following (learnt k) (stays k)))
+pub learnt-following : (o : Option Phase) (time : Option ℕ) (G K : VerifyFn) (s new : State) (receipts : List ℕ) → o ≡ Some (Following time G s) → K ≡ having_learnt G receipts → new ≡ s
+    → Gives (RespondsIn o (Some Learn) receipts) (Some (Following time K new)) said.Silent
+learnt-following o time G K s new receipts at learnt stays =
+    replies-at o (Some (Following time G s)) at (Some Learn) receipts (Some (Following time K new)) [] false
+    (Following time (having_learnt G receipts) s, refl, λ k. Some (Following time (learnt k) (stays k)))
+
+-- a time is set before it
+pub timed-opening : (o : Option Phase) (i : Inputs) (time : Option ℕ) (seconds : ℕ) (G : VerifyFn) (rest : List ℕ) → o ≡ Some (Opening i time G)
+    → Gives (RespondsIn o (Some (Time seconds)) rest) (Some (Opening i (Some seconds) G)) said.Silent
+timed-opening o i time seconds G rest at =
+    replies-at o (Some (Opening i time G)) at (Some (Time seconds)) rest (Some (Opening i (Some seconds) G)) [] false (Opening i (Some seconds) G, refl, refl)
+
+-- and after it
+pub timed-following : (o : Option Phase) (time : Option ℕ) (seconds : ℕ) (G : VerifyFn) (s : State) (rest : List ℕ) → o ≡ Some (Following time G s)
+    → Gives (RespondsIn o (Some (Time seconds)) rest) (Some (Following (Some seconds) G s)) said.Silent
+timed-following o time seconds G s rest at =
+    replies-at o (Some (Following time G s)) at (Some (Time seconds)) rest (Some (Following (Some seconds) G s)) [] false (Following (Some seconds) G s, refl, refl)
 
 -- the request of no record
 none-broken : (o : Option Phase) (rest : List ℕ) → RespondsIn o None rest (Ends broken_line)
 none-broken None rest = refl
-none-broken (Some (Opening i G)) rest = refl
-none-broken (Some (Following G s)) rest = refl
+none-broken (Some (Opening i time G)) rest = refl
+none-broken (Some (Following time G s)) rest = refl
 
 pub broken-body : (o : Option Phase) (body : List ℕ) → request_of body ≡ None → AnswersIn o body (Ends broken_line)
 broken-body o body e =

@@ -1,21 +1,23 @@
 -- The records of a gate are a rising run of its follower.
-use Rattle.std.proofs.Common.{◌≡◌, ◌∙◌, ℕ, zero, suc, ◌/◌, List, [], ◌∷◌, ◌++◌, length, take, drop, Option, Some, None, Result, refl, sym, subst, inl, inr}
+use Rattle.std.proofs.Common.{◌≡◌, ◌∙◌, ℕ, zero, suc, ◌/◌, List, [], ◌∷◌, ◌++◌, length, take, drop, Option, Some, None, Result, Ok, Err, refl, sym, subst, inl, inr}
 use Rattle.mls_check.specs.ReceiptSets.{with_receipt}
 use Rattle.mls_check.specs.Signatures.{VerifyFn, Extends}
 use Rattle.mls_check.proofs.ReceiptSets.{with_receipt_extends}
 use Rattle.mls_follow.specs.CoveredLogs.{all_good}
 use Rattle.mls_follow.specs.RisingRuns.{Event, IsRisingRun, last_meaning}
 use Rattle.mls_follow.specs.RisingRuns.Event.{Received, Learned}
-use Rattle.mls_follow.specs.Runs.{Call, IsTransition, IsAnswer}
+use Rattle.mls_follow.specs.Runs.{Call, IsTransition}
 use Rattle.mls_follow.specs.State.{State}
 use Rattle.mls_follow.specs.StoredRuns.{IsResumable}
+use Rattle.mls_follow.specs.TimedAnswers.{IsAnswerAt}
 use Rattle.mls_apply.specs.declared.refusal.Refusal.{Refusal}
 use Rattle.mls_follow.specs.declared.taken.Taken.{Taken}
-use Rattle.mls_follow.proofs.CoveredLogs.{covered_answers}
 use Rattle.mls_follow.proofs.Resumable.{run_resumable}
 use Rattle.mls_follow.proofs.ResumableStays.{resumable_stays}
 use Rattle.mls_follow.proofs.RisingRuns.{as_run, rising_extends}
 use Rattle.mls_follow.proofs.StoredRuns.{resumable_resumes}
+use Rattle.mls_follow.proofs.TimedAnswers.{without}
+use Rattle.mls_follow.proofs.TimedCovered.{covered_answers_at_times}
 use Rattle.mls_start.proofs.FirstStates.{first_resumable}
 use Rattle.mls_start.specs.Inputs.{Inputs}
 use Rattle.mls_start.specs.ReceiptBytes.{with_receipts, having_learnt}
@@ -28,7 +30,7 @@ use Rattle.mls_gate.specs.GateSteps.{IsReady}
 use Rattle.mls_gate.specs.Phases.{Phase, Opening, Following}
 use Rattle.mls_gate.specs.Requests.{request_of}
 use Rattle.mls_gate.specs.declared.request.Request.{Request}
-use Rattle.mls_gate.specs.declared.request.Request.TheVariants.{Learn, Begin, Query, Process, Store}
+use Rattle.mls_gate.specs.declared.request.Request.TheVariants.{Learn, Begin, Query, Process, Time, Store}
 use Rattle.mls_gate.proofs.Answering.{one_phase, no_end}
 
 -- ---- learning extends
@@ -76,14 +78,14 @@ meaning_learnt G (Learned L ∷ events) K = meaning_learnt L events K
 
 module _ (i : Inputs) (G : VerifyFn) where
   abbrev pub Reached : Phase → Type 0
-  Reached (Opening j K) = (j ≡ i) × Extends G K
-  Reached (Following K s) = HasStarted i G K s
+  Reached (Opening j time K) = (j ≡ i) × Extends G K
+  Reached (Following time K s) = HasStarted i G K s
 
-  still_opening : (j : Inputs) (K : VerifyFn) (rest : List ℕ) → Reached (Opening j K) → Reached (Opening j (having_learnt K rest))
-  still_opening j K rest r = (r.0, extends_through G K (having_learnt K rest) r.1 (learnt_extends K rest))
+  still_opening : (j : Inputs) (time : Option ℕ) (K : VerifyFn) (rest : List ℕ) → Reached (Opening j time K) → Reached (Opening j time (having_learnt K rest))
+  still_opening j time K rest r = (r.0, extends_through G K (having_learnt K rest) r.1 (learnt_extends K rest))
 
-  starts : (j : Inputs) (K : VerifyFn) (s : State) → Reached (Opening j K) → IsFirstState K j s → Reached (Following K s)
-  starts j K s r first = record {
+  starts : (j : Inputs) (time : Option ℕ) (K : VerifyFn) (s : State) → Reached (Opening j time K) → IsFirstState K j s → Reached (Following time K s)
+  starts j time K s r first = record {
     known = K;
     extends = r.1;
     first = s;
@@ -91,8 +93,8 @@ module _ (i : Inputs) (G : VerifyFn) where
     run = record { events = []; rises = refl; meaning = refl };
   }
 
-  learns : (K : VerifyFn) (s : State) (rest : List ℕ) → Reached (Following K s) → Reached (Following (having_learnt K rest) s)
-  learns K s rest r = record {
+  learns : (time : Option ℕ) (K : VerifyFn) (s : State) (rest : List ℕ) → Reached (Following time K s) → Reached (Following time (having_learnt K rest) s)
+  learns time K s rest r = record {
     known = r.known;
     extends = r.extends;
     first = r.first;
@@ -105,10 +107,10 @@ module _ (i : Inputs) (G : VerifyFn) where
     };
   }
 
-  takes : (K : VerifyFn) (s new : State) (message : List ℕ) (answer : Result Taken Refusal) → Reached (Following K s) → IsAnswer K s message answer new
-      → Reached (Following K new)
-  takes K s new message answer r h =
-      let call : Call = record { bytes = message; answer = answer } in
+  takes : (time : Option ℕ) (K : VerifyFn) (s new : State) (message : List ℕ) (answer : Result Taken Refusal) → Reached (Following time K s) → IsAnswerAt time K s message answer new
+      → Reached (Following time K new)
+  takes time K s new message (Ok taken) r h =
+      let call : Call = record { bytes = message; answer = Ok taken } in
       record {
         known = r.known;
         extends = r.extends;
@@ -117,33 +119,38 @@ module _ (i : Inputs) (G : VerifyFn) where
         run = record {
           events = r.run.events ++ Received call ∷ [];
           rises = after_message r.known r.first r.run.events s new call r.run.rises
-              (subst (λ (M : VerifyFn). IsTransition M s message answer new) (sym r.run.meaning) h.takes);
+              (subst (λ (M : VerifyFn). IsTransition M s message (Ok taken) new) (sym r.run.meaning) (without time K s message taken new h).takes);
           meaning = meaning_message r.known r.run.events call ∙ r.run.meaning;
         };
       }
+  takes time K s new message (Err e) r h = subst (λ (t : State). Reached (Following time K t)) (sym h.takes.0) r
 
   by_request : (now new : Phase) (request : Option Request) (rest text : List ℕ) → Reached now → Responds now request rest (Goes text new) → Reached new
-  by_request (Opening j K) new (Some Learn) rest text r a =
-      subst Reached (one_phase text [] new (Opening j (having_learnt K rest)) a) (still_opening j K rest r)
-  by_request (Opening j K) new (Some Begin) rest text r (inl a) =
-      subst Reached (one_phase text (ready_line a.0) new (Following K a.0) a.2) (starts j K a.0 r a.1)
-  by_request (Opening j K) new (Some Begin) rest text r (inr a) = no_end text (finding_line a.0) new a.2
-  by_request (Opening j K) new (Some Query) rest text r a = no_end text broken_line new a
-  by_request (Opening j K) new (Some Process) rest text r a = no_end text broken_line new a
-  by_request (Opening j K) new (Some Store) rest text r a = no_end text broken_line new a
-  by_request (Opening j K) new None rest text r a = no_end text broken_line new a
-  by_request (Following K s) new (Some Learn) rest text r a =
-      subst Reached (one_phase text [] new (Following (having_learnt K rest) s) a) (learns K s rest r)
-  by_request (Following K s) new (Some Begin) rest text r a = no_end text broken_line new a
-  by_request (Following K s) new (Some Query) rest text r a =
-      subst Reached (one_phase text (message_query K a.0) new (Following K s) a.2) r
-  by_request (Following K s) new (Some Process) rest text r a =
-      subst Reached (one_phase text (message_answer_line a.0 a.1) new (Following K a.1) a.3) (takes K s a.1 rest a.0 r a.2)
-  by_request (Following K s) new (Some Store) rest text r (inl a) =
-      subst Reached (one_phase text (stored_line a.0) new (Following K s) a.2) r
-  by_request (Following K s) new (Some Store) rest text r (inr a) =
-      subst Reached (one_phase text no_file_line new (Following K s) a.1) r
-  by_request (Following K s) new None rest text r a = no_end text broken_line new a
+  by_request (Opening j time K) new (Some Learn) rest text r a =
+      subst Reached (one_phase text [] new (Opening j time (having_learnt K rest)) a) (still_opening j time K rest r)
+  by_request (Opening j time K) new (Some Begin) rest text r (inl a) =
+      subst Reached (one_phase text (ready_line a.0) new (Following time K a.0) a.2) (starts j time K a.0 r a.1)
+  by_request (Opening j time K) new (Some Begin) rest text r (inr a) = no_end text (finding_line a.0) new a.2
+  by_request (Opening j time K) new (Some Query) rest text r a = no_end text broken_line new a
+  by_request (Opening j time K) new (Some Process) rest text r a = no_end text broken_line new a
+  by_request (Opening j time K) new (Some (Time seconds)) rest text r a =
+      subst Reached (one_phase text [] new (Opening j (Some seconds) K) a) r
+  by_request (Opening j time K) new (Some Store) rest text r a = no_end text broken_line new a
+  by_request (Opening j time K) new None rest text r a = no_end text broken_line new a
+  by_request (Following time K s) new (Some Learn) rest text r a =
+      subst Reached (one_phase text [] new (Following time (having_learnt K rest) s) a) (learns time K s rest r)
+  by_request (Following time K s) new (Some Begin) rest text r a = no_end text broken_line new a
+  by_request (Following time K s) new (Some Query) rest text r a =
+      subst Reached (one_phase text (message_query K a.0) new (Following time K s) a.2) r
+  by_request (Following time K s) new (Some Process) rest text r a =
+      subst Reached (one_phase text (message_answer_line a.0 a.1) new (Following time K a.1) a.3) (takes time K s a.1 rest a.0 r a.2)
+  by_request (Following time K s) new (Some (Time seconds)) rest text r a =
+      subst Reached (one_phase text [] new (Following (Some seconds) K s) a) r
+  by_request (Following time K s) new (Some Store) rest text r (inl a) =
+      subst Reached (one_phase text (stored_line a.0) new (Following time K s) a.2) r
+  by_request (Following time K s) new (Some Store) rest text r (inr a) =
+      subst Reached (one_phase text no_file_line new (Following time K s) a.1) r
+  by_request (Following time K s) new None rest text r a = no_end text broken_line new a
 
   pub reached-on : (now new : Phase) (body text : List ℕ) → Reached now → Answers now body (Goes text new) → Reached new
   reached-on now new body text r a = by_request now new (request_of body) (drop 1 body) text r a
@@ -152,19 +159,19 @@ module _ (i : Inputs) (G : VerifyFn) where
   reached-all now [] r a = r
   reached-all now (turn ∷ turns) r a = reached-all turn.phase turns (reached-on now turn.phase turn.body turn.text r a.0) a.1
 
-  pub reached-none : Reached (Opening i G)
-  reached-none = (refl, extends_itself G)
+  pub reached-none : (time : Option ℕ) → Reached (Opening i time G)
+  reached-none time = (refl, extends_itself G)
 
   -- a gate from such inputs can answer in each of them
-  pub ready-reached : IsReady (Some (Opening i G)) → (now : Phase) → Reached now → IsReady (Some now)
-  ready-reached r (Opening j K) reached = (r.0, subst (λ (x : Inputs). IsFirstState all_good x r.0) (sym reached.0) r.1)
-  ready-reached r (Following K s) reached = tt
+  pub ready-reached : (initial : Option ℕ) → IsReady (Some (Opening i initial G)) → (now : Phase) → Reached now → IsReady (Some now)
+  ready-reached initial r (Opening j time K) reached = (r.0, subst (λ (x : Inputs). IsFirstState all_good x r.0) (sym reached.0) r.1)
+  ready-reached initial r (Following time K s) reached = tt
 
-  pub has_started : (turns : List Turn) (K : VerifyFn) (s : State) → AreAnswered (Opening i G) turns → phase_after (Opening i G) turns ≡ Following K s → HasStarted i G K s
-  has_started turns K s a e = subst Reached e (reached-all (Opening i G) turns reached-none a)
+  pub has_started : (initial time : Option ℕ) (turns : List Turn) (K : VerifyFn) (s : State) → AreAnswered (Opening i initial G) turns → phase_after (Opening i initial G) turns ≡ Following time K s → HasStarted i G K s
+  has_started initial time turns K s a e = subst Reached e (reached-all (Opening i initial G) turns (reached-none initial) a)
 
 pub gates_rise : GatesRise
-gates_rise i G K turns s a e = has_started i G turns K s a e
+gates_rise i initial time G K turns s a e = has_started i G initial time turns K s a e
 
 -- the state satisfies the conditions of a resumption, by what was learnt so far
 started_resumable : (i : Inputs) (G K : VerifyFn) (s : State) → HasStarted i G K s → IsResumable K s
@@ -175,10 +182,12 @@ started_resumable i G K s h =
     subst (λ (M : VerifyFn). IsResumable M s) h.run.meaning (run_resumable L h.first s run.calls first run.run)
 
 pub gates_valid : GatesAreValid
-gates_valid i G K turns s a e = (started_resumable i G K s (has_started i G turns K s a e)).valid
+gates_valid i initial time G K turns s a e = (started_resumable i G K s (has_started i G initial time turns K s a e)).valid
 
 pub gates_resume : GateStatesResume
-gates_resume i G K turns s bytes a e file = resumable_resumes K s bytes (started_resumable i G K s (has_started i G turns K s a e)) file
+gates_resume i initial time G K turns s bytes a e file =
+    resumable_resumes K s bytes (started_resumable i G K s (has_started i G initial time turns K s a e)) file
 
 pub gates_trusted : GateAnswersAreTrusted
-gates_trusted i G K turns s new bytes answer a e covers = covered_answers K s bytes answer new (gates_valid i G K turns s a e) covers
+gates_trusted i initial time G K turns s new bytes answer a e covers =
+    covered_answers_at_times time K s bytes answer new (gates_valid i initial time G K turns s a e) covers

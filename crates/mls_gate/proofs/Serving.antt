@@ -81,10 +81,10 @@ so_far-none p r w most all = record {
 }
 
 -- the gate is ready if it was at its opening
-pub ready-so_far : (i : Inputs) (G : VerifyFn) (r0 r1 w0 w1 : Option (List ℕ)) (now : Option Phase) (most : ℕ) → IsReady (Some (Opening i G))
-    → SoFar (Opening i G) r0 r1 w0 w1 now most → IsReady now
-ready-so_far i G r0 r1 w0 w1 now most r f =
-    subst IsReady (sym f.is) (ready-reached i G r (phase_after (Opening i G) f.turns) (reached-all i G (Opening i G) f.turns (reached-none i G) f.serves.answered))
+pub ready-so_far : (i : Inputs) (time : Option ℕ) (G : VerifyFn) (r0 r1 w0 w1 : Option (List ℕ)) (now : Option Phase) (most : ℕ) → IsReady (Some (Opening i time G))
+    → SoFar (Opening i time G) r0 r1 w0 w1 now most → IsReady now
+ready-so_far i time G r0 r1 w0 w1 now most r f =
+    subst IsReady (sym f.is) (ready-reached i G time r (phase_after (Opening i time G) f.turns) (reached-all i G (Opening i time G) f.turns (reached-none i G time) f.serves.answered))
 
 module _ (p : Phase) (r0 r1 r2 w0 w1 : Option (List ℕ)) (now : Option Phase) (most new : ℕ) (f : SoFar p r0 r1 w0 w1 now most) (body read : List ℕ) (one : most ≡ new + 1)
     (is_record : IsRecord read body) (taken : Consumes r1 r2 read) (after : Option Phase) (w2 : Option (List ℕ)) where

@@ -1,14 +1,14 @@
 -- The answer to a record of the gate's input: its lines, and the phase after it. `G` is the verification function of
--- what was learnt so far. Used by contracts.
+-- what was learnt so far, `time` the time at which messages are judged, if one was handed in. Used by contracts.
 use Rattle.std.specs.Prelude.{◌≡◌, ◌⊎◌, ℕ, ◌+◌, List, [], ◌∷◌, ◌++◌, Bool, codes, drop, Option, Some, None, Result, Ok, Err, if◌then◌else◌}
 use Rattle.std.specs.Fmt.{decimal}
 use Rattle.mls_tree.specs.Tree.{member_count}
 use Rattle.mls_check.specs.Signatures.{VerifyFn}
 use Rattle.mls_signatures.specs.declared.signature_to_verify.SignatureToVerify.{SignatureToVerify}
 use Rattle.mls_apply.specs.Refusals.{name_of, number_of}
-use Rattle.mls_follow.specs.Runs.{IsAnswer}
 use Rattle.mls_follow.specs.State.{State}
 use Rattle.mls_follow.specs.StoredState.{EncodesState, HasNoFile}
+use Rattle.mls_follow.specs.TimedAnswers.{IsAnswerAt}
 use Rattle.mls_apply.specs.declared.refusal.Refusal.{Refusal}
 use Rattle.mls_apply.specs.declared.refusal.Refusal.TheVariants.{Member}
 use Rattle.mls_follow.specs.declared.taken.Taken.{Taken}
@@ -25,7 +25,7 @@ use Rattle.mls_start.specs.declared.finding.Finding.{Finding}
 use Rattle.mls_gate.specs.Phases.{Phase, Opening, Following}
 use Rattle.mls_gate.specs.Requests.{request_of}
 use Rattle.mls_gate.specs.declared.request.Request.{Request}
-use Rattle.mls_gate.specs.declared.request.Request.TheVariants.{Learn, Begin, Query, Process, Store}
+use Rattle.mls_gate.specs.declared.request.Request.TheVariants.{Learn, Begin, Query, Process, Time, Store}
 
 -- ---- lines
 
@@ -109,40 +109,42 @@ pub data Outcome : Type 0 where
   Goes : List ℕ → Phase → Outcome
   Ends : List ℕ → Outcome
 
--- `Begins i G outcome`: a follower starts or resumes from the inputs, and the gate goes on with it; or none does, and the
--- gate ends with the line of `validate`.
-abbrev pub Begins : Inputs → VerifyFn → Outcome → Type 0
-Begins i G outcome =
-    ((s : State) × IsFirstState G i s × (outcome ≡ Goes (ready_line s) (Following G s)))
+-- `Begins i time G outcome`: a follower starts or resumes from the inputs, and the gate goes on with it; or none does, and
+-- the gate ends with the line of `validate`.
+abbrev pub Begins : Inputs → Option ℕ → VerifyFn → Outcome → Type 0
+Begins i time G outcome =
+    ((s : State) × IsFirstState G i s × (outcome ≡ Goes (ready_line s) (Following time G s)))
     ⊎ ((finding : Finding) × Refuses G i finding × (outcome ≡ Ends (finding_line finding)))
 
--- `Queries G s message outcome`: the signatures of the message that `G` does not accept are listed. Nothing changes.
-abbrev pub Queries : VerifyFn → State → List ℕ → Outcome → Type 0
-Queries G s message outcome =
+-- `Queries time G s message outcome`: the signatures of the message that `G` does not accept are listed. Nothing changes.
+abbrev pub Queries : Option ℕ → VerifyFn → State → List ℕ → Outcome → Type 0
+Queries time G s message outcome =
     (needed : Option (List SignatureToVerify)) × HasSignatures s message needed
-    × (outcome ≡ Goes (message_query G needed) (Following G s))
+    × (outcome ≡ Goes (message_query G needed) (Following time G s))
 
--- `Processes G s message outcome`: the follower processes the message.
-abbrev pub Processes : VerifyFn → State → List ℕ → Outcome → Type 0
-Processes G s message outcome =
-    (answer : Result Taken Refusal) × (new : State) × IsAnswer G s message answer new
-    × (outcome ≡ Goes (message_answer_line answer new) (Following G new))
+-- `Processes time G s message outcome`: the follower processes the message, at the time.
+abbrev pub Processes : Option ℕ → VerifyFn → State → List ℕ → Outcome → Type 0
+Processes time G s message outcome =
+    (answer : Result Taken Refusal) × (new : State) × IsAnswerAt time G s message answer new
+    × (outcome ≡ Goes (message_answer_line answer new) (Following time G new))
 
--- `StoresState G s outcome`: the file of the state is written, or that it has none. Nothing changes.
-abbrev pub StoresState : VerifyFn → State → Outcome → Type 0
-StoresState G s outcome =
-    ((bytes : List ℕ) × EncodesState s bytes × (outcome ≡ Goes (stored_line bytes) (Following G s)))
-    ⊎ (HasNoFile s × (outcome ≡ Goes no_file_line (Following G s)))
+-- `StoresState time G s outcome`: the file of the state is written, or that it has none. Nothing changes.
+abbrev pub StoresState : Option ℕ → VerifyFn → State → Outcome → Type 0
+StoresState time G s outcome =
+    ((bytes : List ℕ) × EncodesState s bytes × (outcome ≡ Goes (stored_line bytes) (Following time G s)))
+    ⊎ (HasNoFile s × (outcome ≡ Goes no_file_line (Following time G s)))
 
 -- `Responds phase request rest outcome`: the outcome of a request in a phase. `rest` is the record's body after its
 -- letter.
 abbrev pub Responds : Phase → Option Request → List ℕ → Outcome → Type 0
-Responds (Opening i G) (Some Learn) rest outcome = outcome ≡ Goes [] (Opening i (having_learnt G rest))
-Responds (Opening i G) (Some Begin) rest outcome = Begins i G outcome
-Responds (Following G s) (Some Learn) rest outcome = outcome ≡ Goes [] (Following (having_learnt G rest) s)
-Responds (Following G s) (Some Query) rest outcome = Queries G s rest outcome
-Responds (Following G s) (Some Process) rest outcome = Processes G s rest outcome
-Responds (Following G s) (Some Store) rest outcome = StoresState G s outcome
+Responds (Opening i time G) (Some Learn) rest outcome = outcome ≡ Goes [] (Opening i time (having_learnt G rest))
+Responds (Opening i time G) (Some (Time seconds)) rest outcome = outcome ≡ Goes [] (Opening i (Some seconds) G)
+Responds (Opening i time G) (Some Begin) rest outcome = Begins i time G outcome
+Responds (Following time G s) (Some Learn) rest outcome = outcome ≡ Goes [] (Following time (having_learnt G rest) s)
+Responds (Following time G s) (Some (Time seconds)) rest outcome = outcome ≡ Goes [] (Following (Some seconds) G s)
+Responds (Following time G s) (Some Query) rest outcome = Queries time G s rest outcome
+Responds (Following time G s) (Some Process) rest outcome = Processes time G s rest outcome
+Responds (Following time G s) (Some Store) rest outcome = StoresState time G s outcome
 Responds _ _ rest outcome = outcome ≡ Ends broken_line
 
 -- `Answers phase body outcome`: the outcome of a record with this body in a phase.

@@ -184,23 +184,23 @@ pub record DeclinesGate (i : Inputs) (records0 records1 written0 written1 : Opti
   pub wrote : Appends written0 written1 (finding_line finding)
   pub verdict_is : verdict ≡ No
 
--- `OpensGate G i ..`: the signatures of the start that `G` does not accept were listed, and the records answered.
-pub record OpensGate (G : VerifyFn) (i : Inputs) (records0 records1 written0 written1 : Option (List ℕ))
-    (verdict : Verdict) : Type 0 where
+-- `OpensGate time G i ..`: the signatures of the start that `G` does not accept were listed, and the records answered.
+pub record OpensGate (time : Option ℕ) (G : VerifyFn) (i : Inputs)
+    (records0 records1 written0 written1 : Option (List ℕ)) (verdict : Verdict) : Type 0 where
   pub state : State
   pub signatures : List SignatureToVerify
   pub can_start : StartsWith i state signatures
   pub between : Option (List ℕ)
   pub wrote : Appends written0 between (query_text G signatures)
-  pub reports : ReportsRecords (Opening i G) records0 records1 between written1 verdict
+  pub reports : ReportsRecords (Opening i time G) records0 records1 between written1 verdict
 
--- `Gates G i ..`: the report was written whole. Either no follower starts or resumes although each signature is good, or
--- the records were answered.
-abbrev pub Gates : VerifyFn → Inputs → Option (List ℕ) → Option (List ℕ) → Option (List ℕ) → Option (List ℕ) → Verdict
-    → Type 0
-Gates G i records0 records1 written0 written1 verdict =
+-- `Gates time G i ..`: the report was written whole. Either no follower starts or resumes although each signature is good,
+-- or the records were answered, messages at first at the time.
+abbrev pub Gates : Option ℕ → VerifyFn → Inputs → Option (List ℕ) → Option (List ℕ) → Option (List ℕ) → Option (List ℕ)
+    → Verdict → Type 0
+Gates time G i records0 records1 written0 written1 verdict =
     DeclinesGate i records0 records1 written0 written1 verdict
-    ⊎ OpensGate G i records0 records1 written0 written1 verdict
+    ⊎ OpensGate time G i records0 records1 written0 written1 verdict
 
 -- ---- a part of the report
 
@@ -241,20 +241,20 @@ GateBefore G i records0 records1 written0 written1 Memory =
     ReportsNothing records0 records1 written0 written1
     ⊎ OpensWithoutMemory G i records0 records1 written0 written1
 
--- `GateAfter G i .. fault`: the lines of the start were written, and not each record was answered.
-pub record GateAfter (G : VerifyFn) (i : Inputs) (records0 records1 written0 written1 : Option (List ℕ))
-    (fault : RunFault) : Type 0 where
+-- `GateAfter time G i .. fault`: the lines of the start were written, and not each record was answered.
+pub record GateAfter (time : Option ℕ) (G : VerifyFn) (i : Inputs)
+    (records0 records1 written0 written1 : Option (List ℕ)) (fault : RunFault) : Type 0 where
   pub state : State
   pub signatures : List SignatureToVerify
   pub can_start : StartsWith i state signatures
   pub between : Option (List ℕ)
   pub wrote : Appends written0 between (query_text G signatures)
-  pub reports : RecordsPart (Opening i G) records0 records1 between written1 fault
+  pub reports : RecordsPart (Opening i time G) records0 records1 between written1 fault
 
--- `GatesPart G i .. fault`: what was written if the report was not written whole, by the fault that is returned. It is a
+-- `GatesPart time G i .. fault`: what was written if the report was not written whole, by the fault that is returned. It is a
 -- prefix of what the inputs and the bytes that were read determine.
-abbrev pub GatesPart : VerifyFn → Inputs → Option (List ℕ) → Option (List ℕ) → Option (List ℕ) → Option (List ℕ)
-    → RunFault → Type 0
-GatesPart G i records0 records1 written0 written1 fault =
+abbrev pub GatesPart : Option ℕ → VerifyFn → Inputs → Option (List ℕ) → Option (List ℕ) → Option (List ℕ)
+    → Option (List ℕ) → RunFault → Type 0
+GatesPart time G i records0 records1 written0 written1 fault =
     GateBefore G i records0 records1 written0 written1 fault
-    ⊎ GateAfter G i records0 records1 written0 written1 fault
+    ⊎ GateAfter time G i records0 records1 written0 written1 fault

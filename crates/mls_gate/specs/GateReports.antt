@@ -7,22 +7,23 @@ use Rattle.mls_report.specs.UniqueReports.{AreAlikeTexts}
 use Rattle.mls_show.specs.declared.verdict.Verdict.{Verdict}
 use Rattle.mls_gate.specs.GateReport.{Gates}
 
--- `IsGateReport G i records text verdict`: a gate from these inputs and over the bytes of these records has written this
--- text, and has this verdict.
-pub record IsGateReport (G : VerifyFn) (i : Inputs) (records text : List ℕ) (verdict : Verdict) : Type 0 where
+-- `IsGateReport time G i records text verdict`: a gate from these inputs and over the bytes of these records has written
+-- this text, and has this verdict. Messages are judged at the time, if one is handed in, until a record sets another.
+pub record IsGateReport (time : Option ℕ) (G : VerifyFn) (i : Inputs) (records text : List ℕ) (verdict : Verdict)
+    : Type 0 where
   pub records_left : Option (List ℕ)
   pub before : List ℕ
-  pub gates : Gates G i (Some records) records_left (Some before) (Some (before ++ text)) verdict
+  pub gates : Gates time G i (Some records) records_left (Some before) (Some (before ++ text)) verdict
 
 -- The inputs and the bytes of the records determine what a gate writes, and its verdict.
 abbrev pub GateIsUnique : Type 0
 GateIsUnique =
-    (G : VerifyFn) (i : Inputs) (records text other : List ℕ) (verdict more : Verdict)
-    → IsGateReport G i records text verdict → IsGateReport G i records other more
+    (time : Option ℕ) (G : VerifyFn) (i : Inputs) (records text other : List ℕ) (verdict more : Verdict)
+    → IsGateReport time G i records text verdict → IsGateReport time G i records other more
     → AreAlikeTexts text other × (verdict ≡ more)
 
 -- The inputs and the bytes of the records have a report.
 abbrev pub GateExists : Type 0
 GateExists =
-    (G : VerifyFn) (i : Inputs) (records : List ℕ)
-    → (text : List ℕ) × (verdict : Verdict) × IsGateReport G i records text verdict
+    (time : Option ℕ) (G : VerifyFn) (i : Inputs) (records : List ℕ)
+    → (text : List ℕ) × (verdict : Verdict) × IsGateReport time G i records text verdict

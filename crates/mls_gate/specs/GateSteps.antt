@@ -29,16 +29,17 @@ use Rattle.mls_gate.specs.declared.request.Request.{Request}
 
 -- The phase that the gate is in. None if it has ended.
 abbrev pub phase_of : {C : Type 0} {g : _} → (C → VerifyFn) → GatePhase C g → Option Phase
-phase_of meaning (phases.Opening start checker) = Some (Opening (inputs_of start) (meaning checker))
-phase_of meaning (phases.Following follower) = Some (Following (meaning (checker_of follower)) (state_of follower))
+phase_of meaning (phases.Opening start judge) = Some (Opening (inputs_of start) judge.time (meaning judge.checker))
+phase_of meaning (phases.Following follower time) =
+    Some (Following time (meaning (checker_of follower)) (state_of follower))
 phase_of meaning phases.Over = None
 
 -- The gate can answer a record: it has not ended, and a follower starts or resumes from the inputs, each signature being
 -- good.
 abbrev pub IsReady : Option Phase → Type 0
 IsReady None = ⊥
-IsReady (Some (Opening i G)) = (s : State) × IsFirstState all_good i s
-IsReady (Some (Following G s)) = Unit {0}
+IsReady (Some (Opening i time G)) = (s : State) × IsFirstState all_good i s
+IsReady (Some (Following time G s)) = Unit {0}
 
 -- The verdict if the input ends between two records.
 abbrev pub verdict_at : Option Phase → Verdict

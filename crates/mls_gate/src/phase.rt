@@ -8,13 +8,14 @@ ghost use Rattle.mls_gate.specs.GateSteps.{phase_of, text_of, is_last, verdict_a
 use crate::lines::{message_answer_line, ready_line, stored_line};
 use crate::request::{Request, request_of};
 use crate::signature_lines::write_query;
-use mls_apply::Refusal;
 use mls_check::{LearningCheck, OutOfMemory, SignatureCheck};
 use mls_follow::{Follower, SignatureListFault};
-use mls_report::finding_line;
+use mls_report::{answer_to, finding_line};
 use mls_show::Verdict;
 use mls_signatures::SignatureList;
-use mls_start::{SignaturesLeft, StartBytes, StartFailure, learn_in_follower, learn_receipts};
+use mls_start::{
+    Judge, SignaturesLeft, StartBytes, StartFailure, learn_in_follower, learn_receipts,
+};
 use mls_wire::{CodecFault, RunFault, Sink};
 use std::alloc::Global;
 use std::mem;
@@ -25,10 +26,16 @@ pub(crate) const BROKEN: &str = "broken\n";
 /// What the gate is at.
 #[derive(Drop)]
 pub(crate) enum GatePhase<C: SignatureCheck> {
-    /// No follower has started: what the group is followed from, and what was learnt.
-    Opening { start: StartBytes, checker: C },
-    /// A follower has started.
-    Following(Follower<C>),
+    /// No follower has started: what the group is followed from, and what was learnt and handed in.
+    Opening {
+        start: StartBytes,
+        judge: Judge<C>,
+    },
+    /// A follower has started. It judges messages at the time, if one was handed in.
+    Following {
+        follower: Follower<C>,
+        time: Option<u64>,
+    },
     /// The gate has ended.
     Over,
 }
@@ -93,14 +100,18 @@ impl<C: LearningCheck> GatePhase<C> {
         ensures memory { IfErr result (λ e. e ≡ RunFault.Memory) }
     {
         match self {
-            GatePhase::Opening { start: _, checker } => match learn_receipts(checker, receipts) {
-                Ok(()) => Ok(Answer::Silent),
-                Err(OutOfMemory) => Err(RunFault::Memory),
-            },
-            GatePhase::Following(follower) => match learn_in_follower(follower, receipts) {
-                Ok(()) => Ok(Answer::Silent),
-                Err(OutOfMemory) => Err(RunFault::Memory),
-            },
+            GatePhase::Opening { start: _, judge } => {
+                match learn_receipts(&mut judge.checker, receipts) {
+                    Ok(()) => Ok(Answer::Silent),
+                    Err(OutOfMemory) => Err(RunFault::Memory),
+                }
+            }
+            GatePhase::Following { follower, time: _ } => {
+                match learn_in_follower(follower, receipts) {
+                    Ok(()) => Ok(Answer::Silent),
+                    Err(OutOfMemory) => Err(RunFault::Memory),
+                }
+            }
             GatePhase::Over => Ok(Answer::Broken),
         }
     }
@@ -113,17 +124,37 @@ impl<C: LearningCheck> GatePhase<C> {
             (phase_of C.meaning self.new)) }
         ensures memory { IfErr result (λ e. e ≡ RunFault.Memory) }
     {
-        let GatePhase::Opening { start, checker } = mem::replace(self, GatePhase::Over) else {
+        let GatePhase::Opening { start, judge } = mem::replace(self, GatePhase::Over) else {
             return Ok(Answer::Broken);
         };
+        let Judge { checker, time } = judge;
         match start.follower(alloc, checker) {
             Ok(follower) => {
                 let text = ready_line(alloc, &follower);
-                *self = GatePhase::Following(follower);
+                *self = GatePhase::Following { follower, time };
                 Ok(Answer::Goes(text?))
             }
             Err(StartFailure::Found(finding)) => Ok(Answer::Ends(finding_line(alloc, &finding)?)),
             Err(StartFailure::OutOfMemory) => Err(RunFault::Memory),
+        }
+    }
+
+    /// Judges messages at this time from now on.
+    fn set_time(&mut self, seconds: u64) -> Answer
+        ensures { (rest : List ℕ) → Gives
+            (RespondsIn (phase_of C.meaning self.old) (Some (Request.Time seconds)) rest)
+            (phase_of C.meaning self.new) result }
+    {
+        match self {
+            GatePhase::Opening { start: _, judge } => {
+                judge.time = Some(seconds);
+                Answer::Silent
+            }
+            GatePhase::Following { follower: _, time } => {
+                *time = Some(seconds);
+                Answer::Silent
+            }
+            GatePhase::Over => Answer::Broken,
         }
     }
 
@@ -143,7 +174,7 @@ impl<C: LearningCheck> GatePhase<C> {
             (phase_of C.meaning self.new) (K.device out.old).bytes (K.device out.new).bytes) }
         ensures write { WriteFails result (K.device out.new) }
     {
-        let GatePhase::Following(follower) = self else {
+        let GatePhase::Following { follower, time: _ } = self else {
             return Ok(Answer::Broken);
         };
         let Ok(signatures) = queried_signatures(alloc, follower, message) else {
@@ -161,13 +192,12 @@ impl<C: LearningCheck> GatePhase<C> {
             (phase_of C.meaning self.new)) }
         ensures memory { IfErr result (λ e. e ≡ RunFault.Memory) }
     {
-        let GatePhase::Following(follower) = self else {
+        let GatePhase::Following { follower, time } = self else {
             return Ok(Answer::Broken);
         };
-        let answer = follower.take(message);
-        if let Err(Refusal::OutOfMemory) = answer {
+        let Ok(answer) = answer_to(follower, *time, message) else {
             return Err(RunFault::Memory);
-        }
+        };
         Ok(Answer::Goes(message_answer_line(alloc, &answer, follower)?))
     }
 
@@ -178,7 +208,7 @@ impl<C: LearningCheck> GatePhase<C> {
             (phase_of C.meaning self.now)) }
         ensures memory { IfErr result (λ e. e ≡ RunFault.Memory) }
     {
-        let GatePhase::Following(follower) = self else {
+        let GatePhase::Following { follower, time: _ } = self else {
             return Ok(Answer::Broken);
         };
         match follower.encode_state() {
@@ -210,6 +240,7 @@ impl<C: LearningCheck> GatePhase<C> {
             Some(Request::Begin) => self.begin(alloc),
             Some(Request::Query) => self.query(alloc, &body[1..], out),
             Some(Request::Process) => self.process(alloc, &body[1..]),
+            Some(Request::Time(seconds)) => Ok(self.set_time(seconds)),
             Some(Request::Store) => self.store(alloc),
             None => Ok(Answer::Broken),
         }
@@ -220,7 +251,7 @@ impl<C: LearningCheck> GatePhase<C> {
         ensures { result ≡ verdict_at (phase_of C.meaning self.now) }
     {
         match self {
-            GatePhase::Following(_) => Verdict::Yes,
+            GatePhase::Following { .. } => Verdict::Yes,
             _ => Verdict::No,
         }
     }

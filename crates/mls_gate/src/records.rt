@@ -15,7 +15,7 @@ use crate::signature_lines::write_query;
 use mls_check::LearningCheck;
 use mls_report::{RecordStep, next_record, report_finding};
 use mls_show::{Verdict, write_text};
-use mls_start::{StartBytes, StartFailure, TrustingStart};
+use mls_start::{Judge, StartBytes, StartFailure, TrustingStart};
 use mls_wire::{Records, RunFault, Sink, Source};
 use std::alloc::Global;
 
@@ -44,20 +44,20 @@ fn serve<R: Source, C: LearningCheck, K: Sink>(
     alloc: Global,
     start: StartBytes,
     records: &mut R,
-    checker: C,
+    judge: Judge<C>,
     out: &mut K,
 ) -> Result<Verdict, RunFault>
     requires ready { (s : State) × IsFirstState all_good (inputs_of start) s }
     requires records { IsWorking (R.device records.old) }
     requires out { IsWorking (K.device out.old) }
-    ensures printed { IfOk result (ReportsRecords (Opening (inputs_of start) (C.meaning checker))
+    ensures printed { IfOk result (ReportsRecords (Opening (inputs_of start) judge.time (C.meaning judge.checker))
         (R.device records.old).bytes (R.device records.new).bytes (K.device out.old).bytes (K.device out.new).bytes) }
-    ensures effect_on_error { IfErr result (RecordsPart (Opening (inputs_of start) (C.meaning checker))
+    ensures effect_on_error { IfErr result (RecordsPart (Opening (inputs_of start) judge.time (C.meaning judge.checker))
         (R.device records.old).bytes (R.device records.new).bytes (K.device out.old).bytes (K.device out.new).bytes) }
     ensures read { ReadFails result (R.device records.new) }
     ensures write { WriteFails result (K.device out.new) }
 {
-    let mut phase = GatePhase::Opening { start, checker };
+    let mut phase = GatePhase::Opening { start, judge };
     let mut reader = Records::new(alloc, u32::MAX);
     'records: loop {
         match next_record(&mut reader, records)? {
@@ -91,12 +91,14 @@ fn serve<R: Source, C: LearningCheck, K: Sink>(
 /// - `q` and a message: a line for each signature of the message that is not known to be good
 ///   ([`mls_follow::Follower::signatures_to_verify`]), and one with their number. Each line is written before the next
 ///   signature is made.
-/// - `m` and a message: the message is processed ([`mls_follow::Follower::take`]). The line says that it was accepted
+/// - `m` and a message: the message is processed ([`mls_follow::Follower::take_at`]). The line says that it was accepted
 ///   and what it led to, with `ended` if the group is over (11.2); or the number and the name of the refusal.
+/// - `t` and a time, eight bytes, the first the highest: from now on messages are judged at this time, in seconds since 1970,
+///   until then at that of `judge`. No line.
 /// - `s`: the line has the file of the follower's state ([`mls_follow::Follower::encode_state`]), or is `state TooLong` if
 ///   the state has no file. The state is unchanged.
 ///
-/// Before `b` only `r` and `b` have an answer, and after it all but `b`. Every other record, and bytes that are no
+/// Before `b` only `r`, `t` and `b` have an answer, and after it all but `b`. Every other record, and bytes that are no
 /// record, have the line `broken`, and the gate ends with `No`. If the input ends between two records, the verdict is
 /// `Yes` after `b` and `No` before it.
 ///
@@ -111,14 +113,14 @@ pub fn gate<R: Source, C: LearningCheck, K: Sink>(
     alloc: Global,
     start: StartBytes,
     records: &mut R,
-    checker: C,
+    judge: Judge<C>,
     out: &mut K,
 ) -> Result<Verdict, RunFault>
     requires records { IsWorking (R.device records.old) }
     requires out { IsWorking (K.device out.old) }
-    ensures printed { IfOk result (Gates (C.meaning checker) (inputs_of start)
+    ensures printed { IfOk result (Gates judge.time (C.meaning judge.checker) (inputs_of start)
         (R.device records.old).bytes (R.device records.new).bytes (K.device out.old).bytes (K.device out.new).bytes) }
-    ensures effect_on_error { IfErr result (GatesPart (C.meaning checker) (inputs_of start)
+    ensures effect_on_error { IfErr result (GatesPart judge.time (C.meaning judge.checker) (inputs_of start)
         (R.device records.old).bytes (R.device records.new).bytes (K.device out.old).bytes (K.device out.new).bytes) }
     ensures read { ReadFails result (R.device records.new) }
     ensures write { WriteFails result (K.device out.new) }
@@ -130,10 +132,10 @@ pub fn gate<R: Source, C: LearningCheck, K: Sink>(
                 signatures,
             },
         ) => {
-            let written = write_query(alloc, signatures, &follower, &checker, out);
+            let written = write_query(alloc, signatures, &follower, &judge.checker, out);
             drop(follower);
             written?;
-            serve(alloc, start, records, checker, out)
+            serve(alloc, start, records, judge, out)
         }
         Err(StartFailure::Found(finding)) => report_finding(alloc, &finding, out),
         Err(StartFailure::OutOfMemory) => Err(RunFault::Memory),

@@ -1,7 +1,7 @@
 //! Inputs changed at random, and what the libraries do with them. The number of an input determines its changes, so a
 //! run can be repeated.
 
-use crate::followers::{bytes_of_all, follow};
+use crate::followers::{Taking, bytes_of_all, follow};
 use crate::group::{
     ADD_COMMIT, COMMIT, EXTENSIONS_COMMIT, FULL_COMMIT, GROUP_INFO, OPERATIONS, PATH_COMMIT,
     PROPOSAL, PSK_PROPOSAL, REINIT_PROPOSAL, TRANSCRIPT, TREE, TREE_CONTEXT, VALIDATION, VECTORS,
@@ -103,24 +103,68 @@ fn is_read_in_full(alloc: Global, input: &[u8]) -> Result<bool, Stop> {
     Ok(is_full)
 }
 
-/// Returns whether the last word of a text is a hash of 32 bytes.
-fn ends_in_hash(text: &str) -> bool {
+/// Returns the last word of a text.
+fn last_word(text: &str) -> &str {
     match text.rsplit_once(' ') {
-        Some((_, last)) => last.len() == 64,
-        None => text.len() == 64,
+        Some((_, last)) => last,
+        None => text,
     }
 }
 
-/// Returns whether a follower that has just started accepts a message after others. If it refuses the message, its
-/// state must be unchanged. The text of an answer ends in a hash if the message was accepted, otherwise it is a number.
-fn is_taken(alloc: Global, before: &[&str], message: Vec<u8>) -> Result<bool, Stop> {
-    let mut messages = bytes_of_all(alloc, before)?;
-    have(messages.push(message))?;
-    let followed = follow(alloc, Rules::plain(), Profile::Members, messages.as_slice())?;
+/// Returns whether the last word of a text is a hash of 32 bytes.
+fn ends_in_hash(text: &str) -> bool {
+    last_word(text).len() == 64
+}
+
+/// Returns a time by chance, or none.
+fn time_by_chance(chance: &mut Chance) -> Option<u64> {
+    match chance.below(4) {
+        0 => None,
+        1 => Some(0),
+        2 => Some(u64::MAX),
+        _ => Some(chance.below(1_000_000_000) as u64),
+    }
+}
+
+/// Returns the answers of a follower that has just started to messages, at a time if there is one. The text of an answer
+/// ends in a hash if the message was accepted, otherwise it is a number.
+fn answers_at(alloc: Global, time: Option<u64>, messages: &[Vec<u8>]) -> Result<String, Stop> {
+    let taking = Taking {
+        rules: Rules::plain(),
+        profile: Profile::Members,
+        time,
+    };
+    let followed = follow(alloc, taking, messages)?;
     if followed.was_refused {
         return Err(Stop::Memory);
     }
-    Ok(ends_in_hash(followed.answers.as_str()))
+    Ok(followed.answers)
+}
+
+/// Returns whether answers at a time may come if these come without one: they are the same, or the last message is
+/// accepted without a time and is outside of a lifetime at this one.
+fn are_timed(timed: &str, untimed: &str) -> bool {
+    timed == untimed || (ends_in_hash(untimed) && last_word(timed) == "53")
+}
+
+/// Returns whether a follower that has just started accepts a message after others. If it refuses the message, its
+/// state must be unchanged. At a time it must answer as without one, or refuse the message by its lifetime.
+fn is_taken(
+    alloc: Global,
+    before: &[&str],
+    message: Vec<u8>,
+    time: Option<u64>,
+) -> Result<bool, Stop> {
+    let mut messages = bytes_of_all(alloc, before)?;
+    have(messages.push(message))?;
+    let answers = answers_at(alloc, None, messages.as_slice())?;
+    if time.is_some() {
+        let timed = answers_at(alloc, time, messages.as_slice())?;
+        if !are_timed(timed.as_str(), answers.as_str()) {
+            return Err(Stop::OtherAtTime);
+        }
+    }
+    Ok(ends_in_hash(answers.as_str()))
 }
 
 /// Returns whether a tree is valid in a GroupContext with its hash.
@@ -219,7 +263,7 @@ pub(crate) fn try_input(alloc: Global, number: u64) -> Result<bool, Stop> {
     match first {
         Use::Read(_) => is_read(alloc, Profile::Members, input.as_slice()),
         Use::ReadInFull(_) => is_read_in_full(alloc, input.as_slice()),
-        Use::Take(before, _) => is_taken(alloc, before, input),
+        Use::Take(before, _) => is_taken(alloc, before, input, time_by_chance(&mut chance)),
         Use::Validate(_) => is_valid_tree(alloc, input.as_slice()),
         Use::Check(kind, _) => is_passed(alloc, kind, input.as_slice()),
     }

@@ -228,25 +228,51 @@ fn push_signatures(
     Ok(was_refused)
 }
 
+/// A message, and the time at which a follower takes it, if there is one.
+#[derive(Clone, Copy)]
+struct TimedMessage<'a> {
+    time: Option<u64>,
+    bytes: &'a [u8],
+}
+
 /// Passes a message to a follower, appends its answer, and returns whether it ran out of memory. A refused message must
 /// leave the state unchanged. If it ran out of memory, the message is passed again.
 fn hand_over(
     alloc: Global,
     follower: &mut TrustingFollower,
-    message: &[u8],
+    message: TimedMessage<'_>,
     before: &[u8],
     text: &mut String,
 ) -> Result<bool, Stop> {
-    let mut answer = follower.take(message);
+    let mut answer = follower.take_at(message.time, message.bytes);
     if answer.is_err() && !is_unchanged(alloc, follower, before)? {
         return Err(Stop::Changed);
     }
     let was_refused = answer == Err(Refusal::OutOfMemory);
     if was_refused {
-        answer = follower.take(message);
+        answer = follower.take_at(message.time, message.bytes);
     }
     add_answer(alloc, follower.context(), answer, text)?;
     Ok(was_refused)
+}
+
+/// How messages are taken: by a follower that starts with these strict rules and this profile, and at a time, if there is one.
+#[derive(Clone, Copy)]
+pub(crate) struct Taking {
+    pub(crate) rules: Rules,
+    pub(crate) profile: Profile,
+    pub(crate) time: Option<u64>,
+}
+
+impl Taking {
+    /// Without a time.
+    pub(crate) fn untimed(rules: Rules, profile: Profile) -> Taking {
+        Taking {
+            rules,
+            profile,
+            time: None,
+        }
+    }
 }
 
 /// What a follower returns for messages.
@@ -260,20 +286,22 @@ pub(crate) struct Followed {
     pub(crate) receipts: String,
 }
 
-/// Passes messages to a follower. Before each message its signatures are requested.
+/// Passes messages to a follower, at a time if there is one. Before each message its signatures are requested.
 pub(crate) fn pass(
     alloc: Global,
     follower: &mut TrustingFollower,
+    time: Option<u64>,
     messages: &[Vec<u8>],
 ) -> Result<Followed, Stop> {
     let mut was_refused = false;
     let mut answers = String::new(alloc);
     let mut receipts = String::new(alloc);
     for message in messages {
-        let message = message.as_slice();
+        let bytes = message.as_slice();
         let before = state_anew(alloc, follower)?;
         let before = before.as_slice();
-        was_refused |= push_signatures(alloc, follower, message, before, &mut receipts)?;
+        was_refused |= push_signatures(alloc, follower, bytes, before, &mut receipts)?;
+        let message = TimedMessage { time, bytes };
         was_refused |= hand_over(alloc, follower, message, before, &mut answers)?;
     }
     Ok(Followed {
@@ -283,16 +311,14 @@ pub(crate) fn pass(
     })
 }
 
-/// Passes messages to a follower that starts with these strict rules and this profile on the group of member 0 alone and
-/// accepts every signature.
+/// Passes messages to a follower that starts on the group of member 0 alone and accepts every signature.
 pub(crate) fn follow(
     alloc: Global,
-    rules: Rules,
-    profile: Profile,
+    taking: Taking,
     messages: &[Vec<u8>],
 ) -> Result<Followed, Stop> {
-    let (mut follower, was_refused) = start(alloc, rules, profile)?;
-    let followed = pass(alloc, &mut follower, messages);
+    let (mut follower, was_refused) = start(alloc, taking.rules, taking.profile)?;
+    let followed = pass(alloc, &mut follower, taking.time, messages);
     drop(follower);
     let mut followed = followed?;
     followed.was_refused |= was_refused;
@@ -302,13 +328,12 @@ pub(crate) fn follow(
 /// Returns the answers to messages, whose signatures must have these receipts.
 pub(crate) fn write_answers(
     alloc: Global,
-    rules: Rules,
-    profile: Profile,
+    taking: Taking,
     messages: &[&str],
     receipts: &str,
 ) -> Result<Output, Stop> {
     let messages = bytes_of_all(alloc, messages)?;
-    let followed = follow(alloc, rules, profile, messages.as_slice())?;
+    let followed = follow(alloc, taking, messages.as_slice())?;
     if followed.receipts.as_str() != receipts {
         return Err(Stop::OtherSignatures);
     }
@@ -368,7 +393,7 @@ fn add_after(
     messages: &[Vec<u8>],
     rules: Rules,
 ) -> Result<Output, Stop> {
-    let followed = pass(alloc, follower, messages)?;
+    let followed = pass(alloc, follower, None, messages)?;
     let (answer, was_refused) = add_rules(alloc, follower, rules)?;
     Ok(Output {
         was_refused: was_refused | followed.was_refused,

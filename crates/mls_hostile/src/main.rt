@@ -24,13 +24,14 @@ mod states;
 mod trees;
 
 use crate::changed::try_input;
-use crate::followers::{met_rules, write_added, write_answers};
+use crate::followers::{Taking, met_rules, write_added, write_answers};
 use crate::group::{
     ADD_ANSWERS, ADD_COMMIT, ADD_RECEIPTS, CLIENT_PROPOSAL, COMMIT, DATA_ANSWERS, DATA_COMMIT,
     DATA_PROPOSAL, DATA_RECEIPTS, EXTENSIONS_ANSWERS, EXTENSIONS_COMMIT, EXTENSIONS_RECEIPTS,
     FULL_COMMIT, FULL_STATE, GROUP_INFO, JOIN_ANSWERS, JOIN_COMMIT, JOIN_RECEIPTS, NEXT_STATE,
     PATH_ANSWERS, PATH_COMMIT, PATH_RECEIPTS, PROPOSAL, REMOVE_COMMIT, RESYNC_COMMIT,
-    SECOND_ADD_COMMIT, START_RECEIPTS, STRICT_STATE, TWO_PENDING_STATE,
+    SECOND_ADD_COMMIT, START_RECEIPTS, STRICT_STATE, TIMED_ANSWERS, TIMED_COMMIT, TIMED_PROPOSAL,
+    TIMED_RECEIPTS, TWO_PENDING_STATE,
 };
 use crate::inputs::{read_message, read_receipts};
 use crate::output::{Output, Stop};
@@ -44,8 +45,8 @@ use std::io::Read;
 use std::process::ExitCode;
 use std::time::Instant;
 
-/// A call, or a start of a follower with the messages that it processes and the receipts of their signatures, or the file of the
-/// state after them.
+/// A call, or a start of a follower with the messages that it processes, perhaps at a time, and the receipts of their signatures, or
+/// the file of the state after them.
 #[derive(Clone, Copy)]
 enum Call {
     Message(&'static str),
@@ -54,6 +55,7 @@ enum Call {
     Validate(Validator),
     StartSignatures,
     Follow(&'static [&'static str], &'static str),
+    FollowAt(u64, &'static [&'static str], &'static str),
     FollowInFull(&'static [&'static str], &'static str),
     FollowStrictly(&'static [&'static str], &'static str),
     AddMet(&'static [&'static str]),
@@ -64,7 +66,7 @@ enum Call {
     Report(Report),
 }
 
-/// The calls, with their names and the expected texts.
+/// The calls but reports, with their names and the expected texts.
 const CALLS: &[(&str, Call, &str)] = &[
     (
         "decode_message of a group info",
@@ -135,6 +137,15 @@ const CALLS: &[(&str, Call, &str)] = &[
         PATH_ANSWERS,
     ),
     (
+        "Follower::start, signatures_to_verify and take_at, to Adds whose lifetime has ended and has not",
+        Call::FollowAt(
+            10,
+            &[TIMED_PROPOSAL, TIMED_COMMIT, PROPOSAL, COMMIT],
+            TIMED_RECEIPTS,
+        ),
+        TIMED_ANSWERS,
+    ),
+    (
         "Follower::make_strict, after a proposal, by rules that the group meets",
         Call::AddMet(&[PROPOSAL]),
         "added",
@@ -164,53 +175,51 @@ const CALLS: &[(&str, Call, &str)] = &[
         Call::StoreStrictly(&[PROPOSAL], STRICT_STATE),
         "237 bytes",
     ),
-    ("replay", Call::Report(Report::Replay), "no, 294 bytes"),
-    ("run_check", Call::Report(Report::Check), "yes, 35 bytes"),
-    ("validate", Call::Report(Report::Validate), "yes, 94 bytes"),
+];
+
+/// Each report, by name, with its verdict and how many bytes it writes.
+const REPORTS: &[(&str, Report, &str)] = &[
+    ("replay", Report::Replay, "no, 294 bytes"),
+    ("replay, at a time", Report::TimedReplay, "no, 299 bytes"),
+    ("run_check", Report::Check, "yes, 35 bytes"),
+    ("validate", Report::Validate, "yes, 94 bytes"),
     (
         "validate, by all strict rules",
-        Call::Report(Report::StrictValidate),
+        Report::StrictValidate,
         "no, 36 bytes",
     ),
-    (
-        "validate_tree",
-        Call::Report(Report::ValidateTree),
-        "yes, 71 bytes",
-    ),
+    ("validate_tree", Report::ValidateTree, "yes, 71 bytes"),
     (
         "validate_tree, by all strict rules",
-        Call::Report(Report::StrictValidateTree),
+        Report::StrictValidateTree,
         "no, 28 bytes",
     ),
-    (
-        "signatures",
-        Call::Report(Report::Signatures),
-        "no, 1821 bytes",
-    ),
+    ("signatures", Report::Signatures, "no, 1821 bytes"),
     (
         "signatures of a state",
-        Call::Report(Report::SignaturesState),
+        Report::SignaturesState,
         "no, 1502 bytes",
     ),
-    ("gate", Call::Report(Report::Gate), "no, 2527 bytes"),
+    ("gate", Report::Gate, "no, 2527 bytes"),
     (
-        "gate of a state",
-        Call::Report(Report::GateState),
-        "yes, 2152 bytes",
+        "gate, at a time and then at others",
+        Report::TimedGate,
+        "yes, 915 bytes",
     ),
+    ("gate of a state", Report::GateState, "yes, 2152 bytes"),
     (
         "validate of a state",
-        Call::Report(Report::ValidateState),
+        Report::ValidateState,
         "yes, 94 bytes",
     ),
     (
         "validate of a state, by all strict rules",
-        Call::Report(Report::StrictValidateState),
+        Report::StrictValidateState,
         "no, 37 bytes",
     ),
     (
         "replay of a state, and encode_state",
-        Call::Report(Report::ReplayState),
+        Report::ReplayState,
         "no, 200 bytes",
     ),
 ];
@@ -224,13 +233,24 @@ fn make(alloc: Global, call: Call) -> Result<Output, Stop> {
         Call::Validate(validator) => validate(alloc, validator),
         Call::StartSignatures => write_start_signatures(alloc),
         Call::Follow(messages, receipts) => {
-            write_answers(alloc, Rules::plain(), Profile::Members, messages, receipts)
+            let taking = Taking::untimed(Rules::plain(), Profile::Members);
+            write_answers(alloc, taking, messages, receipts)
+        }
+        Call::FollowAt(time, messages, receipts) => {
+            let taking = Taking {
+                rules: Rules::plain(),
+                profile: Profile::Members,
+                time: Some(time),
+            };
+            write_answers(alloc, taking, messages, receipts)
         }
         Call::FollowInFull(messages, receipts) => {
-            write_answers(alloc, Rules::plain(), Profile::Full, messages, receipts)
+            let taking = Taking::untimed(Rules::plain(), Profile::Full);
+            write_answers(alloc, taking, messages, receipts)
         }
         Call::FollowStrictly(messages, receipts) => {
-            write_answers(alloc, met_rules()?, Profile::Members, messages, receipts)
+            let taking = Taking::untimed(met_rules()?, Profile::Members);
+            write_answers(alloc, taking, messages, receipts)
         }
         Call::AddMet(messages) => write_added(alloc, messages, met_rules()?),
         Call::AddAll(messages) => write_added(alloc, messages, Rules::strict()),
@@ -287,8 +307,8 @@ fn write(rt: &HostRuntime, name: &str, call: Call, needed: &str) -> Option<Refus
     }
 }
 
-/// Makes all calls. Returns where an allocation failed, or `None` if something is wrong.
-fn write_all(rt: &HostRuntime) -> Option<Refused> {
+/// Makes all calls but reports. Returns where an allocation failed, or `None` if something is wrong.
+fn write_calls(rt: &HostRuntime) -> Option<Refused> {
     let mut refused = Refused::Nowhere;
     for (name, call, needed) in CALLS {
         match write(rt, name, *call, needed)? {
@@ -297,6 +317,27 @@ fn write_all(rt: &HostRuntime) -> Option<Refused> {
         }
     }
     Some(refused)
+}
+
+/// Makes all reports. Returns where an allocation failed, or `None` if something is wrong.
+fn write_reports(rt: &HostRuntime) -> Option<Refused> {
+    let mut refused = Refused::Nowhere;
+    for (name, report, needed) in REPORTS {
+        match write(rt, name, Call::Report(*report), needed)? {
+            Refused::Nowhere => {}
+            found => refused = found,
+        }
+    }
+    Some(refused)
+}
+
+/// Makes all calls. Returns where an allocation failed, or `None` if something is wrong.
+fn write_all(rt: &HostRuntime) -> Option<Refused> {
+    let in_calls = write_calls(rt)?;
+    match write_reports(rt)? {
+        Refused::Nowhere => Some(in_calls),
+        in_reports => Some(in_reports),
+    }
 }
 
 /// Passes `count` changed inputs to the libraries, and prints the first at which something is wrong. The number of

@@ -34,6 +34,8 @@ pub(crate) enum Stop {
     OtherReport,
     /// The signatures of a start or of messages are other ones, or are not returned.
     OtherSignatures,
+    /// At a time a message is answered otherwise than without one, and not as one outside of a lifetime.
+    OtherAtTime,
 }
 
 /// Returns a value that is made or compared before or after a call. If there is none, memory ran out.

@@ -3,7 +3,8 @@
 use crate::group::{
     CHECKED, COMMIT, GATE_RECORDS, GATED, GROUP_INFO, LOG, NEXT_STATE, NOT_STRICT, REPLAYED,
     RESUMED, SIGNATURES, STATE, STATE_GATED, STATE_NOT_STRICT, STATE_RECORDS, STATE_SIGNATURES,
-    STATE_VALIDATED, TREE, TREE_CONTEXT, TREE_NOT_STRICT, VALIDATED, VALIDATED_TREE, VECTORS,
+    STATE_VALIDATED, TIMED_GATED, TIMED_LOG, TIMED_RECORDS, TIMED_REPLAYED, TREE, TREE_CONTEXT,
+    TREE_NOT_STRICT, VALIDATED, VALIDATED_TREE, VECTORS,
 };
 use crate::output::{Output, Stop, have};
 use mls_check::{Receipts, Trusting};
@@ -12,7 +13,7 @@ use mls_gate::gate;
 use mls_msgs::{Profile, Rules};
 use mls_report::{Replayed, replay, signatures, validate, validate_tree};
 use mls_show::Verdict;
-use mls_start::StartBytes;
+use mls_start::{Judge, StartBytes};
 use mls_vectors::{CheckKind, run_check};
 use mls_wire::{CodecFault, MemorySink, MemorySource, RunFault};
 use std::alloc::Global;
@@ -22,6 +23,8 @@ use std::alloc::Global;
 pub(crate) enum Report {
     /// `replay` of the log.
     Replay,
+    /// `replay` of a log at a time, with a KeyPackage whose lifetime has ended.
+    TimedReplay,
     /// `check` of the test vector.
     Check,
     /// `validate` of the group of member 0 alone.
@@ -38,6 +41,8 @@ pub(crate) enum Report {
     SignaturesState,
     /// `gate` of the group of member 0 alone and of records, with no receipts at first.
     Gate,
+    /// `gate` of this group at a time and of records that have others, with no receipts at first.
+    TimedGate,
     /// `gate` of a state with a pending proposal and of records, with no receipts at first.
     GateState,
     /// `validate` of the state after the proposal.
@@ -81,15 +86,19 @@ fn verdict_of(replayed: Result<Replayed<Trusting>, RunFault>) -> Result<Verdict,
     }
 }
 
-/// Returns how `replay` ends.
-fn replay_ended(alloc: Global) -> Result<Ended, Stop> {
+/// Returns how `replay` of a log ends, at a time if there is one.
+fn replay_ended(alloc: Global, log: &str, time: Option<u64>) -> Result<Ended, Stop> {
     let Ok(mut out) = MemorySink::new(alloc, 1000, 40, None) else {
         return Err(Stop::Memory);
     };
-    let log = have(hex::decode(alloc, LOG))?;
+    let log = have(hex::decode(alloc, log))?;
     let start = info_start(alloc, Rules::plain())?;
     let mut log = MemorySource::new(log.as_slice(), 40, None);
-    let outcome = verdict_of(replay(alloc, start, &mut log, Trusting, &mut out));
+    let judge = Judge {
+        checker: Trusting,
+        time,
+    };
+    let outcome = verdict_of(replay(alloc, start, &mut log, judge, &mut out));
     Ok((outcome, out))
 }
 
@@ -163,16 +172,29 @@ fn signatures_state_ended(alloc: Global) -> Result<Ended, Stop> {
     Ok((outcome, out))
 }
 
-/// Returns how `gate` ends.
-fn gate_ended(alloc: Global) -> Result<Ended, Stop> {
+/// Returns what the gate judges messages by at first: no receipts, and a time if there is one.
+fn first_judge(alloc: Global, time: Option<u64>) -> Judge<Receipts> {
+    Judge {
+        checker: Receipts::new(alloc),
+        time,
+    }
+}
+
+/// Returns how `gate` of records ends, at a time if there is one.
+fn gate_ended(alloc: Global, records: &str, time: Option<u64>) -> Result<Ended, Stop> {
     let Ok(mut out) = MemorySink::new(alloc, 3000, 40, None) else {
         return Err(Stop::Memory);
     };
-    let records = have(hex::decode(alloc, GATE_RECORDS))?;
+    let records = have(hex::decode(alloc, records))?;
     let start = info_start(alloc, Rules::plain())?;
     let mut records = MemorySource::new(records.as_slice(), 40, None);
-    let known = Receipts::new(alloc);
-    let outcome = gate(alloc, start, &mut records, known, &mut out);
+    let outcome = gate(
+        alloc,
+        start,
+        &mut records,
+        first_judge(alloc, time),
+        &mut out,
+    );
     Ok((outcome, out))
 }
 
@@ -184,8 +206,13 @@ fn gate_state_ended(alloc: Global) -> Result<Ended, Stop> {
     let records = have(hex::decode(alloc, STATE_RECORDS))?;
     let start = state_start(alloc, Rules::plain())?;
     let mut records = MemorySource::new(records.as_slice(), 40, None);
-    let known = Receipts::new(alloc);
-    let outcome = gate(alloc, start, &mut records, known, &mut out);
+    let outcome = gate(
+        alloc,
+        start,
+        &mut records,
+        first_judge(alloc, None),
+        &mut out,
+    );
     Ok((outcome, out))
 }
 
@@ -224,7 +251,11 @@ fn replay_state_ended(alloc: Global) -> Result<Ended, Stop> {
     let log = commit_log(alloc)?;
     let start = state_start(alloc, Rules::plain())?;
     let mut log = MemorySource::new(log.as_slice(), 40, None);
-    let outcome = match replay(alloc, start, &mut log, Trusting, &mut out) {
+    let judge = Judge {
+        checker: Trusting,
+        time: None,
+    };
+    let outcome = match replay(alloc, start, &mut log, judge, &mut out) {
         Ok(replayed) => {
             let ended = stored_ended(replayed.verdict, &replayed.follower, needed.as_slice());
             drop(replayed);
@@ -238,7 +269,8 @@ fn replay_state_ended(alloc: Global) -> Result<Ended, Stop> {
 /// Returns how a report ends.
 fn ended(alloc: Global, report: Report) -> Result<Ended, Stop> {
     match report {
-        Report::Replay => replay_ended(alloc),
+        Report::Replay => replay_ended(alloc, LOG, None),
+        Report::TimedReplay => replay_ended(alloc, TIMED_LOG, Some(10)),
         Report::Check => check_ended(alloc),
         Report::Validate => validate_ended(alloc, Rules::plain()),
         Report::StrictValidate => validate_ended(alloc, Rules::strict()),
@@ -246,7 +278,8 @@ fn ended(alloc: Global, report: Report) -> Result<Ended, Stop> {
         Report::StrictValidateTree => validate_tree_ended(alloc, Rules::strict()),
         Report::Signatures => signatures_ended(alloc),
         Report::SignaturesState => signatures_state_ended(alloc),
-        Report::Gate => gate_ended(alloc),
+        Report::Gate => gate_ended(alloc, GATE_RECORDS, None),
+        Report::TimedGate => gate_ended(alloc, TIMED_RECORDS, Some(10)),
         Report::GateState => gate_state_ended(alloc),
         Report::ValidateState => validate_state_ended(alloc, Rules::plain()),
         Report::StrictValidateState => validate_state_ended(alloc, Rules::strict()),
@@ -258,6 +291,7 @@ fn ended(alloc: Global, report: Report) -> Result<Ended, Stop> {
 fn usual(report: Report) -> (&'static str, &'static str) {
     match report {
         Report::Replay => ("no", REPLAYED),
+        Report::TimedReplay => ("no", TIMED_REPLAYED),
         Report::Check => ("yes", CHECKED),
         Report::Validate => ("yes", VALIDATED),
         Report::StrictValidate => ("no", NOT_STRICT),
@@ -266,6 +300,7 @@ fn usual(report: Report) -> (&'static str, &'static str) {
         Report::Signatures => ("no", SIGNATURES),
         Report::SignaturesState => ("no", STATE_SIGNATURES),
         Report::Gate => ("no", GATED),
+        Report::TimedGate => ("yes", TIMED_GATED),
         Report::GateState => ("yes", STATE_GATED),
         Report::ValidateState => ("yes", STATE_VALIDATED),
         Report::StrictValidateState => ("no", STATE_NOT_STRICT),
@@ -282,10 +317,12 @@ pub(crate) fn write_report(alloc: Global, report: Report) -> Result<Output, Stop
     if was_refused {
         let front = match report {
             Report::Replay
+            | Report::TimedReplay
             | Report::ReplayState
             | Report::Signatures
             | Report::SignaturesState
             | Report::Gate
+            | Report::TimedGate
             | Report::GateState => usual_text.as_bytes(),
             Report::Check
             | Report::Validate

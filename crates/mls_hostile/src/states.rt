@@ -83,7 +83,7 @@ fn store_after(
     messages: &[Vec<u8>],
     file: &[u8],
 ) -> Result<bool, Stop> {
-    let followed = pass(alloc, follower, messages)?;
+    let followed = pass(alloc, follower, None, messages)?;
     let (stored, was_refused) = store(alloc, follower)?;
     if stored.as_slice() != file {
         return Err(Stop::OtherState);

@@ -11,6 +11,5 @@ pub mod LeafCredentialsInternal
 pub mod CredentialCounts
 pub mod CredentialCountsInternal
 pub mod FirstChanged
-pub mod FirstChangedInternal
 pub mod RepeatedKeys
 pub mod RepeatedKeysInternal

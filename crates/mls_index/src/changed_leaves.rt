@@ -1,15 +1,12 @@
 //! The first changed leaf that fails a rule that needs no other leaf (RFC 9420, 7.3).
 
 ghost use Rattle.std.specs.Prelude.{◌≡◌, ◌∷◌, [], IfOk};
-ghost use Rattle.mls_check.specs.SortedRequirements.{RequireSame, requirements_of};
 ghost use Rattle.mls_index.specs.FirstChanged.{FindsFailingAt, leaf_rule, smaller};
-ghost use Rattle.mls_index.specs.FirstChangedInternal.{RequireSame-prop};
 
 use mls_check::{
-    OutOfMemory, SignatureCheck, SortedRequirements, is_leaf_signed, supports_own_extensions,
-    supports_required,
+    GroupRequirements, OutOfMemory, SignatureCheck, is_leaf_signed, supports_own_extensions,
 };
-use mls_nodes::{EncodedLeaf, GroupContext, RequiredCapabilities};
+use mls_nodes::{EncodedLeaf, GroupContext};
 use mls_tree::PublicTree;
 use std::alloc::Global;
 
@@ -24,19 +21,15 @@ pub enum LeafRule {
     Signature,
 }
 
-/// What these rules need besides the leaf: the GroupContext, what the group requires, and a checker. `sorted` is made of
-/// `required`.
+/// What these rules need besides the leaf: the GroupContext, what the group requires, and a checker.
 #[derive(Drop)]
 pub struct LeafRules<'a, C> {
     /// The GroupContext.
     pub context: &'a GroupContext,
     /// What the group requires of its members (RFC 9420, 11.1).
-    pub required: &'a RequiredCapabilities,
-    /// The same, sorted.
-    pub sorted: &'a SortedRequirements,
+    pub required: &'a GroupRequirements,
     /// What verifies signatures.
     pub checker: &'a C,
-    ghost same: { RequireSame (requirements_of sorted.now) required.now } by { RequireSame-prop (requirements_of sorted.now) required.now },
 }
 
 /// Returns whether a leaf satisfies a rule.
@@ -53,7 +46,7 @@ fn satisfies<C: SignatureCheck>(
 {
     match rule {
         LeafRule::Extensions => supports_own_extensions(alloc, leaf),
-        LeafRule::Requirements => supports_required(alloc, leaf, rules.sorted),
+        LeafRule::Requirements => rules.required.are_supported_by(alloc, leaf),
         LeafRule::Signature => {
             let context = rules.context;
             let suite = context.cipher_suite;

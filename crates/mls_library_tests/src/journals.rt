@@ -198,6 +198,50 @@ fn undoing_empties_no_other_slot(rt: HostRuntime) {
     }
 }
 
+/// The tree of [`TWO_OF_FOUR`], but the signature of leaf 0 has 300 bytes.
+const LONG_LEAF: &str =
+    "4181010101a001b0000101400200010200010000020001010000000000000000ffffffffffffffff00412c00010203040506\
+    0708090a0b0c0d0e0f101112131415161718191a1b1c1d1e1f202122232425262728292a2b2c2d2e2f303132333435363738\
+    393a3b3c3d3e3f404142434445464748494a4b4c4d4e4f505152535455565758595a5b5c5d5e5f606162636465666768696a\
+    6b6c6d6e6f707172737475767778797a7b7c7d7e7f808182838485868788898a8b8c8d8e8f909192939495969798999a9b9c\
+    9d9e9fa0a1a2a3a4a5a6a7a8a9aaabacadaeafb0b1b2b3b4b5b6b7b8b9babbbcbdbebfc0c1c2c3c4c5c6c700000000000000\
+    0000000000000000000000000000000000000000000000000000000000000000000000000000000000000000000000000000\
+    00000000000000000000000000000000000000000000000000000000000000000000000000000000000000000000010101a2\
+    01b2000101420200010200010000020001010000000000000000ffffffffffffffff0001c2";
+
+/// Fills the hash cache of a tree, makes leaf 0 blank, and undoes this with the logged hashes. Returns the node indices of the
+/// slots that are empty after the change and once it is undone, how many are filled then, and whether the tree has the nodes
+/// and the hashes that it had.
+fn removed_and_back(rt: &impl Abort, alloc: Global, encoding: &str) -> String {
+    let mut tree = tree_with(rt, alloc, encoding);
+    have(rt, fill_hashes(alloc, suite(rt), &mut tree));
+    let before = whole_text(rt, alloc, &tree);
+    let mut journal = Journal::new(alloc);
+    if tree.leaf_count() == 0 {
+        panic!(rt; "a leaf");
+    }
+    have(rt, journal.set_leaf(&mut tree, 0, None));
+    let changed = empty_node_indices(rt, alloc, &tree);
+    journal.rollback_with_hashes(&mut tree);
+    let back = empty_node_indices(rt, alloc, &tree);
+    let is_same = before == whole_text(rt, alloc, &tree);
+    let filled = have(rt, fill_hashes(alloc, suite(rt), &mut tree));
+    have(rt, format!(in alloc; "{changed} {back} {filled} {is_same}"))
+}
+
+/// The hash of a leaf of more than 256 bytes is logged and put back. Those of a short leaf and of blank parents are not.
+#[test]
+fn hashes_of_long_nodes_are_put_back(rt: HostRuntime) {
+    let alloc = rt.alloc();
+    const TREES: &[(&str, &str)] = &[
+        (LONG_LEAF, "[0, 1, 3] [1, 3] 2 true"),
+        (TWO_OF_FOUR, "[0, 1, 3] [0, 1, 3] 3 true"),
+    ];
+    for (encoding, expected) in TREES {
+        expect_text(&rt, removed_and_back(&rt, alloc, encoding), expected);
+    }
+}
+
 /// A change that is final remains when those after it are undone.
 fn kept(rt: &impl Abort, alloc: Global, changes: (Change, Change)) -> String {
     let mut tree = tree_with(rt, alloc, GROWN);
@@ -249,13 +293,10 @@ fn changed_node_indices_are_returned(rt: HostRuntime) {
         (&[Change::Path(0)], "[1, 3]"),
         (&[Change::Entry(2)], "[3]"),
         (&[Change::Leaf(1), Change::Growth], "[2]"),
-        (
-            &[Change::Growth, Change::Halving],
-            "[7, 8, 9, 10, 11, 12, 13, 14]",
-        ),
+        (&[Change::Growth, Change::Halving], "[]"),
         (
             &[Change::Leaf(3), Change::Leaf(2), Change::Halving],
-            "[3, 4, 5, 6]",
+            "[3, 4, 6]",
         ),
     ];
     for (input, expected) in CHANGES {

@@ -43,6 +43,8 @@ mod strict_trees;
 #[cfg(test)]
 mod support;
 #[cfg(test)]
+mod timed_replays;
+#[cfg(test)]
 mod tree_entries;
 #[cfg(test)]
 mod tree_indexes;

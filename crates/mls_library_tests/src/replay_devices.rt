@@ -7,6 +7,7 @@ use crate::support::{GROUP_INFO, LOG, bytes, have, sink, source, start};
 use mls_check::Trusting;
 use mls_report::replay;
 use mls_show::Verdict;
+use mls_start::Judge;
 use mls_wire::{RunFault, Sink, StdSink};
 use std::alloc::Global;
 use std::io::{self, ErrorKind, Write};
@@ -69,7 +70,11 @@ pub(crate) fn replay_into<K: Sink>(
     let start = start(rt, alloc, GROUP_INFO);
     let log = bytes(rt, alloc, LOG);
     let mut log = source(log.as_slice(), reading.piece, reading.fails_at);
-    let outcome = match replay(alloc, start, &mut log, Trusting, out) {
+    let judge = Judge {
+        checker: Trusting,
+        time: None,
+    };
+    let outcome = match replay(alloc, start, &mut log, judge, out) {
         Ok(replayed) => {
             let verdict = replayed.verdict;
             drop(replayed);

@@ -1,5 +1,5 @@
 -- A replay by a checker that accepts each signature that `signatures` names is the one by a checker that accepts them all.
-use Rattle.std.proofs.Common.{◌≡◌, ◌∙◌, List, [], ◌∷◌, ℕ, Option, Some, None, refl, sym, ap, subst}
+use Rattle.std.proofs.Common.{◌≡◌, ◌∙◌, List, [], ◌∷◌, ℕ, Option, Some, None, sym, ap, subst}
 use Rattle.mls_tree.specs.RatchetTree.{RatchetTree}
 use Rattle.mls_tree.specs.Tree.{Tree}
 use Rattle.mls_check.specs.Signatures.{VerifyFn}
@@ -7,15 +7,17 @@ use Rattle.mls_msgs.specs.declared.rules.Rules.{Rules}
 use Rattle.mls_msgs.specs.declared.group_info.GroupInfo.{GroupInfo}
 use Rattle.mls_msgs.specs.declared.message.Message.{Message}
 use Rattle.mls_follow.specs.CoveredLogs.{all_good, Covers, CoversStart, CoversMessage}
-use Rattle.mls_follow.specs.Runs.{Call, IsAnswer}
 use Rattle.mls_follow.specs.Start.{IsStart}
 use Rattle.mls_follow.specs.State.{State}
+use Rattle.mls_follow.specs.TimedAnswers.{IsAnswerAt}
 use Rattle.mls_follow.specs.Validity.{IsValidState}
 use Rattle.mls_signatures.specs.SignaturesToVerify.{start_signatures}
 use Rattle.mls_follow.specs.MessageSignatures.{message_signatures_in_state}
 use Rattle.mls_signatures.specs.declared.signature_to_verify.SignatureToVerify.{SignatureToVerify}
 use Rattle.mls_follow.proofs.Answering.{one_message}
-use Rattle.mls_follow.proofs.CoveredLogs.{covered_answers, covered_starts}
+use Rattle.mls_follow.proofs.CoveredLogs.{covered_starts}
+use Rattle.mls_follow.proofs.TimedCovered.{covered_answers_at_times}
+use Rattle.mls_follow.proofs.TimedRuns.{calls_at, timed_run}
 use Rattle.mls_follow.proofs.Validity.{run_valid, start_valid}
 use Rattle.mls_report.specs.CoveredReports.{CoversNeeded, CoversLogged, CoveredReportsReplay}
 use Rattle.mls_report.specs.Replay.{AreProcessed}
@@ -37,15 +39,15 @@ module _ (R : VerifyFn) where
       n : Message
       n = these.message
 
-  turns_covered : (s : State) (logged : List LoggedMessage) → IsValidState R s → AreProcessed all_good s (turns_of logged) → HaveSignatures s logged → CoversLogged R logged
-      → AreProcessed R s (turns_of logged)
+  turns_covered : (s : State) (logged : List LoggedMessage) → IsValidState R s → AreProcessed None all_good s (turns_of logged) → HaveSignatures s logged → CoversLogged R logged
+      → AreProcessed None R s (turns_of logged)
   turns_covered s [] v taken has_signatures covers = taken
   turns_covered s (a ∷ logged) v taken has_signatures covers =
       let turn = a.turn in
-      let answer : IsAnswer R s turn.bytes turn.answer turn.state =
-      (covered_answers R s turn.bytes turn.answer turn.state v (message_covered s turn.bytes a.needed has_signatures.0 covers.0)).1 taken.0 in
-      let call : Call = record { bytes = turn.bytes; answer = turn.answer } in
-      let valid : IsValidState R turn.state = run_valid R s (call ∷ []) turn.state v (turn.state, answer.takes, refl) in
+      let answer : IsAnswerAt None R s turn.bytes turn.answer turn.state =
+      (covered_answers_at_times None R s turn.bytes turn.answer turn.state v (message_covered s turn.bytes a.needed has_signatures.0 covers.0)).1 taken.0 in
+      let run = timed_run None R s turn.bytes turn.answer turn.state answer in
+      let valid : IsValidState R turn.state = run_valid R s (calls_at turn.bytes turn.answer) turn.state v run in
       (answer, turns_covered turn.state logged valid taken.1 has_signatures.1 covers.1)
 
   -- the tree of a start is the one that it uses

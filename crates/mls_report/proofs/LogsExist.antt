@@ -9,8 +9,11 @@ use Rattle.mls_wire.specs.Logs.{length_size, IsRecord, IsBadLength, IsTruncatedR
 use Rattle.mls_wire.specs.Parsing.{length_at}
 use Rattle.mls_wire.specs.Encoding.{length_form}
 use Rattle.mls_check.specs.Signatures.{VerifyFn}
-use Rattle.mls_follow.specs.Runs.{Call, IsRun, HasAnswer}
+use Rattle.mls_follow.proofs.Holding.{IsSteady}
+use Rattle.mls_follow.proofs.TimedAnswers.{timed_answer}
+use Rattle.mls_follow.proofs.TimedRuns.{timed_steady}
 use Rattle.mls_follow.specs.State.{State}
+use Rattle.mls_follow.specs.TimedAnswers.{HasAnswerAt}
 use Rattle.mls_report.proofs.TurnsOnce.{MessageLines}
 use Rattle.mls_report.specs.Replay.{ProcessedMessage, IsLogEnd}
 
@@ -105,15 +108,11 @@ module _ (most first : ℕ) (bytes : List ℕ) where
 
 -- ---- all that is told
 
-module _ (G : VerifyFn) where
-  -- whatever messages come, there is an answer to the next
-  abbrev pub IsAnswering : State → Type 0
-  IsAnswering s = (calls : List Call) (last : State) (bytes : List ℕ) → IsRun G s calls last → HasAnswer G last bytes
-
+module _ (time : Option ℕ) (G : VerifyFn) where
   pub record IsLogReported (most : ℕ) (s : State) (log : List ℕ) : Type 0 where
     pub turns : List ProcessedMessage
     pub broken : Bool
-    pub printed : MessageLines G most s log turns broken
+    pub printed : MessageLines time G most s log turns broken
 
   none_told : (most : ℕ) (s : State) → IsLogReported most s []
   none_told most s = record {
@@ -139,7 +138,7 @@ module _ (G : VerifyFn) where
   }
 
   -- one message, and what is told behind it
-  one_more : (most : ℕ) (s : State) (log : List ℕ) (n : Begins log) (answer : HasAnswer G s n.body) → IsLogReported most answer.1 n.after → IsLogReported (suc most) s log
+  one_more : (most : ℕ) (s : State) (log : List ℕ) (n : Begins log) (answer : HasAnswerAt time G s n.body) → IsLogReported most answer.1 n.after → IsLogReported (suc most) s log
   one_more most s log n answer rest =
       let turn : ProcessedMessage = record { bytes = n.body; answer = answer.0; state = answer.1 } in
       let behind = rest.printed in
@@ -163,19 +162,16 @@ module _ (G : VerifyFn) where
         };
       }
 
-  -- the answer to a message leads to a state of the same kind
-  still_answering : (s : State) (bytes : List ℕ) → IsAnswering s → (answer : HasAnswer G s bytes) → IsAnswering answer.1
-  still_answering s bytes all answer calls last more run =
-      all (record { bytes = bytes; answer = answer.0 } ∷ calls) last more (answer.1, answer.2.takes, run)
-
-  pub log_reported : (most : ℕ) (s : State) (log : List ℕ) → IsAnswering s → IsLogReported most s log
-  log_reported most s [] all = none_told most s
-  log_reported zero s (first ∷ bytes) all =
+  -- in a steady state there is an answer to any message, and it leads to a steady state
+  pub log_reported : (most : ℕ) (s : State) (log : List ℕ) → IsSteady s → IsLogReported most s log
+  log_reported most s [] steady = none_told most s
+  log_reported zero s (first ∷ bytes) steady =
       breaks_reported zero s (first ∷ bytes) (record { rest = first ∷ []; left = bytes; is_break = inl (refl, refl); log_is = refl })
-  log_reported (suc most) s (first ∷ bytes) all =
+  log_reported (suc most) s (first ∷ bytes) steady =
       elim (comes most first bytes) [
         | inl n ↦
-            (let answer = all [] s n.body refl in
-            one_more most s (first ∷ bytes) n answer (log_reported most answer.1 n.after (still_answering s n.body all answer)))
+            (let answer = timed_answer time G s steady.required n.body steady.held steady.requires in
+            let still = timed_steady time G s n.body steady answer.0 answer.1 answer.2 in
+            one_more most s (first ∷ bytes) n answer (log_reported most answer.1 n.after still))
         | inr b ↦ breaks_reported (suc most) s (first ∷ bytes) b
       ]

@@ -6,8 +6,8 @@ use Rattle.mls_wire.specs.Devices.{AppendsPrefix}
 use Rattle.mls_wire.proofs.KnownBytes.{Appends-trans, Consumes-trans}
 use Rattle.mls_wire.specs.Logs.{IsRecord}
 use Rattle.mls_check.specs.Signatures.{VerifyFn}
-use Rattle.mls_follow.specs.Runs.{IsAnswer}
 use Rattle.mls_follow.specs.State.{State}
+use Rattle.mls_follow.specs.TimedAnswers.{IsAnswerAt}
 use Rattle.mls_wire.specs.declared.fault.RunFault.{RunFault}
 use Rattle.mls_wire.specs.declared.fault.RunFault.TheVariants.{Read, Write, Memory}
 use Rattle.mls_show.specs.declared.verdict.Verdict.{Verdict}
@@ -21,9 +21,9 @@ use Rattle.mls_report.specs.Finding.{finding_line, finding_verdict}
 
 -- ---- one turn more
 
-AreProcessed-snoc : (G : VerifyFn) (s : State) (ts : List ProcessedMessage) (t : ProcessedMessage) → AreProcessed G s ts → IsAnswer G (state_after s ts) t.bytes t.answer t.state → AreProcessed G s (ts ++ t ∷ [])
-AreProcessed-snoc G s [] t a b = (b, tt)
-AreProcessed-snoc G s (x ∷ ts) t a b = (a.0, AreProcessed-snoc G x.state ts t a.1 b)
+AreProcessed-snoc : (time : Option ℕ) (G : VerifyFn) (s : State) (ts : List ProcessedMessage) (t : ProcessedMessage) → AreProcessed time G s ts → IsAnswerAt time G (state_after s ts) t.bytes t.answer t.state → AreProcessed time G s (ts ++ t ∷ [])
+AreProcessed-snoc time G s [] t a b = (b, tt)
+AreProcessed-snoc time G s (x ∷ ts) t a b = (a.0, AreProcessed-snoc time G x.state ts t a.1 b)
 
 pub state_after-snoc : (s : State) (ts : List ProcessedMessage) (t : ProcessedMessage) → state_after s (ts ++ t ∷ []) ≡ t.state
 state_after-snoc s [] t = refl
@@ -48,15 +48,15 @@ records-snoc (x ∷ ts) t records read p r =
     (p.0, p.1 ++ read, p.2, records-snoc ts t p.1 read p.3 r, ap (λ l. l ++ read) p.4 ∙ append_assoc p.0 p.1 read)
 
 -- the messages so far were taken and told, and nothing was read behind them
-pub record SoFar (G : VerifyFn) (s : State) (log0 log1 written0 written1 : Option (List ℕ)) (ts : List ProcessedMessage) (now : State) : Type 0 where
-  pub follows : Follows G s log0 log1 ts []
+pub record SoFar (time : Option ℕ) (G : VerifyFn) (s : State) (log0 log1 written0 written1 : Option (List ℕ)) (ts : List ProcessedMessage) (now : State) : Type 0 where
+  pub follows : Follows time G s log0 log1 ts []
   pub wrote : Appends written0 written1 (processed_lines 1 ts)
   pub state : now ≡ state_after s ts
 
 -- bytes were read behind the messages so far
-pub follows-read : (G : VerifyFn) (s : State) (l0 l1 l2 : Option (List ℕ)) (ts : List ProcessedMessage) (rest : List ℕ)
-    → Follows G s l0 l1 ts [] → Consumes l1 l2 rest → Follows G s l0 l2 ts rest
-follows-read G s l0 l1 l2 ts rest f read = record {
+pub follows-read : (time : Option ℕ) (G : VerifyFn) (s : State) (l0 l1 l2 : Option (List ℕ)) (ts : List ProcessedMessage) (rest : List ℕ)
+    → Follows time G s l0 l1 ts [] → Consumes l1 l2 rest → Follows time G s l0 l2 ts rest
+follows-read time G s l0 l1 l2 ts rest f read = record {
   taken = f.taken;
   bounded = f.bounded;
   records = f.records;
@@ -65,11 +65,11 @@ follows-read G s l0 l1 l2 ts rest f read = record {
 }
 
 -- a record was read behind them, and its message taken
-pub follows-snoc : (G : VerifyFn) (s : State) (l0 l1 l2 : Option (List ℕ)) (ts : List ProcessedMessage) (t : ProcessedMessage) (read : List ℕ)
-    → Follows G s l0 l1 ts [] → length ts < message_limit → IsRecord read t.bytes → Consumes l1 l2 read
-    → IsAnswer G (state_after s ts) t.bytes t.answer t.state → Follows G s l0 l2 (ts ++ t ∷ []) []
-follows-snoc G s l0 l1 l2 ts t read f below r taken is_answer = record {
-  taken = AreProcessed-snoc G s ts t f.taken is_answer;
+pub follows-snoc : (time : Option ℕ) (G : VerifyFn) (s : State) (l0 l1 l2 : Option (List ℕ)) (ts : List ProcessedMessage) (t : ProcessedMessage) (read : List ℕ)
+    → Follows time G s l0 l1 ts [] → length ts < message_limit → IsRecord read t.bytes → Consumes l1 l2 read
+    → IsAnswerAt time G (state_after s ts) t.bytes t.answer t.state → Follows time G s l0 l2 (ts ++ t ∷ []) []
+follows-snoc time G s l0 l1 l2 ts t read f below r taken is_answer = record {
+  taken = AreProcessed-snoc time G s ts t f.taken is_answer;
   bounded = omega (arith, length-append ts (t ∷ []));
   records = f.records ++ read;
   are_records = records-snoc ts t f.records read f.are_records r;
@@ -84,22 +84,22 @@ pub Appends-nil : (a : Option (List ℕ)) → Appends a a []
 Appends-nil None = tt
 Appends-nil (Some x) = sym (append-nil x)
 
-pub so_far-none : (G : VerifyFn) (s : State) (l w : Option (List ℕ)) → SoFar G s l l w w [] s
-so_far-none G s l w = record {
+pub so_far-none : (time : Option ℕ) (G : VerifyFn) (s : State) (l w : Option (List ℕ)) → SoFar time G s l l w w [] s
+so_far-none time G s l w = record {
   follows = record { taken = tt; bounded = omega arith; records = []; are_records = refl; log_read = Consumes-nil l };
   wrote = Appends-nil w;
   state = refl;
 }
 
 pub so_far-snoc :
-    (G : VerifyFn) (s : State) (l0 l1 l2 w0 w1 w2 : Option (List ℕ)) (ts : List ProcessedMessage) (now : State) (n : ℕ) (body : List ℕ) (read : List ℕ) (new : State) (b : Bool)
-    → SoFar G s l0 l1 w0 w1 ts now → n ≡ 1 + length ts → length ts < message_limit → IsRecord read body → Consumes l1 l2 read
-    → (printed : ReportsMessage G now n body new w1 w2 b)
-    → SoFar G s l0 l2 w0 w2 (ts ++ record { bytes = body; answer = printed.answer; state = new } ∷ []) new
-so_far-snoc G s l0 l1 l2 w0 w1 w2 ts now n body read new b f count below r taken printed =
+    (time : Option ℕ) (G : VerifyFn) (s : State) (l0 l1 l2 w0 w1 w2 : Option (List ℕ)) (ts : List ProcessedMessage) (now : State) (n : ℕ) (body : List ℕ) (read : List ℕ) (new : State) (b : Bool)
+    → SoFar time G s l0 l1 w0 w1 ts now → n ≡ 1 + length ts → length ts < message_limit → IsRecord read body → Consumes l1 l2 read
+    → (printed : ReportsMessage time G now n body new w1 w2 b)
+    → SoFar time G s l0 l2 w0 w2 (ts ++ record { bytes = body; answer = printed.answer; state = new } ∷ []) new
+so_far-snoc time G s l0 l1 l2 w0 w1 w2 ts now n body read new b f count below r taken printed =
     let t : ProcessedMessage = record { bytes = body; answer = printed.answer; state = new } in
     record {
-      follows = follows-snoc G s l0 l1 l2 ts t read f.follows below r taken (subst (λ (st : State). IsAnswer G st body printed.answer new) f.state printed.is_answer);
+      follows = follows-snoc time G s l0 l1 l2 ts t read f.follows below r taken (subst (λ (st : State). IsAnswerAt time G st body printed.answer new) f.state printed.is_answer);
       wrote = subst (Appends w0 w2) (sym (lines-snoc 1 ts t n count)) (Appends-trans w0 w1 w2 _ _ f.wrote printed.wrote);
       state = sym (state_after-snoc s ts t);
     }
@@ -113,37 +113,37 @@ accepted-more ts t old new b p q e = e ∙ ap (λ k. k + one_if b) p ∙ ap (λ 
 pub still : (ts : List ProcessedMessage) (most : ℕ) → most + length ts ≡ message_limit → most ≡ messages_to_come ts
 still ts most e = omega arith
 
-pub part-turn : (G : VerifyFn) (s : State) (l0 l1 l2 w0 w1 w2 : Option (List ℕ)) (ts : List ProcessedMessage) (now : State) (n : ℕ) (body read : List ℕ) (e : RunFault)
-    → SoFar G s l0 l1 w0 w1 ts now → n ≡ 1 + length ts → length ts < message_limit → IsRecord read body → Consumes l1 l2 read
-    → StopsAtMessage G now n body w1 w2 e → ReportsPart G s l0 l2 w0 w2 e
-part-turn G s l0 l1 l2 w0 w1 w2 ts now n body read Read f count below r taken stops = absurd stops
-part-turn G s l0 l1 l2 w0 w1 w2 ts now n body read Write f count below r taken stops =
+pub part-turn : (time : Option ℕ) (G : VerifyFn) (s : State) (l0 l1 l2 w0 w1 w2 : Option (List ℕ)) (ts : List ProcessedMessage) (now : State) (n : ℕ) (body read : List ℕ) (e : RunFault)
+    → SoFar time G s l0 l1 w0 w1 ts now → n ≡ 1 + length ts → length ts < message_limit → IsRecord read body → Consumes l1 l2 read
+    → StopsAtMessage time G now n body w1 w2 e → ReportsPart time G s l0 l2 w0 w2 e
+part-turn time G s l0 l1 l2 w0 w1 w2 ts now n body read Read f count below r taken stops = absurd stops
+part-turn time G s l0 l1 l2 w0 w1 w2 ts now n body read Write f count below r taken stops =
     let t : ProcessedMessage = record { bytes = body; answer = stops.answer; state = stops.new } in
     let same : n ≡ length ts + 1 = omega arith in
     inl (record {
       turns = ts;
       last = t;
-      follows = follows-snoc G s l0 l1 l2 ts t read f.follows below r taken (subst (λ (st : State). IsAnswer G st body stops.answer stops.new) f.state stops.is_answer);
+      follows = follows-snoc time G s l0 l1 l2 ts t read f.follows below r taken (subst (λ (st : State). IsAnswerAt time G st body stops.answer stops.new) f.state stops.is_answer);
       part = stops.wrote.0;
       more = stops.wrote.1;
       line_is = ap (λ k. processed_line k t) (sym same) ∙ stops.wrote.2;
       wrote = Appends-trans w0 w1 w2 _ _ f.wrote stops.wrote.3;
     })
-part-turn G s l0 l1 l2 w0 w1 w2 ts now n body read Memory f count below r taken stops = record {
+part-turn time G s l0 l1 l2 w0 w1 w2 ts now n body read Memory f count below r taken stops = record {
   turns = ts;
   rest = read;
-  follows = follows-read G s l0 l1 l2 ts read f.follows taken;
+  follows = follows-read time G s l0 l1 l2 ts read f.follows taken;
   left_over = inr (inl (body, r));
   wrote = subst (Appends w0 w2) (append-nil (processed_lines 1 ts)) (Appends-trans w0 w1 w2 _ _ f.wrote stops);
 }
 
-pub followed : (G : VerifyFn) (s : State) (l0 l1 l2 w0 w1 : Option (List ℕ)) (ts : List ProcessedMessage) (now : State) (a r most : ℕ) (read : List ℕ) (broken : Bool)
-    → SoFar G s l0 l1 w0 w1 ts now → a ≡ accepted_count ts → a + r ≡ length ts → most + length ts ≡ message_limit → Consumes l1 l2 read
-    → IsLogEnd most read l2 broken → FollowsLog G s l0 l2 w0 w1 now a r broken
-followed G s l0 l1 l2 w0 w1 ts now a r most read broken f taken counted count consumed end = record {
+pub followed : (time : Option ℕ) (G : VerifyFn) (s : State) (l0 l1 l2 w0 w1 : Option (List ℕ)) (ts : List ProcessedMessage) (now : State) (a r most : ℕ) (read : List ℕ) (broken : Bool)
+    → SoFar time G s l0 l1 w0 w1 ts now → a ≡ accepted_count ts → a + r ≡ length ts → most + length ts ≡ message_limit → Consumes l1 l2 read
+    → IsLogEnd most read l2 broken → FollowsLog time G s l0 l2 w0 w1 now a r broken
+followed time G s l0 l1 l2 w0 w1 ts now a r most read broken f taken counted count consumed end = record {
   turns = ts;
   rest = read;
-  follows = follows-read G s l0 l1 l2 ts read f.follows consumed;
+  follows = follows-read time G s l0 l1 l2 ts read f.follows consumed;
   log_end = subst (λ k. IsLogEnd k read l2 broken) (still ts most count) end;
   wrote = f.wrote;
   state = f.state;
@@ -161,10 +161,10 @@ ending-is s now ts a r broken state taken counted =
     ∙ ap (λ k. last_lines broken (accepted_count ts) k now.context.epoch) refused
     ∙ ap (λ (st : State). last_lines broken (accepted_count ts) (refused_count ts) st.context.epoch) state
 
-pub printed-log : (G : VerifyFn) (s : State) (l0 l1 w0 w1 w2 : Option (List ℕ)) (now : State) (a r : ℕ) (broken : Bool) (verdict : Verdict)
-    → FollowsLog G s l0 l1 w0 w1 now a r broken → Appends w1 w2 (last_lines broken a r now.context.epoch) → IsVerdict broken r verdict
-    → ReplaysLog G s l0 l1 w0 w2 verdict now
-printed-log G s l0 l1 w0 w1 w2 now a r broken verdict f wrote v =
+pub printed-log : (time : Option ℕ) (G : VerifyFn) (s : State) (l0 l1 w0 w1 w2 : Option (List ℕ)) (now : State) (a r : ℕ) (broken : Bool) (verdict : Verdict)
+    → FollowsLog time G s l0 l1 w0 w1 now a r broken → Appends w1 w2 (last_lines broken a r now.context.epoch) → IsVerdict broken r verdict
+    → ReplaysLog time G s l0 l1 w0 w2 verdict now
+printed-log time G s l0 l1 w0 w1 w2 now a r broken verdict f wrote v =
     let taken = f.taken in
     let counted = f.counted in
     let refused : r ≡ refused_count f.turns = omega arith in (
@@ -180,9 +180,9 @@ printed-log G s l0 l1 w0 w1 w2 now a r broken verdict f wrote v =
       f.state,
     )
 
-pub part-ending : (G : VerifyFn) (s : State) (l0 l1 w0 w1 w2 : Option (List ℕ)) (now : State) (a r : ℕ) (broken : Bool)
-    → FollowsLog G s l0 l1 w0 w1 now a r broken → AppendsPrefix w1 w2 (last_lines broken a r now.context.epoch) → ReportsPart G s l0 l1 w0 w2 Write
-part-ending G s l0 l1 w0 w1 w2 now a r broken f p = inr (record {
+pub part-ending : (time : Option ℕ) (G : VerifyFn) (s : State) (l0 l1 w0 w1 w2 : Option (List ℕ)) (now : State) (a r : ℕ) (broken : Bool)
+    → FollowsLog time G s l0 l1 w0 w1 now a r broken → AppendsPrefix w1 w2 (last_lines broken a r now.context.epoch) → ReportsPart time G s l0 l1 w0 w2 Write
+part-ending time G s l0 l1 w0 w1 w2 now a r broken f p = inr (record {
   turns = f.turns;
   rest = f.rest;
   broken = broken;
@@ -207,19 +207,19 @@ line-part (Err Memory) P part of_part memory of_memory own = of_memory (memory r
 
 -- ---- a follower has started or resumed, or none has
 
-pub replays-to : (G : VerifyFn) (i : Inputs) (K : VerifyFn) → K ≡ G → (s : State) → IsFirstState G i s → (l0 l1 w0 w1 : Option (List ℕ)) (verdict : Verdict) (last : State)
-    → ReplaysLog K s l0 l1 w0 w1 verdict last → ReportsReplay G i l0 l1 w0 w1 verdict last
-replays-to G i K same s starts l0 l1 w0 w1 verdict last h =
-    let moved : ReplaysLog G s l0 l1 w0 w1 verdict last = subst (λ (g : VerifyFn). ReplaysLog g s l0 l1 w0 w1 verdict last) same h in
+pub replays-to : (time : Option ℕ) (G : VerifyFn) (i : Inputs) (K : VerifyFn) → K ≡ G → (s : State) → IsFirstState G i s → (l0 l1 w0 w1 : Option (List ℕ)) (verdict : Verdict) (last : State)
+    → ReplaysLog time K s l0 l1 w0 w1 verdict last → ReportsReplay time G i l0 l1 w0 w1 verdict last
+replays-to time G i K same s starts l0 l1 w0 w1 verdict last h =
+    let moved : ReplaysLog time G s l0 l1 w0 w1 verdict last = subst (λ (g : VerifyFn). ReplaysLog time g s l0 l1 w0 w1 verdict last) same h in
     record { state = s; starts = starts; reports = moved.0; last_is = moved.1 }
 
-pub replay-stops : (G : VerifyFn) (i : Inputs) (K : VerifyFn) → K ≡ G → (s : State) → IsFirstState G i s → (l0 l1 w0 w1 : Option (List ℕ)) (fault : RunFault)
-    → ReportsPart K s l0 l1 w0 w1 fault → ReplaysPart G i l0 l1 w0 w1 fault
-replay-stops G i K same s starts l0 l1 w0 w1 fault part =
+pub replay-stops : (time : Option ℕ) (G : VerifyFn) (i : Inputs) (K : VerifyFn) → K ≡ G → (s : State) → IsFirstState G i s → (l0 l1 w0 w1 : Option (List ℕ)) (fault : RunFault)
+    → ReportsPart time K s l0 l1 w0 w1 fault → ReplaysPart time G i l0 l1 w0 w1 fault
+replay-stops time G i K same s starts l0 l1 w0 w1 fault part =
     inr (record {
       state = s;
       starts = starts;
-      reports = subst (λ (g : VerifyFn). ReportsPart g s l0 l1 w0 w1 fault) same part;
+      reports = subst (λ (g : VerifyFn). ReportsPart time g s l0 l1 w0 w1 fault) same part;
     })
 
 module _ {L : Type 0} (G : VerifyFn) (i : Inputs) (finding : Finding) (declines : Declines G i finding) (l : L) (w0 w1 : Option (List ℕ)) where
@@ -234,3 +234,9 @@ module _ {L : Type 0} (G : VerifyFn) (i : Inputs) (finding : Finding) (declines 
 
   pub in-decline : AppendsPrefix w0 w1 (finding_line finding) → StopsInDecline G i l l w0 w1
   in-decline wrote = record { finding = finding; declines = declines; unread = refl; wrote = wrote }
+
+-- no follower has started or resumed, and the line that says why was not written whole
+pub decline-part : (time : Option ℕ) (G : VerifyFn) (i : Inputs) (finding : Finding) → Declines G i finding → (l w0 w1 : Option (List ℕ)) (r : Result Verdict RunFault)
+    → OnErr r (AppendsPrefix w0 w1 (finding_line finding)) → (r ≡ Err Memory → Appends w0 w1 []) → IfErr r (λ e. e ≢ Read) → IfErr r (ReplaysPart time G i l l w0 w1)
+decline-part time G i finding declines l w0 w1 r part memory own =
+    line-part r (ReplaysPart time G i l l w0 w1) part (λ p. inl (in-decline G i finding declines l w0 w1 p)) memory (λ none. inl (record { unread = refl; wrote = none })) own

@@ -1,13 +1,7 @@
 -- A replay has a report, whatever the bytes of its inputs.
 use Rattle.std.proofs.Common.{ℕ, zero, suc, [], ◌++◌, Bool, true, false, Some, None, refl, inl, inr, arith}
-use Rattle.mls_check.specs.Signatures.{VerifyFn}
-use Rattle.mls_follow.proofs.Deciding.{an_answer}
-use Rattle.mls_follow.proofs.Holding.{run_steady}
-use Rattle.mls_follow.specs.State.{State}
 use Rattle.mls_start.proofs.FirstStates.{first_or_declined, first_steady}
-use Rattle.mls_start.specs.Inputs.{Inputs}
-use Rattle.mls_start.specs.StartFindings.{IsFirstState}
-use Rattle.mls_report.proofs.LogsExist.{IsAnswering, IsLogReported, log_reported}
+use Rattle.mls_report.proofs.LogsExist.{IsLogReported, log_reported}
 use Rattle.mls_report.specs.Finding.{finding_line}
 use Rattle.mls_report.specs.Replay.{message_limit, IsVerdict, processed_lines, ending, refused_count, state_after}
 use Rattle.mls_report.specs.ReportsExist.{ReplayExists}
@@ -19,17 +13,11 @@ verdict_there true refused = (No, inl refl)
 verdict_there false zero = (Yes, (refl, refl))
 verdict_there false (suc n) = (No, inr (λ e. omega (arith, e)))
 
--- whatever messages come, there is an answer to the next
-pub first_answering : (G : VerifyFn) (i : Inputs) (s : State) → IsFirstState G i s → IsAnswering G s
-first_answering G i s h calls last bytes run =
-    let steady = run_steady G s calls last (first_steady G i s h) run in
-    an_answer G last steady.required bytes steady.held steady.requires
-
 pub some_replay : ReplayExists
-some_replay G i log_bytes =
+some_replay time G i log_bytes =
     elim (first_or_declined G i) [
       | inl s ↦
-          (let log : IsLogReported G message_limit s.0 log_bytes = log_reported G message_limit s.0 log_bytes (first_answering G i s.0 s.1) in
+          (let log : IsLogReported time G message_limit s.0 log_bytes = log_reported time G message_limit s.0 log_bytes (first_steady G i s.0 s.1) in
           let verdict = verdict_there log.broken (refused_count log.turns) in (
             processed_lines 1 log.turns ++ ending log.broken s.0 log.turns,
             verdict.0,

@@ -7,7 +7,7 @@ use Rattle.mls_wire.proofs.KnownBytes.{Appends-trans}
 use Rattle.mls_wire.specs.Logs.{IsRecord, IsBrokenAt}
 use Rattle.std.specs.Fmt.{decimal}
 use Rattle.mls_check.specs.Signatures.{VerifyFn}
-use Rattle.mls_follow.specs.Runs.{IsAnswer}
+use Rattle.mls_follow.specs.TimedAnswers.{IsAnswerAt}
 use Rattle.mls_follow.specs.State.{State}
 use Rattle.mls_apply.specs.declared.refusal.Refusal.{Refusal}
 use Rattle.mls_follow.specs.declared.taken.Taken.{Taken}
@@ -68,7 +68,7 @@ pub record SignatureLogSoFar (R : VerifyFn) (s : State) (log0 log1 written0 writ
   pub state : now ≡ state_after s (turns_of ms)
 
 processes-read : (s : State) (l0 l1 l2 : Option (List ℕ)) (ms : List LoggedMessage) (rest : List ℕ) → ProcessesLog s l0 l1 ms [] → Consumes l1 l2 rest → ProcessesLog s l0 l2 ms rest
-processes-read s l0 l1 l2 ms rest f read = record { follows = follows-read all_good s l0 l1 l2 (turns_of ms) rest f.follows read; has_signatures = f.has_signatures }
+processes-read s l0 l1 l2 ms rest f read = record { follows = follows-read None all_good s l0 l1 l2 (turns_of ms) rest f.follows read; has_signatures = f.has_signatures }
 
 pub so_far-none : (R : VerifyFn) (s : State) (l w : Option (List ℕ)) → SignatureLogSoFar R s l l w w [] s
 so_far-none R s l w = record {
@@ -87,12 +87,12 @@ module _ (R : VerifyFn) (s : State) (l0 l1 l2 w0 w1 : Option (List ℕ)) (ms : L
     abbrev pub last : LoggedMessage
     last = record { turn = record { bytes = body; answer = answer; state = new }; needed = needed }
 
-    processes-snoc : HasSignatures now body needed → IsAnswer all_good now body answer new → ProcessesLog s l0 l2 (ms ++ last ∷ []) []
+    processes-snoc : HasSignatures now body needed → IsAnswerAt None all_good now body answer new → ProcessesLog s l0 l2 (ms ++ last ∷ []) []
     processes-snoc has_signatures is_answer = record {
       follows =
-          subst (λ (ts : List ProcessedMessage). Follows all_good s l0 l2 ts []) (sym (turns-snoc ms last))
-          (follows-snoc all_good s l0 l1 l2 (turns_of ms) last.turn read f.processes.follows (omega (arith, turns-length ms)) r taken
-          (subst (λ (st : State). IsAnswer all_good st body answer new) f.state is_answer));
+          subst (λ (ts : List ProcessedMessage). Follows None all_good s l0 l2 ts []) (sym (turns-snoc ms last))
+          (follows-snoc None all_good s l0 l1 l2 (turns_of ms) last.turn read f.processes.follows (omega (arith, turns-length ms)) r taken
+          (subst (λ (st : State). IsAnswerAt None all_good st body answer new) f.state is_answer));
       has_signatures = has_signatures-snoc s ms last f.processes.has_signatures (subst (λ (st : State). HasSignatures st body needed) f.state has_signatures);
     }
 
@@ -118,7 +118,7 @@ module _ (R : VerifyFn) (s : State) (l0 l1 l2 w0 w1 : Option (List ℕ)) (ms : L
 
   -- the lines of the message were not written whole
   in-message :
-      (w2 : Option (List ℕ)) (needed : Option (List SignatureToVerify)) (answer : Result Taken Refusal) (new : State) → HasSignatures now body needed → IsAnswer all_good now body answer new
+      (w2 : Option (List ℕ)) (needed : Option (List SignatureToVerify)) (answer : Result Taken Refusal) (new : State) → HasSignatures now body needed → IsAnswerAt None all_good now body answer new
       → (e : RunFault) → StopsInMessageLines R n needed w1 w2 e → SignatureLogPart R s l0 l2 w0 w2 e
   in-message w2 needed answer new has is_answer Read stops = absurd stops
   in-message w2 needed answer new has is_answer Write stops =

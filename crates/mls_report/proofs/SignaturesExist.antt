@@ -4,15 +4,15 @@ use Rattle.std.specs.Prelude.{option_map}
 use Rattle.mls_check.specs.Signatures.{VerifyFn}
 use Rattle.mls_follow.specs.CoveredLogs.{all_good}
 use Rattle.mls_follow.specs.MessageSignatures.{message_signatures_in_state}
-use Rattle.mls_follow.specs.Runs.{IsAnswer}
+use Rattle.mls_follow.specs.TimedAnswers.{IsAnswerAt}
+use Rattle.mls_follow.proofs.Holding.{IsSteady}
 use Rattle.mls_follow.specs.State.{State}
 use Rattle.mls_apply.specs.declared.refusal.Refusal.{Refusal}
 use Rattle.mls_apply.specs.declared.refusal.Refusal.TheVariants.{OutOfMemory}
 use Rattle.mls_follow.specs.declared.taken.Taken.{Taken}
 use Rattle.mls_signatures.specs.declared.signature_to_verify.SignatureToVerify.{SignatureToVerify}
-use Rattle.mls_start.proofs.FirstStates.{first_or_declined, first_starts}
-use Rattle.mls_report.proofs.LogsExist.{IsAnswering, IsLogReported, log_reported}
-use Rattle.mls_report.proofs.ReplaysExist.{first_answering}
+use Rattle.mls_start.proofs.FirstStates.{first_or_declined, first_starts, first_steady}
+use Rattle.mls_report.proofs.LogsExist.{IsLogReported, log_reported}
 use Rattle.mls_report.proofs.TurnsOnce.{MessageLines}
 use Rattle.mls_report.specs.Finding.{finding_line}
 use Rattle.mls_report.specs.Replay.{ProcessedMessage, AreProcessed, message_limit}
@@ -27,7 +27,7 @@ own : (e : Refusal) → (◌≡◌ {A = Result Taken Refusal} (Err e) (Err OutOf
 own e memory same = memory (ap Err same)
 
 -- a message that is processed has signatures, or it is none
-some_needed : (s : State) (bytes : List ℕ) (answer : Result Taken Refusal) (new : State) → IsAnswer all_good s bytes answer new
+some_needed : (s : State) (bytes : List ℕ) (answer : Result Taken Refusal) (new : State) → IsAnswerAt None all_good s bytes answer new
     → (needed : Option (List SignatureToVerify)) × HasSignatures s bytes needed
 some_needed s bytes (Ok taken) new h =
     let message = h.takes.0 in
@@ -44,7 +44,7 @@ record HaveSome (s : State) (turns : List ProcessedMessage) : Type 0 where
   are : turns ≡ turns_of logged
   has_signatures : HaveSignatures s logged
 
-some_logged : (s : State) (turns : List ProcessedMessage) → AreProcessed all_good s turns → HaveSome s turns
+some_logged : (s : State) (turns : List ProcessedMessage) → AreProcessed None all_good s turns → HaveSome s turns
 some_logged s [] h = record { logged = []; are = refl; has_signatures = tt }
 some_logged s (turn ∷ turns) h =
     let first = some_needed s turn.bytes turn.answer turn.state h.0 in
@@ -53,7 +53,7 @@ some_logged s (turn ∷ turns) h =
 
 -- ---- the lines of a log
 
-module _ (R : VerifyFn) (s : State) (answering : IsAnswering all_good s) where
+module _ (R : VerifyFn) (s : State) (steady : IsSteady s) where
   -- what is written behind the start, and the verdict
   record HasBehind (log : Option (List ℕ)) : Type 0 where
     more : List ℕ
@@ -64,9 +64,9 @@ module _ (R : VerifyFn) (s : State) (answering : IsAnswering all_good s) where
   some_behind : (log : Option (List ℕ)) → HasBehind log
   some_behind None = record { more = []; verdict = Yes; left = None; reports = λ mid. (refl, refl) }
   some_behind (Some log) =
-      let there : IsLogReported all_good message_limit s log = log_reported all_good message_limit s log answering in
+      let there : IsLogReported None all_good message_limit s log = log_reported None all_good message_limit s log steady in
       let some = some_logged s there.turns there.printed.taken in
-      let printed = subst (λ (turns : List ProcessedMessage). MessageLines all_good message_limit s log turns there.broken) some.are there.printed in
+      let printed = subst (λ (turns : List ProcessedMessage). MessageLines None all_good message_limit s log turns there.broken) some.are there.printed in
       record {
         more = log_lines R 1 some.logged ++ break_line there.broken (length some.logged);
         verdict = log_verdict there.broken (all_read some.logged);
@@ -92,7 +92,7 @@ some_signatures R i log_bytes =
     elim (first_or_declined all_good i) [
       | inl s ↦
           (let needed = first_starts i s.0 s.1 in
-          let behind : HasBehind R s.0 (first_answering all_good i s.0 s.1) log_bytes = some_behind R s.0 (first_answering all_good i s.0 s.1) log_bytes in (
+          let behind : HasBehind R s.0 (first_steady all_good i s.0 s.1) log_bytes = some_behind R s.0 (first_steady all_good i s.0 s.1) log_bytes in (
             needed_lines R needed.0 ++ behind.more,
             behind.verdict,
             record {

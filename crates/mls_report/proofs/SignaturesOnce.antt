@@ -53,9 +53,9 @@ module _ (R : VerifyFn) (s : State) where
       (a : ReportsSignatureLog R s (Some log) left w x v) (b : ReportsSignatureLog R s (Some log) behind y z o) where
     one_reported : (log_lines R 1 a.logged ++ break_line a.broken (length a.logged) ≡ log_lines R 1 b.logged ++ break_line b.broken (length b.logged)) × (v ≡ o)
     one_reported =
-        let ends : EndsLog all_good s (Some log) left (turns_of a.logged) a.broken = record { rest = a.rest; follows = a.processes.follows; log_end = a.log_end } in
-        let others : EndsLog all_good s (Some log) behind (turns_of b.logged) b.broken = record { rest = b.rest; follows = b.processes.follows; log_end = b.log_end } in
-        let same = one_log all_good s log left behind (turns_of a.logged) (turns_of b.logged) a.broken b.broken ends others in
+        let ends : EndsLog None all_good s (Some log) left (turns_of a.logged) a.broken = record { rest = a.rest; follows = a.processes.follows; log_end = a.log_end } in
+        let others : EndsLog None all_good s (Some log) behind (turns_of b.logged) b.broken = record { rest = b.rest; follows = b.processes.follows; log_end = b.log_end } in
+        let same = one_log None all_good s log left behind (turns_of a.logged) (turns_of b.logged) a.broken b.broken ends others in
         let logged = one_logged s a.logged b.logged same.0 a.processes.has_signatures b.processes.has_signatures in
         (λ i. log_lines R 1 (logged i) ++ break_line (same.1 i) (length (logged i)), a.verdict_is ∙ (λ i. log_verdict (same.1 i) (all_read (logged i))) ∙ sym b.verdict_is)
 

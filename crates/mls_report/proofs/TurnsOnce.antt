@@ -6,9 +6,9 @@ use Rattle.mls_wire.specs.Logs.{ReadsRecord, IsRecord}
 use Rattle.mls_wire.specs.declared.log.LogStep.{LogStep}
 use Rattle.mls_wire.specs.declared.log.LogStep.TheVariants as steps
 use Rattle.mls_check.specs.Signatures.{VerifyFn}
-use Rattle.mls_follow.proofs.Answering.{only_answer}
-use Rattle.mls_follow.specs.Runs.{IsAnswer}
+use Rattle.mls_follow.proofs.TimedAnswers.{one_timed_answer}
 use Rattle.mls_follow.specs.State.{State}
+use Rattle.mls_follow.specs.TimedAnswers.{IsAnswerAt}
 use Rattle.mls_report.specs.UniqueReports.{EndsLog, LogIsUnique}
 use Rattle.mls_report.specs.Replay.{message_limit, ProcessedMessage, AreProcessed, AreRecords, IsLogEnd}
 
@@ -45,10 +45,10 @@ one_end false true e = absurd cc
 abbrev pub bytes_of : List ProcessedMessage → List (List ℕ)
 bytes_of turns = map (λ turn. turn.bytes) turns
 
-module _ (G : VerifyFn) where
+module _ (time : Option ℕ) (G : VerifyFn) where
   -- what is told of the bytes of a log, of which so many messages may come
   pub record MessageLines (most : ℕ) (s : State) (log : List ℕ) (turns : List ProcessedMessage) (broken : Bool) : Type 0 where
-    pub taken : AreProcessed G s turns
+    pub taken : AreProcessed time G s turns
     pub bounded : length turns ≤ most
     pub records : List ℕ
     pub are_records : AreRecords (bytes_of turns) records
@@ -89,9 +89,9 @@ module _ (G : VerifyFn) where
       }
 
   -- the same turn
-  one_turn : (s : State) (t u : ProcessedMessage) → t.bytes ≡ u.bytes → IsAnswer G s t.bytes t.answer t.state → IsAnswer G s u.bytes u.answer u.state → t ≡ u
+  one_turn : (s : State) (t u : ProcessedMessage) → t.bytes ≡ u.bytes → IsAnswerAt time G s t.bytes t.answer t.state → IsAnswerAt time G s u.bytes u.answer u.state → t ≡ u
   one_turn s t u e a b =
-      let same = only_answer G s u.bytes t.answer u.answer t.state u.state (subst (λ (x : List ℕ). IsAnswer G s x t.answer t.state) e a) b in
+      let same = one_timed_answer time G s u.bytes t.answer u.answer t.state u.state (subst (λ (x : List ℕ). IsAnswerAt time G s x t.answer t.state) e a) b in
       λ i. record { bytes = e i; answer = same.0 i; state = same.1 i }
 
   one_reported : (most : ℕ) (s : State) (log : List ℕ) (turns others : List ProcessedMessage) (broken end : Bool) → MessageLines most s log turns broken → MessageLines most s log others end
@@ -115,7 +115,7 @@ module _ (G : VerifyFn) where
       let others = one_reported (most - 1) t.state (behind_first most s log t ts broken a) ts us broken end (reported_after most s log t ts broken a) back in
       (λ i. turn i ∷ others.0 i, others.1)
 
-  printed : (s : State) (log : List ℕ) (left : Option (List ℕ)) (turns : List ProcessedMessage) (broken : Bool) → EndsLog G s (Some log) left turns broken → MessageLines message_limit s log turns broken
+  printed : (s : State) (log : List ℕ) (left : Option (List ℕ)) (turns : List ProcessedMessage) (broken : Bool) → EndsLog time G s (Some log) left turns broken → MessageLines message_limit s log turns broken
   printed s log None turns broken h = absurd (h.follows.log_read)
   printed s log (Some left) turns broken h = record {
     taken = h.follows.taken;
@@ -129,4 +129,5 @@ module _ (G : VerifyFn) where
   }
 
 pub one_log : LogIsUnique
-one_log G s log left other turns others broken end a b = one_reported G message_limit s log turns others broken end (printed G s log left turns broken a) (printed G s log other others end b)
+one_log time G s log left other turns others broken end a b =
+    one_reported time G message_limit s log turns others broken end (printed time G s log left turns broken a) (printed time G s log other others end b)

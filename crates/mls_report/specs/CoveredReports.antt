@@ -33,4 +33,4 @@ CoveredReportsReplay =
     (needed : List SignatureToVerify) (log0 log1 : Option (List ℕ)) (logged : List LoggedMessage) (rest : List ℕ)
     → StartHasSignatures asked profile info supplied s needed → Covers R needed → ProcessesLog s log0 log1 logged rest
     → CoversLogged R logged
-    → IsStart asked profile R info supplied s × Follows R s log0 log1 (turns_of logged) rest
+    → IsStart asked profile R info supplied s × Follows None R s log0 log1 (turns_of logged) rest

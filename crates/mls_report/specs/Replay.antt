@@ -1,6 +1,7 @@
 -- The report `replay`: a line for each message of a log, and a last one. `i` is what the group is followed from. `log0` and
 -- `log1` are what the log has left before and after, `written0` and `written1` what the output holds. G is the
--- verification function of the checker, `turns` are processed messages. Used by contracts.
+-- verification function of the checker, `time` the time at which messages are judged, if one is handed in, `turns` are
+-- processed messages. Used by contracts.
 use Rattle.std.specs.Prelude.{List, [], ◌∷◌, ℕ, ◌+◌, ◌-◌, ◌≤◌, ◌++◌, codes, length, map, Bool, true, false, Option, Some, None, Result, Ok, Err, is_ok, ◌≡◌, ◌≢◌, ◌⊎◌}
 use Rattle.std.specs.Fmt.{decimal}
 use Rattle.std.specs.Io.KnownBytes.{Appends, Consumes, IsAtEnd}
@@ -9,8 +10,8 @@ use Rattle.mls_wire.specs.Logs.{IsRecord, IsBrokenAt, IsIncomplete}
 use Rattle.mls_check.specs.LeafValidation.{member_number}
 use Rattle.mls_check.specs.Signatures.{VerifyFn}
 use Rattle.mls_apply.specs.Refusals.{number_of}
-use Rattle.mls_follow.specs.Runs.{IsAnswer}
 use Rattle.mls_follow.specs.State.{State}
+use Rattle.mls_follow.specs.TimedAnswers.{IsAnswerAt}
 use Rattle.mls_apply.specs.declared.refusal.Refusal.{Refusal}
 use Rattle.mls_apply.specs.declared.refusal.Refusal.TheVariants.{Member}
 use Rattle.mls_follow.specs.declared.taken.Taken.{Taken}
@@ -37,12 +38,12 @@ pub record ProcessedMessage : Type 0 where
   pub answer : Result Taken Refusal
   pub state : State
 
--- `AreProcessed G s turns`: the messages are processed one after the other, from the state `s` on, and none runs out of
--- memory.
-abbrev pub AreProcessed : VerifyFn → State → List ProcessedMessage → Type 0
-AreProcessed G s [] = Unit {0}
-AreProcessed G s (turn ∷ turns) =
-    IsAnswer G s turn.bytes turn.answer turn.state × AreProcessed G turn.state turns
+-- `AreProcessed time G s turns`: the messages are processed one after the other, from the state `s` on, and none runs out
+-- of memory.
+abbrev pub AreProcessed : Option ℕ → VerifyFn → State → List ProcessedMessage → Type 0
+AreProcessed time G s [] = Unit {0}
+AreProcessed time G s (turn ∷ turns) =
+    IsAnswerAt time G s turn.bytes turn.answer turn.state × AreProcessed time G turn.state turns
 
 -- `state_after s turns` is the state after the messages.
 abbrev pub state_after : State → List ProcessedMessage → State
@@ -136,11 +137,11 @@ abbrev pub IsLogEnd : ℕ → List ℕ → Option (List ℕ) → Bool → Type 0
 IsLogEnd most rest left true = IsBrokenAt most rest left
 IsLogEnd most rest left false = (rest ≡ []) × IsAtEnd left
 
--- `Follows G s log0 log1 turns rest`: the messages of the records that were read of the log are processed, from the
+-- `Follows time G s log0 log1 turns rest`: the messages of the records that were read of the log are processed, from the
 -- state `s` on. After these records the bytes `rest` were read.
-pub record Follows (G : VerifyFn) (s : State) (log0 log1 : Option (List ℕ)) (turns : List ProcessedMessage)
-    (rest : List ℕ) : Type 0 where
-  pub taken : AreProcessed G s turns
+pub record Follows (time : Option ℕ) (G : VerifyFn) (s : State) (log0 log1 : Option (List ℕ))
+    (turns : List ProcessedMessage) (rest : List ℕ) : Type 0 where
+  pub taken : AreProcessed time G s turns
   pub bounded : length turns ≤ message_limit
   pub records : List ℕ
   pub are_records : AreRecords (map (λ turn. turn.bytes) turns) records
@@ -148,47 +149,47 @@ pub record Follows (G : VerifyFn) (s : State) (log0 log1 : Option (List ℕ)) (t
 
 -- ---- the report of a follower that has started
 
--- `ReportsLog G s log0 log1 written0 written1 verdict`: the line of each message was written, the log has ended or is
+-- `ReportsLog time G s log0 log1 written0 written1 verdict`: the line of each message was written, the log has ended or is
 -- broken, and the last lines were written.
-pub record ReportsLog (G : VerifyFn) (s : State) (log0 log1 written0 written1 : Option (List ℕ))
+pub record ReportsLog (time : Option ℕ) (G : VerifyFn) (s : State) (log0 log1 written0 written1 : Option (List ℕ))
     (verdict : Verdict) : Type 0 where
   pub turns : List ProcessedMessage
   pub rest : List ℕ
   pub broken : Bool
-  pub follows : Follows G s log0 log1 turns rest
+  pub follows : Follows time G s log0 log1 turns rest
   pub log_end : IsLogEnd (messages_to_come turns) rest log1 broken
   pub wrote : Appends written0 written1 (processed_lines 1 turns ++ ending broken s turns)
   pub verdict_is : IsVerdict broken (refused_count turns) verdict
 
--- `StopsReading G s log0 log1 written0 written1`: the log failed. The line of each whole message that was read was
+-- `StopsReading time G s log0 log1 written0 written1`: the log failed. The line of each whole message that was read was
 -- written, and the bytes after these determine nothing more.
-pub record StopsReading (G : VerifyFn) (s : State) (log0 log1 written0 written1 : Option (List ℕ)) :
+pub record StopsReading (time : Option ℕ) (G : VerifyFn) (s : State) (log0 log1 written0 written1 : Option (List ℕ)) :
     Type 0 where
   pub turns : List ProcessedMessage
   pub rest : List ℕ
-  pub follows : Follows G s log0 log1 turns rest
+  pub follows : Follows time G s log0 log1 turns rest
   pub undecided : IsIncomplete (messages_to_come turns) rest
   pub wrote : Appends written0 written1 (processed_lines 1 turns)
 
--- `StopsInLine G s log0 log1 written0 written1`: the output failed in the line of the last message that was read.
+-- `StopsInLine time G s log0 log1 written0 written1`: the output failed in the line of the last message that was read.
 -- Nothing was read after that message.
-pub record StopsInLine (G : VerifyFn) (s : State) (log0 log1 written0 written1 : Option (List ℕ)) :
+pub record StopsInLine (time : Option ℕ) (G : VerifyFn) (s : State) (log0 log1 written0 written1 : Option (List ℕ)) :
     Type 0 where
   pub turns : List ProcessedMessage
   pub last : ProcessedMessage
-  pub follows : Follows G s log0 log1 (turns ++ last ∷ []) []
+  pub follows : Follows time G s log0 log1 (turns ++ last ∷ []) []
   pub part : List ℕ
   pub more : List ℕ
   pub line_is : processed_line (length turns + 1) last ≡ part ++ more
   pub wrote : Appends written0 written1 (processed_lines 1 turns ++ part)
 
--- `StopsInEnding G s log0 log1 written0 written1`: the output failed in the last lines.
-pub record StopsInEnding (G : VerifyFn) (s : State) (log0 log1 written0 written1 : Option (List ℕ)) :
+-- `StopsInEnding time G s log0 log1 written0 written1`: the output failed in the last lines.
+pub record StopsInEnding (time : Option ℕ) (G : VerifyFn) (s : State) (log0 log1 written0 written1 : Option (List ℕ)) :
     Type 0 where
   pub turns : List ProcessedMessage
   pub rest : List ℕ
   pub broken : Bool
-  pub follows : Follows G s log0 log1 turns rest
+  pub follows : Follows time G s log0 log1 turns rest
   pub log_end : IsLogEnd (messages_to_come turns) rest log1 broken
   pub part : List ℕ
   pub more : List ℕ
@@ -202,24 +203,24 @@ IsLeftOver most rest left =
     IsIncomplete most rest ⊎ (((body : List ℕ) × IsRecord rest body)
     ⊎ ((broken : Bool) × IsLogEnd most rest left broken))
 
--- `StopsWithoutMemory G s log0 log1 written0 written1`: memory ran out. The line of each message that was read was
+-- `StopsWithoutMemory time G s log0 log1 written0 written1`: memory ran out. The line of each message that was read was
 -- written, except the one at which it ran out.
-pub record StopsWithoutMemory (G : VerifyFn) (s : State) (log0 log1 written0 written1 : Option (List ℕ)) :
+pub record StopsWithoutMemory (time : Option ℕ) (G : VerifyFn) (s : State) (log0 log1 written0 written1 : Option (List ℕ)) :
     Type 0 where
   pub turns : List ProcessedMessage
   pub rest : List ℕ
-  pub follows : Follows G s log0 log1 turns rest
+  pub follows : Follows time G s log0 log1 turns rest
   pub left_over : IsLeftOver (messages_to_come turns) rest log1
   pub wrote : Appends written0 written1 (processed_lines 1 turns)
 
--- `ReportsPart G s log0 log1 written0 written1 fault`: what was written if the report of the log was not written whole,
+-- `ReportsPart time G s log0 log1 written0 written1 fault`: what was written if the report of the log was not written whole,
 -- by the fault that is returned.
-abbrev pub ReportsPart : VerifyFn → State → Option (List ℕ) → Option (List ℕ) → Option (List ℕ)
+abbrev pub ReportsPart : Option ℕ → VerifyFn → State → Option (List ℕ) → Option (List ℕ) → Option (List ℕ)
     → Option (List ℕ) → RunFault → Type 0
-ReportsPart G s log0 log1 written0 written1 Read = StopsReading G s log0 log1 written0 written1
-ReportsPart G s log0 log1 written0 written1 Write =
-    StopsInLine G s log0 log1 written0 written1 ⊎ StopsInEnding G s log0 log1 written0 written1
-ReportsPart G s log0 log1 written0 written1 Memory = StopsWithoutMemory G s log0 log1 written0 written1
+ReportsPart time G s log0 log1 written0 written1 Read = StopsReading time G s log0 log1 written0 written1
+ReportsPart time G s log0 log1 written0 written1 Write =
+    StopsInLine time G s log0 log1 written0 written1 ⊎ StopsInEnding time G s log0 log1 written0 written1
+ReportsPart time G s log0 log1 written0 written1 Memory = StopsWithoutMemory time G s log0 log1 written0 written1
 
 -- ---- the whole report
 
@@ -233,21 +234,22 @@ pub record ReportsDecline {L : Type 0} (G : VerifyFn) (i : Inputs) (log0 log1 : 
   pub wrote : Appends written0 written1 (finding_line finding)
   pub verdict_is : verdict ≡ No
 
--- `ReportsReplay G i log0 log1 written0 written1 verdict last`: a follower starts or resumes, the report of the log was
+-- `ReportsReplay time G i log0 log1 written0 written1 verdict last`: a follower starts or resumes, the report of the log was
 -- written, and `last` is the state after the last whole message of the log.
-pub record ReportsReplay (G : VerifyFn) (i : Inputs) (log0 log1 written0 written1 : Option (List ℕ)) (verdict : Verdict)
-    (last : State) : Type 0 where
+pub record ReportsReplay (time : Option ℕ) (G : VerifyFn) (i : Inputs) (log0 log1 written0 written1 : Option (List ℕ))
+    (verdict : Verdict) (last : State) : Type 0 where
   pub state : State
   pub starts : IsFirstState G i state
-  pub reports : ReportsLog G state log0 log1 written0 written1 verdict
+  pub reports : ReportsLog time G state log0 log1 written0 written1 verdict
   pub last_is : last ≡ state_after state reports.turns
 
--- `Replays G i log0 log1 written0 written1 verdict last`: the report was written whole. `last` is the state after the last
--- whole message of the log; None if no follower starts or resumes.
-abbrev pub Replays : VerifyFn → Inputs → Option (List ℕ) → Option (List ℕ) → Option (List ℕ) → Option (List ℕ)
-    → Verdict → Option State → Type 0
-Replays G i log0 log1 written0 written1 verdict None = ReportsDecline G i log0 log1 written0 written1 verdict
-Replays G i log0 log1 written0 written1 verdict (Some last) = ReportsReplay G i log0 log1 written0 written1 verdict last
+-- `Replays time G i log0 log1 written0 written1 verdict last`: the report was written whole. `last` is the state after the
+-- last whole message of the log; None if no follower starts or resumes.
+abbrev pub Replays : Option ℕ → VerifyFn → Inputs → Option (List ℕ) → Option (List ℕ) → Option (List ℕ)
+    → Option (List ℕ) → Verdict → Option State → Type 0
+Replays time G i log0 log1 written0 written1 verdict None = ReportsDecline G i log0 log1 written0 written1 verdict
+Replays time G i log0 log1 written0 written1 verdict (Some last) =
+    ReportsReplay time G i log0 log1 written0 written1 verdict last
 
 -- ---- a part of the report
 
@@ -272,17 +274,17 @@ StopsBefore G i log0 log1 written0 written1 Read = ReportsNothing log0 log1 writ
 StopsBefore G i log0 log1 written0 written1 Write = StopsInDecline G i log0 log1 written0 written1
 StopsBefore G i log0 log1 written0 written1 Memory = ReportsNothing log0 log1 written0 written1
 
--- `StopsAfter G i log0 log1 written0 written1 fault`: a follower has started or resumed, and the report of the log was not
--- written whole.
-pub record StopsAfter (G : VerifyFn) (i : Inputs) (log0 log1 written0 written1 : Option (List ℕ)) (fault : RunFault)
-    : Type 0 where
+-- `StopsAfter time G i log0 log1 written0 written1 fault`: a follower has started or resumed, and the report of the log was
+-- not written whole.
+pub record StopsAfter (time : Option ℕ) (G : VerifyFn) (i : Inputs) (log0 log1 written0 written1 : Option (List ℕ))
+    (fault : RunFault) : Type 0 where
   pub state : State
   pub starts : IsFirstState G i state
-  pub reports : ReportsPart G state log0 log1 written0 written1 fault
+  pub reports : ReportsPart time G state log0 log1 written0 written1 fault
 
--- `ReplaysPart G i log0 log1 written0 written1 fault`: what was written if the report was not written whole, by the fault
--- that is returned. It is a prefix of what the bytes that were read determine.
-abbrev pub ReplaysPart : VerifyFn → Inputs → Option (List ℕ) → Option (List ℕ) → Option (List ℕ) → Option (List ℕ)
-    → RunFault → Type 0
-ReplaysPart G i log0 log1 written0 written1 fault =
-    StopsBefore G i log0 log1 written0 written1 fault ⊎ StopsAfter G i log0 log1 written0 written1 fault
+-- `ReplaysPart time G i log0 log1 written0 written1 fault`: what was written if the report was not written whole, by the
+-- fault that is returned. It is a prefix of what the bytes that were read determine.
+abbrev pub ReplaysPart : Option ℕ → VerifyFn → Inputs → Option (List ℕ) → Option (List ℕ) → Option (List ℕ)
+    → Option (List ℕ) → RunFault → Type 0
+ReplaysPart time G i log0 log1 written0 written1 fault =
+    StopsBefore G i log0 log1 written0 written1 fault ⊎ StopsAfter time G i log0 log1 written0 written1 fault

@@ -5,8 +5,8 @@ use Rattle.std.specs.Io.KnownBytes.{Appends, Consumes}
 use Rattle.mls_wire.specs.Devices.{AppendsPrefix}
 use Rattle.mls_wire.specs.Logs.{IsRecord, IsIncomplete, LogState, ended}
 use Rattle.mls_check.specs.Signatures.{VerifyFn}
-use Rattle.mls_follow.specs.Runs.{IsAnswer}
 use Rattle.mls_follow.specs.State.{State}
+use Rattle.mls_follow.specs.TimedAnswers.{IsAnswerAt}
 use Rattle.mls_apply.specs.declared.refusal.Refusal.{Refusal}
 use Rattle.mls_follow.specs.declared.taken.Taken.{Taken}
 use Rattle.mls_report.specs.declared.log_records.RecordStep.{RecordStep}
@@ -37,33 +37,33 @@ abbrev pub answer_line : ℕ → Result Taken Refusal → State → List ℕ
 answer_line n answer s = decimal n ++ (answer_text answer s ++ codes "\n")
 
 -- Message n was processed and reported.
-pub record ReportsMessage (G : VerifyFn) (s : State) (n : ℕ) (bytes : List ℕ) (new : State)
+pub record ReportsMessage (time : Option ℕ) (G : VerifyFn) (s : State) (n : ℕ) (bytes : List ℕ) (new : State)
     (written0 written1 : Option (List ℕ)) (is_accepted : Bool) : Type 0 where
   pub answer : Result Taken Refusal
-  pub is_answer : IsAnswer G s bytes answer new
+  pub is_answer : IsAnswerAt time G s bytes answer new
   pub counted : is_accepted ≡ is_ok answer
   pub wrote : Appends written0 written1 (answer_line n answer new)
 
 -- Message n was processed, and the output failed in its line.
-pub record StopsTurn (G : VerifyFn) (s : State) (n : ℕ) (bytes : List ℕ)
+pub record StopsTurn (time : Option ℕ) (G : VerifyFn) (s : State) (n : ℕ) (bytes : List ℕ)
     (written0 written1 : Option (List ℕ)) : Type 0 where
   pub answer : Result Taken Refusal
   pub new : State
-  pub is_answer : IsAnswer G s bytes answer new
+  pub is_answer : IsAnswerAt time G s bytes answer new
   pub wrote : AppendsPrefix written0 written1 (answer_line n answer new)
 
 -- Message n was not reported, with this fault.
-abbrev pub StopsAtMessage : VerifyFn → State → ℕ → List ℕ → Option (List ℕ) → Option (List ℕ) → RunFault → Type 0
-StopsAtMessage G s n bytes written0 written1 Read = ⊥
-StopsAtMessage G s n bytes written0 written1 Write = StopsTurn G s n bytes written0 written1
-StopsAtMessage G s n bytes written0 written1 Memory = Appends written0 written1 []
+abbrev pub StopsAtMessage : Option ℕ → VerifyFn → State → ℕ → List ℕ → Option (List ℕ) → Option (List ℕ) → RunFault → Type 0
+StopsAtMessage time G s n bytes written0 written1 Read = ⊥
+StopsAtMessage time G s n bytes written0 written1 Write = StopsTurn time G s n bytes written0 written1
+StopsAtMessage time G s n bytes written0 written1 Memory = Appends written0 written1 []
 
 -- Each message of a log was reported, these numbers were accepted and refused, and the log has ended or is broken.
-pub record FollowsLog (G : VerifyFn) (s : State) (log0 log1 written0 written1 : Option (List ℕ))
+pub record FollowsLog (time : Option ℕ) (G : VerifyFn) (s : State) (log0 log1 written0 written1 : Option (List ℕ))
     (now : State) (accepted refused : ℕ) (broken : Bool) : Type 0 where
   pub turns : List ProcessedMessage
   pub rest : List ℕ
-  pub follows : Follows G s log0 log1 turns rest
+  pub follows : Follows time G s log0 log1 turns rest
   pub log_end : IsLogEnd (messages_to_come turns) rest log1 broken
   pub wrote : Appends written0 written1 (processed_lines 1 turns)
   pub state : now ≡ state_after s turns
@@ -71,7 +71,7 @@ pub record FollowsLog (G : VerifyFn) (s : State) (log0 log1 written0 written1 : 
   pub counted : accepted + refused ≡ length turns
 
 -- The report of a log was written from the state `s` on, and `last` is the state after it.
-abbrev pub ReplaysLog : VerifyFn → State → Option (List ℕ) → Option (List ℕ) → Option (List ℕ) → Option (List ℕ)
+abbrev pub ReplaysLog : Option ℕ → VerifyFn → State → Option (List ℕ) → Option (List ℕ) → Option (List ℕ) → Option (List ℕ)
     → Verdict → State → Type 0
-ReplaysLog G s log0 log1 written0 written1 verdict last =
-    (printed : ReportsLog G s log0 log1 written0 written1 verdict) × (last ≡ state_after s printed.turns)
+ReplaysLog time G s log0 log1 written0 written1 verdict last =
+    (printed : ReportsLog time G s log0 log1 written0 written1 verdict) × (last ≡ state_after s printed.turns)

@@ -14,8 +14,8 @@ InputExists = (all : List ℕ) → (bytes : List ℕ) × (left : Option (List �
 -- The inputs and the bytes of a log have a report `replay`.
 abbrev pub ReplayExists : Type 0
 ReplayExists =
-    (G : VerifyFn) (i : Inputs) (log_bytes : List ℕ)
-    → (text : List ℕ) × (verdict : Verdict) × IsReplayReport G i log_bytes text verdict
+    (time : Option ℕ) (G : VerifyFn) (i : Inputs) (log_bytes : List ℕ)
+    → (text : List ℕ) × (verdict : Verdict) × IsReplayReport time G i log_bytes text verdict
 
 -- The inputs, and the bytes of a log or none, have a report `signatures`.
 abbrev pub SignaturesExist : Type 0

@@ -1,6 +1,6 @@
 -- What `--save` is for: from the file of the state after a log a follower resumes in this state (own rule). So a replay
 -- from this file answers each further message as the replay that goes on. Used by contracts.
-use Rattle.std.specs.Prelude.{List, ℕ, ◌++◌}
+use Rattle.std.specs.Prelude.{List, ℕ, ◌++◌, Option}
 use Rattle.mls_check.specs.Signatures.{VerifyFn}
 use Rattle.mls_follow.specs.State.{State}
 use Rattle.mls_follow.specs.Resumption.{IsResumed}
@@ -13,12 +13,12 @@ use Rattle.mls_report.specs.Replay.{ProcessedMessage, AreProcessed, state_after}
 -- them, in this state.
 abbrev pub SavedStatesResume : Type 0
 SavedStatesResume =
-    (G : VerifyFn) (i : Inputs) (s : State) (turns : List ProcessedMessage) (bytes : List ℕ) → IsFirstState G i s
-    → AreProcessed G s turns → EncodesState (state_after s turns) bytes → IsResumed G bytes (state_after s turns)
+    (time : Option ℕ) (G : VerifyFn) (i : Inputs) (s : State) (turns : List ProcessedMessage) (bytes : List ℕ)
+    → IsFirstState G i s → AreProcessed time G s turns → EncodesState (state_after s turns) bytes → IsResumed G bytes (state_after s turns)
 
 -- If messages are processed one after the other, those after the first ones are processed from the state after these,
 -- with the same results and the same states.
 abbrev pub LaterMessagesFollow : Type 0
 LaterMessagesFollow =
-    (G : VerifyFn) (s : State) (turns more : List ProcessedMessage) → AreProcessed G s (turns ++ more)
-    → AreProcessed G (state_after s turns) more
+    (time : Option ℕ) (G : VerifyFn) (s : State) (turns more : List ProcessedMessage)
+    → AreProcessed time G s (turns ++ more) → AreProcessed time G (state_after s turns) more

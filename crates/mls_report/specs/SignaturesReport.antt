@@ -103,7 +103,7 @@ log_verdict false false = No
 -- `replay`, each signature being good, and have these signatures. After these records the bytes `rest` were read.
 pub record ProcessesLog (s : State) (log0 log1 : Option (List ℕ)) (logged : List LoggedMessage) (rest : List ℕ)
     : Type 0 where
-  pub follows : Follows all_good s log0 log1 (turns_of logged) rest
+  pub follows : Follows None all_good s log0 log1 (turns_of logged) rest
   pub has_signatures : HaveSignatures s logged
 
 -- ---- the report of a log

@@ -3,8 +3,8 @@ use Rattle.std.specs.Prelude.{List, [], ◌++◌, ℕ, Bool, Option, Some, None,
 use Rattle.std.specs.Io.KnownBytes.{Appends}
 use Rattle.mls_wire.specs.Devices.{AppendsPrefix}
 use Rattle.mls_check.specs.Signatures.{VerifyFn}
-use Rattle.mls_follow.specs.Runs.{IsAnswer}
 use Rattle.mls_follow.specs.State.{State}
+use Rattle.mls_follow.specs.TimedAnswers.{IsAnswerAt}
 use Rattle.mls_apply.specs.declared.refusal.Refusal.{Refusal}
 use Rattle.mls_follow.specs.declared.taken.Taken.{Taken}
 use Rattle.mls_signatures.specs.declared.signature_to_verify.SignatureToVerify.{SignatureToVerify}
@@ -38,7 +38,7 @@ pub record WritesSignatures (R : VerifyFn) (s : State) (n : ℕ) (bytes : List �
   pub needed : Option (List SignatureToVerify)
   pub has_signatures : HasSignatures s bytes needed
   pub answer : Result Taken Refusal
-  pub is_answer : IsAnswer all_good s bytes answer new
+  pub is_answer : IsAnswerAt None all_good s bytes answer new
   pub wrote : Appends written0 written1 (signature_lines R n needed)
   pub read : is_read ≡ is_some needed
 
@@ -63,7 +63,7 @@ pub record StopsInSignatures (R : VerifyFn) (s : State) (n : ℕ) (bytes : List 
   pub has_signatures : HasSignatures s bytes needed
   pub answer : Result Taken Refusal
   pub new : State
-  pub is_answer : IsAnswer all_good s bytes answer new
+  pub is_answer : IsAnswerAt None all_good s bytes answer new
   pub stops : StopsInMessageLines R n needed written0 written1 fault
 
 -- Memory ran out before message n was processed.

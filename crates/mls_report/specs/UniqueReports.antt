@@ -1,5 +1,5 @@
--- A report is a function of what the group is followed from (`i`), of the bytes of the log and of the checker's
--- verification function G. Used by contracts.
+-- A report is a function of what the group is followed from (`i`), of the bytes of the log, of the checker's verification
+-- function G, and of the time, if one is handed in. Used by contracts.
 use Rattle.std.specs.Prelude.{List, ℕ, ◌++◌, Bool, Option, Some, option_map, ◌≡◌, ◌⊎◌}
 use Rattle.mls_check.specs.Signatures.{VerifyFn}
 use Rattle.mls_follow.specs.State.{State}
@@ -23,20 +23,20 @@ InputIsUnique =
 
 -- ---- a replay
 
--- `EndsLog G s log left turns broken`: the messages of a log are processed from the state `s` on, and the log has ended
+-- `EndsLog time G s log left turns broken`: the messages of a log are processed from the state `s` on, and the log has ended
 -- or is broken.
-pub record EndsLog (G : VerifyFn) (s : State) (log left : Option (List ℕ)) (turns : List ProcessedMessage)
-    (broken : Bool) : Type 0 where
+pub record EndsLog (time : Option ℕ) (G : VerifyFn) (s : State) (log left : Option (List ℕ))
+    (turns : List ProcessedMessage) (broken : Bool) : Type 0 where
   pub rest : List ℕ
-  pub follows : Follows G s log left turns rest
+  pub follows : Follows time G s log left turns rest
   pub log_end : IsLogEnd (messages_to_come turns) rest left broken
 
 -- The bytes of a log determine which messages are processed, the result of each, and whether the log is broken.
 abbrev pub LogIsUnique : Type 0
 LogIsUnique =
-    (G : VerifyFn) (s : State) (log : List ℕ) (left behind : Option (List ℕ)) (turns others : List ProcessedMessage)
-    (broken end : Bool) → EndsLog G s (Some log) left turns broken
-    → EndsLog G s (Some log) behind others end → (turns ≡ others) × (broken ≡ end)
+    (time : Option ℕ) (G : VerifyFn) (s : State) (log : List ℕ) (left behind : Option (List ℕ))
+    (turns others : List ProcessedMessage) (broken end : Bool) → EndsLog time G s (Some log) left turns broken
+    → EndsLog time G s (Some log) behind others end → (turns ≡ others) × (broken ≡ end)
 
 -- `AreAlikeTexts text other`: the texts are equal, except for which fault is named of an input that cannot be read.
 abbrev pub AreAlikeTexts : List ℕ → List ℕ → Type 0
@@ -44,19 +44,20 @@ AreAlikeTexts text other =
     (text ≡ other) ⊎ ((finding : Finding) × (more : Finding) × AreAlike finding more
     × (text ≡ finding_line finding) × (other ≡ finding_line more))
 
--- `IsReplayReport G i log_bytes text verdict`: a replay from the inputs over these bytes of a log has written this text,
+-- `IsReplayReport time G i log_bytes text verdict`: a replay from the inputs over these bytes of a log has written this text,
 -- and has this verdict.
-pub record IsReplayReport (G : VerifyFn) (i : Inputs) (log_bytes text : List ℕ) (verdict : Verdict) : Type 0 where
+pub record IsReplayReport (time : Option ℕ) (G : VerifyFn) (i : Inputs) (log_bytes text : List ℕ) (verdict : Verdict)
+    : Type 0 where
   pub log_left : Option (List ℕ)
   pub before : List ℕ
   pub last : Option State
-  pub replays : Replays G i (Some log_bytes) log_left (Some before) (Some (before ++ text)) verdict last
+  pub replays : Replays time G i (Some log_bytes) log_left (Some before) (Some (before ++ text)) verdict last
 
 -- The inputs and the bytes of a log determine what a replay writes, and its verdict.
 abbrev pub ReplayIsUnique : Type 0
 ReplayIsUnique =
-    (G : VerifyFn) (i : Inputs) (log_bytes text other : List ℕ) (verdict more : Verdict)
-    → IsReplayReport G i log_bytes text verdict → IsReplayReport G i log_bytes other more
+    (time : Option ℕ) (G : VerifyFn) (i : Inputs) (log_bytes text other : List ℕ) (verdict more : Verdict)
+    → IsReplayReport time G i log_bytes text verdict → IsReplayReport time G i log_bytes other more
     → AreAlikeTexts text other × (verdict ≡ more)
 
 -- ---- the signatures to verify

@@ -15,15 +15,15 @@ use Rattle.mls_report.specs.Replay.{ProcessedMessage, Follows}
 -- state.
 abbrev pub ReportedEpochsAreValid : Type 0
 ReportedEpochsAreValid =
-    (G : VerifyFn) (i : Inputs) (s : State) (log0 log1 : Option (List ℕ)) (turns : List ProcessedMessage)
-    (rest : List ℕ) → IsFirstState G i s → Follows G s log0 log1 turns rest
+    (time : Option ℕ) (G : VerifyFn) (i : Inputs) (s : State) (log0 log1 : Option (List ℕ))
+    (turns : List ProcessedMessage) (rest : List ℕ) → IsFirstState G i s → Follows time G s log0 log1 turns rest
     → IsValidState G s × All (λ turn. IsValidState G turn.state) turns
 
 -- A follower starts or resumes in a strict state, with each strict rule that is asked. After each message of the log whose line
 -- was written, it is in a strict state, with the same strict rules.
 abbrev pub ReportedEpochsAreStrict : Type 0
 ReportedEpochsAreStrict =
-    (G : VerifyFn) (i : Inputs) (s : State) (log0 log1 : Option (List ℕ)) (turns : List ProcessedMessage)
-    (rest : List ℕ) → IsFirstState G i s → Follows G s log0 log1 turns rest
+    (time : Option ℕ) (G : VerifyFn) (i : Inputs) (s : State) (log0 log1 : Option (List ℕ))
+    (turns : List ProcessedMessage) (rest : List ℕ) → IsFirstState G i s → Follows time G s log0 log1 turns rest
     → ((n : ℕ) → has_rule (asked_by i) n ≡ true → has_rule s.rules n ≡ true)
     × IsStrictState s × All (λ turn. IsStrictState turn.state × (turn.state.rules ≡ s.rules)) turns

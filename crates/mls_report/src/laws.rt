@@ -13,7 +13,7 @@ pub fn inputs_are_determined()
     ensures exists { InputExists }
 {}
 
-/// A replay is determined by the bytes of its inputs and the verification function of the signature check, however the
+/// A replay is determined by the bytes of its inputs, the verification function of the signature check and the time, however the
 /// bytes of the log are divided among reads: the messages of the log, the answer to each, whether the log is broken, the
 /// text, and the verdict. Only which fault is named of an undecodable input is not.
 pub fn replays_are_determined()

@@ -6,6 +6,7 @@
 //! The texts of findings, faults, answers and signatures are in modules of their own. The gate writes some of them too.
 #![tactic(auto)]
 
+mod answering;
 pub mod fault_text;
 mod finding;
 pub mod laws;
@@ -20,6 +21,7 @@ mod signatures_report;
 mod start_report;
 mod tree_report;
 
+pub use answering::answer_to;
 pub use finding::{finding_line, finding_text, finding_verdict, report_finding};
 pub use log_records::{RecordStep, next_record};
 pub use receipts_report::report_unreadable_receipts;

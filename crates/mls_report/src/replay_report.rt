@@ -7,30 +7,41 @@ ghost use Rattle.mls_start.specs.Inputs.{inputs_of};
 ghost use Rattle.mls_report.specs.Replay.{message_limit, one_if, IsVerdict, ReportsPart, Replays, ReplaysPart};
 ghost use Rattle.mls_report.specs.ReplaySteps.{ReportsMessage, StopsAtMessage, FollowsLog, ReplaysLog};
 
+use crate::answering::answer_to;
 use crate::finding::report_finding;
 use crate::log_records::{RecordStep, next_record};
 use crate::replay_text::{last_lines, processed_line};
 use mls_check::SignatureCheck;
-use mls_follow::{Follower, Refusal};
+use mls_follow::Follower;
 use mls_show::{Verdict, write_text};
-use mls_start::{StartBytes, StartFailure};
+use mls_start::{Judge, StartBytes, StartFailure};
 use mls_wire::{Records, RunFault, Sink, Source};
 use std::alloc::Global;
 
 /// The most messages that a log may have.
 pub(crate) const MESSAGE_LIMIT: u32 = 1_000_000;
 
-/// The numbers of accepted and of refused messages.
+/// A message of a log: its number, the time at which it is judged, if one is handed in, and its bytes.
 #[derive(Clone, Copy)]
-struct Tally {
+struct NumberedMessage<'a> {
+    number: u32,
+    time: Option<u64>,
+    body: &'a [u8],
+}
+
+/// How far a replay is: the numbers of accepted and of refused messages. It has the time at which messages are judged.
+#[derive(Clone, Copy)]
+struct Progress {
+    time: Option<u64>,
     accepted: u32,
     refused: u32,
 }
 
-impl Tally {
+impl Progress {
     /// Counts a message.
     fn count(&mut self, is_accepted: bool)
         requires { self.old.accepted + self.old.refused ≤ message_limit }
+        ensures time { self.new.time ≡ self.old.time }
         ensures accepted { self.new.accepted ≡ self.old.accepted + one_if is_accepted }
         ensures all { self.new.accepted + self.new.refused
             ≡ self.old.accepted + self.old.refused + 1 }
@@ -43,31 +54,30 @@ impl Tally {
     }
 }
 
-/// Processes message n and writes its line. Returns whether the message was accepted.
-#[tactic(auto, using(crate::proofs::Answered::answered))]
+/// Processes a message and writes its line. Returns whether the message was accepted.
 fn write_message_line<K: Sink, C: SignatureCheck>(
     alloc: Global,
-    n: u32,
-    body: &[u8],
+    message: &NumberedMessage<'_>,
     follower: &mut Follower<C>,
     out: &mut K,
 ) -> Result<bool, RunFault>
     requires { IsWorking (K.device out.old) }
     ensures printed { IfOk result
-        (ReportsMessage (C.meaning (checker_of follower.old)) (state_of follower.old) n body.now
+        (ReportsMessage message.now.time (C.meaning (checker_of follower.old)) (state_of follower.old)
+        message.now.number message.now.body.now
         (state_of follower.new) (K.device out.old).bytes (K.device out.new).bytes) }
     ensures effect_on_error { IfErr result
-        (StopsAtMessage (C.meaning (checker_of follower.old)) (state_of follower.old) n body.now
+        (StopsAtMessage message.now.time (C.meaning (checker_of follower.old)) (state_of follower.old)
+        message.now.number message.now.body.now
         (K.device out.old).bytes (K.device out.new).bytes) }
     ensures write { WriteFails result (K.device out.new) }
     ensures checker { C.meaning (checker_of follower.new)
         ≡ C.meaning (checker_of follower.old) }
 {
-    let answer = follower.take(body);
-    if let Err(Refusal::OutOfMemory) = answer {
+    let Ok(answer) = answer_to(follower, message.time, message.body) else {
         return Err(RunFault::Memory);
-    }
-    let line = processed_line(alloc, n, &answer, follower)?;
+    };
+    let line = processed_line(alloc, message.number, &answer, follower)?;
     write_text(out, line.as_str())?;
     Ok(answer.is_ok())
 }
@@ -78,18 +88,18 @@ fn follow_log<L: Source, K: Sink, C: SignatureCheck>(
     alloc: Global,
     follower: &mut Follower<C>,
     log: &mut L,
-    tally: &mut Tally,
+    progress: &mut Progress,
     out: &mut K,
 ) -> Result<bool, RunFault>
     requires log { IsWorking (L.device log.old) }
     requires out { IsWorking (K.device out.old) }
-    requires none { (tally.old.accepted ≡ 0) × (tally.old.refused ≡ 0) }
+    requires none { (progress.old.accepted ≡ 0) × (progress.old.refused ≡ 0) }
     ensures followed { IfOk result
-        (FollowsLog (C.meaning (checker_of follower.old)) (state_of follower.old)
+        (FollowsLog progress.old.time (C.meaning (checker_of follower.old)) (state_of follower.old)
         (L.device log.old).bytes (L.device log.new).bytes (K.device out.old).bytes (K.device out.new).bytes
-        (state_of follower.new) tally.new.accepted tally.new.refused) }
+        (state_of follower.new) progress.new.accepted progress.new.refused) }
     ensures effect_on_error { IfErr result
-        (ReportsPart (C.meaning (checker_of follower.old)) (state_of follower.old)
+        (ReportsPart progress.old.time (C.meaning (checker_of follower.old)) (state_of follower.old)
         (L.device log.old).bytes (L.device log.new).bytes (K.device out.old).bytes (K.device out.new).bytes) }
     ensures checker { C.meaning (checker_of follower.new)
         ≡ C.meaning (checker_of follower.old) }
@@ -97,13 +107,18 @@ fn follow_log<L: Source, K: Sink, C: SignatureCheck>(
     ensures write { WriteFails result (K.device out.new) }
 {
     let mut reader = Records::new(alloc, MESSAGE_LIMIT);
-    let mut n = 1;
+    let mut number = 1;
     'messages: loop {
         match next_record(&mut reader, log)? {
             RecordStep::Record => {
-                let is_accepted = write_message_line(alloc, n, reader.body(), follower, out)?;
-                tally.count(is_accepted);
-                n += 1;
+                let message = NumberedMessage {
+                    number,
+                    time: progress.time,
+                    body: reader.body(),
+                };
+                let is_accepted = write_message_line(alloc, &message, follower, out)?;
+                progress.count(is_accepted);
+                number += 1;
             }
             RecordStep::End { is_broken } => return Ok(is_broken),
         }
@@ -127,6 +142,7 @@ fn verdict_of(is_broken: bool, refused: u32) -> Verdict
 /// Writes the report of a log, from its first record on.
 fn write_log_report<L: Source, K: Sink, C: SignatureCheck>(
     alloc: Global,
+    time: Option<u64>,
     follower: &mut Follower<C>,
     log: &mut L,
     out: &mut K,
@@ -134,23 +150,24 @@ fn write_log_report<L: Source, K: Sink, C: SignatureCheck>(
     requires log { IsWorking (L.device log.old) }
     requires out { IsWorking (K.device out.old) }
     ensures printed { IfOk result (λ verdict.
-        ReplaysLog (C.meaning (checker_of follower.old)) (state_of follower.old)
+        ReplaysLog time (C.meaning (checker_of follower.old)) (state_of follower.old)
         (L.device log.old).bytes (L.device log.new).bytes (K.device out.old).bytes (K.device out.new).bytes
         verdict (state_of follower.new)) }
     ensures effect_on_error { IfErr result
-        (ReportsPart (C.meaning (checker_of follower.old)) (state_of follower.old)
+        (ReportsPart time (C.meaning (checker_of follower.old)) (state_of follower.old)
         (L.device log.old).bytes (L.device log.new).bytes (K.device out.old).bytes (K.device out.new).bytes) }
     ensures checker { C.meaning (checker_of follower.new)
         ≡ C.meaning (checker_of follower.old) }
     ensures read { ReadFails result (L.device log.new) }
     ensures write { WriteFails result (K.device out.new) }
 {
-    let mut tally = Tally {
+    let mut progress = Progress {
+        time,
         accepted: 0,
         refused: 0,
     };
-    let is_broken = follow_log(alloc, follower, log, &mut tally, out)?;
-    let (accepted, refused) = (tally.accepted, tally.refused);
+    let is_broken = follow_log(alloc, follower, log, &mut progress, out)?;
+    let (accepted, refused) = (progress.accepted, progress.refused);
     let epoch = follower.context().epoch;
     let text = last_lines(alloc, is_broken, accepted, refused, epoch)?;
     write_text(out, text.as_str())?;
@@ -171,7 +188,8 @@ pub struct Replayed<C: SignatureCheck> {
 /// writes the line of [`validate`](crate::validate); the verdict is `No` and the log is not read.
 ///
 /// Otherwise it reads the log: at most 1,000,000 records, each a message as a variable-length vector (RFC 9420, 2.1.2).
-/// It reads a record, processes the message, writes its line, and only then reads on. Message n is one of:
+/// It reads a record, processes the message at the time of `judge` ([`Follower::take_at`]), writes its line, and only then
+/// reads on. Message n is one of:
 ///
 /// - accepted as a proposal: the line has its reference;
 /// - accepted as a commit: the line has the new epoch, tree hash and confirmed transcript hash, and `ended` if the group
@@ -191,25 +209,26 @@ pub fn replay<L: Source, C: SignatureCheck, K: Sink>(
     alloc: Global,
     start: StartBytes,
     log: &mut L,
-    checker: C,
+    judge: Judge<C>,
     out: &mut K,
 ) -> Result<Replayed<C>, RunFault>
     requires log { IsWorking (L.device log.old) }
     requires out { IsWorking (K.device out.old) }
-    ensures replayed { IfOk result (λ r. Replays (C.meaning checker) (inputs_of start)
+    ensures replayed { IfOk result (λ r. Replays judge.time (C.meaning judge.checker) (inputs_of start)
         (L.device log.old).bytes (L.device log.new).bytes (K.device out.old).bytes (K.device out.new).bytes
         r.verdict (option_map (λ f. state_of f) r.follower)) }
     ensures checker { IfOk result (λ r. IfSome r.follower
-        (λ f. C.meaning (checker_of f) ≡ C.meaning checker)) }
-    ensures effect_on_error { IfErr result (ReplaysPart (C.meaning checker) (inputs_of start)
+        (λ f. C.meaning (checker_of f) ≡ C.meaning judge.checker)) }
+    ensures effect_on_error { IfErr result (ReplaysPart judge.time (C.meaning judge.checker) (inputs_of start)
         (L.device log.old).bytes (L.device log.new).bytes (K.device out.old).bytes (K.device out.new).bytes) }
     ensures read { ReadFails result (L.device log.new) }
     ensures write { WriteFails result (K.device out.new) }
 {
+    let Judge { checker, time } = judge;
     match start.follower(alloc, checker) {
         Ok(follower) => {
             let mut follower = follower;
-            match write_log_report(alloc, &mut follower, log, out) {
+            match write_log_report(alloc, time, &mut follower, log, out) {
                 Ok(verdict) => Ok(Replayed {
                     verdict,
                     follower: Some(follower),

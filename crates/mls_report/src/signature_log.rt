@@ -75,7 +75,7 @@ fn write_signatures<R: SignatureCheck, K: Sink>(
     ensures write { WriteFails result (K.device out.new) }
 {
     let needed = message_signatures(follower, body)?;
-    let answer = follower.take(body);
+    let answer = follower.take_at(None, body);
     if let Err(Refusal::OutOfMemory) = answer {
         drop(needed);
         return Err(RunFault::Memory);

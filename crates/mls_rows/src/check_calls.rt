@@ -5,7 +5,7 @@ use crate::fault::RowFault;
 use crate::hash_calls::suite_at;
 use crate::row::{Row, have};
 use mls_check::{
-    MemberFault, Receipts, SignatureCheck, SortedRequirements, TreeFault, Trusting,
+    GroupRequirements, MemberFault, Receipts, SignatureCheck, TreeFault, Trusting,
     has_distinct_keys, is_leaf_signed, signed, signed_in_pieces, validate_members, validate_tree,
 };
 use mls_hash::{Suite, decode_with_leaf_hashes, fill_hashes, parent_hash_of};
@@ -209,18 +209,17 @@ fn rule_at(row: &Row, at: usize) -> LeafRule {
 fn first_failing(
     row: &Row,
     context: &GroupContext,
-    required: &RequiredCapabilities,
+    required: RequiredCapabilities,
 ) -> Result<Option<u32>, RowFault> {
     let tree = row.tree(4)?;
     let rule = rule_at(row, 1);
     let indices = row.numbers(5);
     let checker = Receipts::new(row.alloc);
-    let found = match SortedRequirements::new(row.alloc, required) {
-        Ok(sorted) => {
+    let found = match GroupRequirements::new(row.alloc, required) {
+        Ok(required) => {
             let rules = LeafRules {
                 context,
-                required,
-                sorted: &sorted,
+                required: &required,
                 checker: &checker,
             };
             first_changed_failing(row.alloc, &rules, rule, &tree, indices.as_slice())
@@ -237,11 +236,7 @@ pub(crate) fn changed_leaves(row: &Row) -> Result<CallResult, RowFault> {
     row.has(5);
     let context = row.value::<GroupContext>(2, "a context")?;
     let found = match row.value::<RequiredCapabilities>(3, "required capabilities") {
-        Ok(required) => {
-            let found = first_failing(row, &context, &required);
-            drop(required);
-            found
-        }
+        Ok(required) => first_failing(row, &context, required),
         Err(fault) => Err(fault),
     };
     drop(context);

@@ -18,8 +18,8 @@ pub(crate) enum RowFault {
     /// The cached hashes of a follower's tree differ from those of its nodes.
     #[error("the cached hashes are not those of the tree")]
     KeptHashes,
-    /// A hash of a follower's tree is not cached.
-    #[error("a hash of the tree is not cached")]
+    /// The hash of a follower's tree is not cached.
+    #[error("the hash of the tree is not cached")]
     NotCached,
     /// Two calls that must agree return different values.
     #[error("two calls return different values, or an argument was changed")]

@@ -71,6 +71,20 @@ fn number_of(token: &Token) -> Option<u32> {
     }
 }
 
+/// The time at the front of a field, which is `at` and a number, and what follows it. `None` if the field has no such front.
+fn after_time(field: &[Token]) -> Option<(u64, &[Token])> {
+    match field {
+        [Token::Word(word), Token::Word(seconds), rest @ ..] => match word.as_str() {
+            "at" => {
+                let time = seconds.as_str().parse::<u64>().ok()?;
+                Some((time, rest))
+            }
+            _ => None,
+        },
+        _ => None,
+    }
+}
+
 /// A row's fields, with what is needed to read them, and the first fault that was found of them.
 #[derive(Drop)]
 pub(crate) struct Row<'a> {
@@ -203,6 +217,14 @@ impl<'a> Row<'a> {
     /// A field that is bytes.
     pub(crate) fn bytes(&self, at: usize) -> Vec<u8> {
         self.bytes_of(self.field(at))
+    }
+
+    /// A field that is a message: its bytes, and the time at which it is taken, if `at` and a number are before them.
+    pub(crate) fn timed_bytes(&self, at: usize) -> (Option<u64>, Vec<u8>) {
+        match after_time(self.field(at)) {
+            Some((time, rest)) => (Some(time), self.bytes_of(rest)),
+            None => (None, self.bytes(at)),
+        }
     }
 
     /// The bytes of a field after its first word.

@@ -335,14 +335,14 @@ fn report_text(alloc: Global, report: &GroupReport, receipts: &str) -> Result<St
             have(format!(in alloc; "validate {context} {tree} {receipts}"))
         }
         GroupReport::Validate(group) => group_report(alloc, "start", group, &[receipts]),
-        GroupReport::Replay { group, files } => {
-            let (log, save) = (files.log.as_str(), file_name(&files.save));
-            group_report(alloc, "replay", group, &[log, save, receipts])
+        GroupReport::Replay(options) => {
+            let (log, save) = (options.log.as_str(), file_name(&options.save));
+            group_report(alloc, "replay", &options.group, &[log, save, receipts])
         }
         GroupReport::Signatures { group, log } => {
             group_report(alloc, "signatures", group, &[file_name(log), receipts])
         }
-        GroupReport::Gate(group) => group_report(alloc, "gate", group, &[receipts]),
+        GroupReport::Gate { group, .. } => group_report(alloc, "gate", group, &[receipts]),
     }
 }
 
@@ -359,9 +359,18 @@ fn report_rules(report: &GroupReport) -> Rules {
     match report {
         GroupReport::ValidateTree { rules, .. } => *rules,
         GroupReport::Validate(group) => group_rules(group),
-        GroupReport::Replay { group, .. } => group_rules(group),
+        GroupReport::Replay(options) => group_rules(&options.group),
         GroupReport::Signatures { group, .. } => group_rules(group),
-        GroupReport::Gate(group) => group_rules(group),
+        GroupReport::Gate { group, .. } => group_rules(group),
+    }
+}
+
+/// The time at which a report judges lifetimes.
+fn report_time(report: &GroupReport) -> Option<u64> {
+    match report {
+        GroupReport::Replay(options) => options.time,
+        GroupReport::Gate { time, .. } => *time,
+        _ => None,
     }
 }
 
@@ -381,7 +390,7 @@ fn add_rules(all: &mut TextWriter, rules: Rules) {
     }
 }
 
-/// A report that checks signatures, and the strict rules that it asks, in words.
+/// A report that checks signatures, the strict rules that it asks, and the time at which it judges lifetimes, in words.
 fn group_order_text(
     alloc: Global,
     report: &GroupReport,
@@ -390,6 +399,10 @@ fn group_order_text(
     let mut all = TextWriter::new(alloc);
     all.add_made(report_text(alloc, report, receipts_name(checker)));
     add_rules(&mut all, report_rules(report));
+    if let Some(time) = report_time(report) {
+        all.add(" at ");
+        all.add_number(time);
+    }
     all.finish()
 }
 
@@ -442,8 +455,8 @@ fn refused_text<E: Drop>(
     all.finish()
 }
 
-/// `command | COMMAND`: what a command is parsed to: the report, its files in the order of docs/FORMATS.md, the file of receipts, and the
-/// strict rules; or the exit status and the lines that say what is wrong.
+/// `command | COMMAND`: what a command is parsed to: the report, its files in the order of docs/FORMATS.md, the file of receipts, the
+/// strict rules, and `at` and the time; or the exit status and the lines that say what is wrong.
 pub(crate) fn command(row: &Row) -> Result<CallResult, RowFault> {
     row.has(1);
     let words = words_at(row, 1);

@@ -7,7 +7,7 @@ use crate::state::{add_added, add_keys, add_state, state_of};
 use crate::text_writer::TextWriter;
 use mls_check::{SignatureCheck, Trusting, validate_members, validate_tree};
 use mls_follow::{Follower, Refusal, StartRefused, Taken};
-use mls_hash::{Suite, fill_hashes};
+use mls_hash::Suite;
 use mls_msgs::{GroupInfo, Message, Profile, decode_message};
 use mls_nodes::requirements;
 use mls_tree::PublicTree;
@@ -15,19 +15,11 @@ use std::alloc::Global;
 
 // ---- results
 
-/// Whether each hash of a follower's tree is cached.
-fn is_cached<C: SignatureCheck>(
-    alloc: Global,
-    suite: Suite,
-    follower: &Follower<C>,
-) -> Result<bool, RowFault> {
-    let mut copy = have(follower.tree().try_clone(alloc))?;
-    let filled = fill_hashes(alloc, suite, &mut copy);
-    drop(copy);
-    match filled {
-        Ok(count) => Ok(count == 0),
-        Err(_) => Err(RowFault::OutOfMemory),
-    }
+/// Whether the hash of a follower's tree is cached. That of its root is.
+fn is_cached<C: SignatureCheck>(follower: &Follower<C>) -> bool {
+    let tree = follower.tree();
+    tree.kept_hash(tree.leaf_count().saturating_sub(1))
+        .is_some()
 }
 
 /// Whether the validator of members accepts a follower's tree, by this checker.
@@ -127,7 +119,7 @@ impl Results {
     }
 }
 
-/// Checks that both validators accept a follower's tree, by this checker, and that each hash of the tree is cached.
+/// Checks that both validators accept a follower's tree, by this checker, and that the hash of the tree is cached.
 fn check_tree<C: SignatureCheck>(
     alloc: Global,
     follower: &Follower<C>,
@@ -141,11 +133,8 @@ fn check_tree<C: SignatureCheck>(
         return Err(RowFault::NotValid(number));
     }
     match has_valid_members(alloc, follower, checker) {
-        Ok(true) => match is_cached(alloc, suite, follower) {
-            Ok(true) => Ok(()),
-            Ok(false) => Err(RowFault::NotCached),
-            Err(fault) => Err(fault),
-        },
+        Ok(true) if is_cached(follower) => Ok(()),
+        Ok(true) => Err(RowFault::NotCached),
         Ok(false) => Err(RowFault::NotValid(number)),
         Err(fault) => Err(fault),
     }
@@ -173,8 +162,8 @@ fn add_result(row: &Row, results: &mut Results, made: Result<String, RowFault>, 
     }
 }
 
-/// Hands a follower a message. A refused message has to leave its state unchanged; after an accepted one both validators have to accept
-/// its tree, by this checker, and each hash of the tree has to be cached.
+/// Hands a follower a message, at the time that the row has for it, if it has one. A refused message has to leave its state unchanged;
+/// after an accepted one both validators have to accept its tree, by this checker, and the hash of the tree has to be cached.
 fn hand_over<C: SignatureCheck>(
     row: &Row,
     at: usize,
@@ -184,7 +173,8 @@ fn hand_over<C: SignatureCheck>(
 ) {
     let number = at.saturating_sub(2);
     let before = row.made(state_of(row.alloc, follower));
-    match follower.take(row.bytes(at).as_slice()) {
+    let (time, message) = row.timed_bytes(at);
+    match follower.take_at(time, message.as_slice()) {
         Ok(taken) => {
             row.some(check_tree(row.alloc, follower, checker, number));
             add_result(row, results, taken_text(row.alloc, taken), true);
@@ -277,9 +267,10 @@ fn story_by<C: SignatureCheck>(row: &Row, own: C, checker: &C) -> Result<CallRes
     results
 }
 
-/// `story | INFO | CHECKER | MESSAGE | ..`: what a follower returns for messages that starts from a GroupInfo. `story_state`, `story_tree`
-/// and `story_added` have the state, the tree, or the KeyPackageRefs of those that the last commit added as well, after the last message.
-/// `full_story`, `full_story_state`, `full_story_tree` and `full_story_added` are the same in the full profile.
+/// `story | INFO | CHECKER | MESSAGE | ..`: what a follower returns for messages that starts from a GroupInfo. A message is taken at a
+/// time if `at` and a number are before it. `story_state`, `story_tree` and `story_added` have the state, the tree, or the KeyPackageRefs
+/// of those that the last commit added as well, after the last message. `full_story`, `full_story_state`, `full_story_tree` and
+/// `full_story_added` are the same in the full profile.
 pub(crate) fn story(row: &Row) -> Result<CallResult, RowFault> {
     row.has_at_least(3);
     if row.is_trusting(2) {

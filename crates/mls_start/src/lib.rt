@@ -7,6 +7,7 @@
 #![tactic(auto)]
 
 mod finding;
+mod judge;
 pub mod laws;
 mod learning;
 mod read_inputs;
@@ -16,6 +17,7 @@ mod trees;
 mod trusting_start;
 
 pub use finding::{Finding, Started};
+pub use judge::Judge;
 pub use learning::{learn_in_follower, learn_receipts};
 pub use signatures_left::SignaturesLeft;
 pub use start_bytes::{StartBytes, StartFailure};

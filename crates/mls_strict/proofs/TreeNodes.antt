@@ -11,7 +11,6 @@ use Rattle.mls_nodes.specs.declared.required_capabilities.RequiredCapabilities.{
 use Rattle.mls_tree.specs.Tree.{Tree, entry_of, leaf_count, node_at, subtree_at}
 use Rattle.mls_tree.proofs.Trees.{subtree_at-none}
 use Rattle.mls_check.specs.LeafValidation.{supports_extension, supports_required}
-use Rattle.mls_check.specs.SortedRequirements.{RequireSame}
 use Rattle.mls_msgs.specs.declared.strict_rule.StrictRule.TheVariants.{GroupExtensionUnsupported}
 use Rattle.mls_strict.specs.LeafForms.{supports_all, requires_types}
 use Rattle.mls_strict.specs.StrictTrees.{tree_node_meets}
@@ -74,7 +73,7 @@ types_supported es x =
     let all : Bool = list_all (supports_extension x) (types_of es) in
     and_true (all && true) ∙ and_true all ∙ all_types (supports_extension x) es
 
-pub node-supports : (context : GroupContext) (required : RequiredCapabilities) → RequireSame required (requires_types context.extensions)
+pub node-supports : (context : GroupContext) (required : RequiredCapabilities) → required ≡ requires_types context.extensions
     → (n : NodeValue) → node_supports required n ≡ tree_node_meets context GroupExtensionUnsupported n
-node-supports context required same (leaf_node x) = same x ∙ types_supported context.extensions x
-node-supports context required same (parent_node p) = refl
+node-supports context required is (leaf_node x) = ap (λ (r : RequiredCapabilities). supports_required r x) is ∙ types_supported context.extensions x
+node-supports context required is (parent_node p) = refl

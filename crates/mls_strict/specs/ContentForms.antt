@@ -125,6 +125,10 @@ first_unmet asked meets (r ∷ rs) =
 unfoldable pub proposal_refusal : Rules → GroupContext → Proposal → Option StrictRule
 proposal_refusal asked context p = first_unmet asked (λ r. proposal_meets context r p) content_rules
 
+-- `package_refusal asked suite version kp` is the first strict rule of the set that the KeyPackage does not meet by itself.
+unfoldable pub package_refusal : Rules → ℕ → ℕ → KeyPackage → Option StrictRule
+package_refusal asked suite version kp = first_unmet asked (λ r. package_meets version suite r kp) content_rules
+
 -- `content_refusal asked context c` is the first strict rule of the set that the content does not meet.
 unfoldable pub content_refusal : Rules → GroupContext → Content → Option StrictRule
 content_refusal asked context c = first_unmet asked (λ r. content_meets context r c) content_rules

@@ -2,7 +2,7 @@
 
 ghost use Rattle.std.specs.Prelude.{◌≡◌};
 ghost use Rattle.std.specs.List.{list_all};
-ghost use Rattle.mls_strict.specs.ContentForms.{ciphertext_meets, content_meets, content_refusal, proposal_refusal, entry_meets, extensions_meet, first_unmet, is_ciphertext, is_held, node_meets, package_meets, path_meets, proposal_meets};
+ghost use Rattle.mls_strict.specs.ContentForms.{ciphertext_meets, content_meets, content_refusal, package_refusal, proposal_refusal, entry_meets, extensions_meet, first_unmet, is_ciphertext, is_held, node_meets, package_meets, path_meets, proposal_meets};
 
 use crate::extension_lists::{has_each_once, has_readable_senders};
 use crate::key_forms::{is_hpke_key, is_suite_point};
@@ -306,4 +306,36 @@ pub fn proposal_refusal(
     ensures { result ≡ proposal_refusal asked context.now proposal.now }
 {
     first_unmet_by_proposal(asked, suite, context, proposal, &CONTENT_RULES)
+}
+
+/// Returns the first of these strict rules that the set has and that a KeyPackage does not meet.
+fn first_unmet_by_package(
+    asked: Rules,
+    suite: Suite,
+    version: u16,
+    key_package: &KeyPackage,
+    rules: &[StrictRule],
+) -> Option<StrictRule>
+    ensures { result ≡ first_unmet asked (λ r. package_meets version suite r key_package.now) rules.now }
+{
+    for rule in rules {
+        if asked.has(rule.number()) && !package_meets(suite, version, *rule, key_package) {
+            return Some(*rule);
+        }
+    }
+    None
+}
+
+/// Returns the first strict rule of the set, by number, that a KeyPackage does not meet by itself, in a group of this version
+/// and cipher suite (RFC 9420, 10), as [`proposal_refusal`] does for a proposal that adds it.
+#[tactic(auto, unfolding(crate::specs::ContentForms::package_refusal))]
+pub fn package_refusal(
+    asked: Rules,
+    suite: Suite,
+    version: u16,
+    key_package: &KeyPackage,
+) -> Option<StrictRule>
+    ensures { result ≡ package_refusal asked suite version key_package.now }
+{
+    first_unmet_by_package(asked, suite, version, key_package, &CONTENT_RULES)
 }

@@ -23,7 +23,7 @@ mod strict_fault;
 mod strict_tree;
 
 pub use certificates::certificate_key;
-pub use content_forms::{content_refusal, proposal_refusal};
+pub use content_forms::{content_refusal, package_refusal, proposal_refusal};
 pub use extension_lists::{has_each_once, has_readable_senders};
 pub use key_forms::{is_hpke_key, is_signature_key, is_suite_point};
 pub use strict_fault::{StrictFault, StrictTreeFault};

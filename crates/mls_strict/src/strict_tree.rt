@@ -3,7 +3,6 @@
 ghost use Rattle.std.specs.Prelude.{◌≡◌, ◌≢◌, ◌+◌, ◌*◌, IfErr, IfOk, OnOk, map};
 ghost use Rattle.mls_nodes.specs.NodeValues.{node_value};
 ghost use Rattle.mls_tree.specs.Tree.{leaf_count};
-ghost use Rattle.mls_check.specs.SortedRequirements.{RequireSame, requirements_of};
 ghost use Rattle.mls_msgs.specs.declared.strict_rule.StrictRule.TheVariants as rules;
 ghost use Rattle.mls_strict.specs.StrictTrees.{IsStrict, IsStrictTreeFault, Meets, tree_node_meets};
 ghost use Rattle.mls_strict.specs.StrictTreesInternal.{FindsFailingNode, IsFaultOf, node_supports};
@@ -13,7 +12,7 @@ use crate::content_forms::extensions_meet;
 use crate::key_forms::{is_hpke_key, is_suite_point};
 use crate::leaf_forms::leaf_meets;
 use crate::strict_fault::{StrictFault, StrictTreeFault};
-use mls_check::{OutOfMemory, SortedRequirements, supports_required};
+use mls_check::{GroupRequirements, OutOfMemory};
 use mls_hash::Suite;
 use mls_msgs::{Rules, StrictRule};
 use mls_nodes::{Codes, Extensions, ExtensionsLeft, GroupContext, Node, RequiredCapabilities};
@@ -104,26 +103,19 @@ fn extension_types(alloc: Global, extensions: &Extensions) -> Result<Vec<u16>, A
 pub fn required_types(
     alloc: Global,
     extensions: &Extensions,
-) -> Result<RequiredCapabilities, OutOfMemory>
+) -> Result<GroupRequirements, OutOfMemory>
     ensures { IfOk result (λ required. required ≡ requires_types extensions.now) }
 {
     let types = extension_types(alloc, extensions)?;
     let Ok(types) = Codes::copy(alloc, types.as_slice()) else {
         return Err(OutOfMemory);
     };
-    Ok(RequiredCapabilities {
+    let required = RequiredCapabilities {
         extensions: types,
         proposals: Codes::empty(),
         credentials: Codes::empty(),
-    })
-}
-
-/// Returns the same requirements, sorted.
-fn sorted_types(alloc: Global, extensions: &Extensions) -> Result<SortedRequirements, OutOfMemory>
-    ensures { IfOk result (λ required. RequireSame (requirements_of required) (requires_types extensions.now)) }
-{
-    let required = required_types(alloc, extensions)?;
-    SortedRequirements::new(alloc, &required)
+    };
+    GroupRequirements::new(alloc, required)
 }
 
 /// Returns whether a non-blank node satisfies requirements, as each parent node does.
@@ -133,14 +125,13 @@ fn sorted_types(alloc: Global, extensions: &Extensions) -> Result<SortedRequirem
 /// `OutOfMemory`.
 fn node_supports(
     alloc: Global,
-    required: &SortedRequirements,
+    required: &GroupRequirements,
     node: &Node,
 ) -> Result<bool, OutOfMemory>
-    ensures { IfOk result (λ supports.
-        supports ≡ node_supports (requirements_of required.now) (node_value node.now)) }
+    ensures { IfOk result (λ supports. supports ≡ node_supports required.now (node_value node.now)) }
 {
     match node {
-        Node::Leaf(leaf) => supports_required(alloc, leaf, required),
+        Node::Leaf(leaf) => required.are_supported_by(alloc, leaf),
         Node::Parent(_) => Ok(true),
     }
 }
@@ -159,7 +150,7 @@ fn first_unsupporting_leaf(
     ensures { IfOk result (FindsFailingNode
         (tree_node_meets context.now rules.GroupExtensionUnsupported) tree.now.tree) }
 {
-    let required = sorted_types(alloc, &context.extensions)?;
+    let required = required_types(alloc, &context.extensions)?;
     for node_index in 0..node_index_count(tree) {
         if let Some(node) = tree.node(node_index) {
             if !node_supports(alloc, &required, node)? {

@@ -21,14 +21,14 @@ use Rattle.mls_tree.specs.TreeOperations.{put_leaf, put_parent, left_subtree, re
 use Rattle.mls_tree.specs.Journals.{undone, all_undone}
 use Rattle.mls_tree.specs.ChangedNodes.{AgreeExceptAt}
 use Rattle.mls_tree.specs.declared.journal.UndoEntry.{UndoEntry}
-use Rattle.mls_tree.specs.declared.journal.UndoEntry.TheVariants.{Leaf, Parent, AddedUnmerged, Extended, Truncated}
+use Rattle.mls_tree.specs.declared.journal.UndoEntry.TheVariants.{Leaf, Parent, AddedUnmerged, Extended, Truncated, Hash}
 use Rattle.mls_tree.proofs.Arrays.{slice_get-set_other}
 use Rattle.mls_tree.proofs.Choices.{false_no_true, below}
 use Rattle.mls_tree.proofs.Elsewhere.{put_parent-elsewhere}
 use Rattle.mls_tree.proofs.Growing.{slice_get-append_left}
 use Rattle.mls_tree.proofs.Kept.{either, or_none, height-put_leaf, IsPerfect-put_leaf, leaf_count-put_leaf, leaf_count-put_parent}
 use Rattle.mls_tree.proofs.Positions.{node_at-listing}
-use Rattle.mls_tree.proofs.Fronts.{rejoined-low, shape-rejoined, fewer-leaves, leaves-le, leaf_count-rejoined, subtree_at-kept}
+use Rattle.mls_tree.proofs.Fronts.{rejoined-low, shape-rejoined, fewer-leaves, leaves-le, leaf_count-rejoined, subtree_at-kept, node_at-behind}
 use Rattle.mls_tree.proofs.Replacing.{listing-put_leaf, listing-put_parent}
 use Rattle.mls_tree.proofs.Trees.{leaf_count-positive, leaf_count-perfect, length-listing, subtree_at-none}
 use Rattle.mls_tree.proofs.Numbers.{leaves_at-low}
@@ -63,10 +63,6 @@ range-more a (suc n) =
     ap (λ k. range_with_len a k) (let e : suc n + 1 ≡ suc (n + 1) = omega arith in e)
     ∙ ap (λ v. a ∷ v) (range-more (a + 1) n)
     ∙ ap (λ k. a ∷ (range_with_len (a + 1) n ++ k ∷ [])) (let e : a + 1 + n ≡ a + suc n = omega arith in e)
-
-pub range-pushed : (old mid new : List ℕ) (a n : ℕ) → mid ≡ old ++ range_with_len a n → new ≡ mid ++ (a + n) ∷ [] → new ≡ old ++ range_with_len a (n + 1)
-range-pushed old mid new a n e pushed =
-    pushed ∙ ap (λ v. v ++ (a + n) ∷ []) e ∙ append_assoc old (range_with_len a n) ((a + n) ∷ []) ∙ ap (λ v. old ++ v) (sym (range-more a n))
 
 -- the non-blank nodes of a range by one node index longer
 pub non_blank-more : (u : Tree) (old mid new : List ℕ) (a n : ℕ) (b : Bool) → mid ≡ old ++ filter (λ q. is_some (node_at u q)) (range_with_len a n)
@@ -177,6 +173,7 @@ shape-before (Parent p x) t s = shape-put_parent t p _ s
 shape-before (AddedUnmerged p i) t s = shape-put_parent t p _ s
 shape-before Extended t s = shape-left_subtree t s
 shape-before (Truncated b) t s = shape-rejoined t b.value.tree s b.value.shape
+shape-before (Hash b) t s = s
 
 -- ---- the node indices of one change
 
@@ -275,22 +272,28 @@ lists_changes-no_whole u old new n b low stays =
 
 -- after the leftmost subtree are the nodes of the whole
 same-rejoined : (t w : Tree) (n m : ℕ) → IsPerfect t → IsPerfect w → leaf_count t ≡ n → leaf_count w ≡ m → n < m
-    → (leaf_count (rejoined t w) ≡ m) × AgreeExceptAt (range_with_len (2 * n - 1) (2 * (m - n))) (rejoined t w) t
+    → (leaf_count (rejoined t w) ≡ m) × ((p : ℕ) → list_any (λ q. q == p) (filter (λ q. is_some (node_at w q)) (range_with_len (2 * n - 1) (2 * (m - n)))) ≡ false
+    → node_at (rejoined t w) p ≡ node_at t p)
 same-rejoined t w n m a b few many more =
     let low : height t ≤ height w = elim (cases_lt (height w) (height t)) [ inl lt ↦ absurd (let less = leaves-le w t b a (omega arith) in omega arith) | inr ge ↦ ge ] in
-    let count = leaf_count-rejoined t w a b low in (
+    let count = leaf_count-rejoined t w a b low in
+    let none : (p : ℕ) → 2 * n - 1 ≤ p → node_at t p ≡ None = λ p ge. ap entry_of (subtree_at-none 0 t p (omega arith)) in (
       count ∙ many,
-      λ p out. elim (outside (2 * n - 1) (2 * (m - n)) p out) [
+      λ p out. elim (cases_lt p (2 * n - 1)) [
         | inl lt ↦ ap entry_of (subtree_at-kept t w p (omega arith))
-        | inr ge ↦ ap entry_of (subtree_at-none 0 (rejoined t w) p (omega arith) ∙ sym (subtree_at-none 0 t p (omega arith)))
+        | inr ge ↦
+            elim (not_listed w (2 * n - 1) (2 * (m - n)) p out) [
+              | inl blank ↦ node_at-behind t w p a b (omega arith) ∙ blank ∙ sym (none p ge)
+              | inr away ↦ ap entry_of (subtree_at-none 0 (rejoined t w) p (elim away [ inl lt ↦ absurd (omega arith) | inr past ↦ omega arith ])) ∙ sym (none p ge)
+            ]
       ],
     )
 
-pub lists_changes-truncated : (u : Tree) (old new : List ℕ) (n m : ℕ) (b : Box KeptTree Global) → m ≡ leaf_count b.value.tree → n < m → new ≡ old ++ range_with_len (2 * n - 1) (2 * (m - n))
-    → Lists u old new n m (Truncated b)
+pub lists_changes-truncated : (u : Tree) (old new : List ℕ) (n m : ℕ) (b : Box KeptTree Global) → m ≡ leaf_count b.value.tree → n < m
+    → new ≡ old ++ filter (λ q. is_some (node_at b.value.tree q)) (range_with_len (2 * n - 1) (2 * (m - n))) → Lists u old new n m (Truncated b)
 lists_changes-truncated u old new n m b whole more pushed =
     let w = b.value in
-    lists_changes-added u old new (range_with_len (2 * n - 1) (2 * (m - n))) n m (Truncated b) pushed
+    lists_changes-added u old new (filter (λ q. is_some (node_at w.tree q)) (range_with_len (2 * n - 1) (2 * (m - n)))) n m (Truncated b) pushed
     (λ t e. same-rejoined t.tree w.tree n m t.shape.perfect w.shape.perfect e (sym whole) more)
 
 -- ---- the node indices of the last changes of a journal

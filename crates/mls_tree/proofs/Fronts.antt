@@ -1,13 +1,13 @@
 -- The leftmost subtrees of a tree, and a tree that replaces one.
-use Rattle.std.proofs.Common.{◌≡◌, ℕ, suc, ◌+◌, ◌*◌, ◌-◌, ◌<◌, ◌≤◌, [], ◌∷◌, Option, refl, sym, ap, ◌∙◌, subst, inl, inr, arith}
-use Rattle.std.proofs.lemmas.Bool.{cases_lt}
+use Rattle.std.proofs.Common.{◌≡◌, ℕ, suc, ◌+◌, ◌*◌, ◌-◌, ◌<◌, ◌≤◌, [], ◌∷◌, Option, Some, refl, sym, ap, ◌∙◌, subst, inl, inr, arith}
+use Rattle.std.proofs.lemmas.Bool.{cases_lt, cases_order}
 use Rattle.mls_nodes.specs.declared.parent.ParentNode.{ParentNode}
-use Rattle.mls_tree.specs.Tree.{Tree, leaf, branch, height, leaf_count, IsPerfect, subtree_at}
+use Rattle.mls_tree.specs.Tree.{Tree, leaf, branch, height, leaf_count, IsPerfect, node_at, entry_of, Subtree, subtree_at}
 use Rattle.mls_tree.specs.TreeInternal.{leaves_at}
 use Rattle.mls_tree.specs.RatchetTree.{HasShape}
 use Rattle.mls_tree.specs.Paths.{direct_path}
 use Rattle.mls_tree.specs.TreeOperations.{has_non_blank_leaf, truncate, left_subtree, front_subtree, rejoined}
-use Rattle.mls_tree.proofs.Choices.{below, from}
+use Rattle.mls_tree.proofs.Choices.{below, from, here, before, after}
 use Rattle.mls_tree.proofs.Numbers.{leaves_at-positive, leaves_at-le}
 use Rattle.mls_tree.proofs.Trees.{leaf_count-perfect, leaf_count-positive, subtree_at-in_left, subtree_at-none}
 use Rattle.mls_tree.proofs.Kept.{either, height-truncate}
@@ -125,3 +125,34 @@ subtree_at-behind t w p perfect b past away =
     in_left 0 p l n n r (rejoined t l) (leaf_count-rejoined t l perfect b.1 ge) ((IsAway-back p (if_path 0 l r 0) ((2 * m - 1) ∷ []) away).0)
     (ih b.1 (subst (IsAway p) (below 0 m (direct_path 0 l 0) (direct_path m r 0) (omega (arith, leaf_count-positive l))) under)))
     w b away
+
+-- ---- the nodes after it
+
+-- a parent with another left subtree of as many leaves
+beside-left : (l k : Tree) (n : Option ParentNode) (r : Tree) (p : ℕ) → leaf_count k ≡ leaf_count l → node_at k p ≡ node_at l p → node_at (branch k n r) p ≡ node_at (branch l n r) p
+beside-left l k n r p count same =
+    let m = 0 + leaf_count l in
+    let m' = 0 + leaf_count k in
+    let whole : Tree → Option Subtree = λ t. Some (record { first = 0; tree = branch t n r }) in
+    let at_right : ℕ → Option Subtree = λ first. subtree_at first r p in
+    let even : m' ≡ m = ap (λ c. 0 + c) count in
+    elim (cases_order (p + 1) (2 * m)) [
+      | inl at ↦
+          ap entry_of (here (p + 1) (2 * m') (whole k) (subtree_at 0 k p) (at_right m') (omega arith))
+          ∙ sym (ap entry_of (here (p + 1) (2 * m) (whole l) (subtree_at 0 l p) (at_right m) at))
+      | inr (inl lt) ↦
+          ap entry_of (before (p + 1) (2 * m') (whole k) (subtree_at 0 k p) (at_right m') (omega arith))
+          ∙ same
+          ∙ sym (ap entry_of (before (p + 1) (2 * m) (whole l) (subtree_at 0 l p) (at_right m) lt))
+      | inr (inr gt) ↦
+          ap entry_of (after (p + 1) (2 * m') (whole k) (subtree_at 0 k p) (at_right m') (omega arith))
+          ∙ ap (λ first. entry_of (at_right first)) even
+          ∙ sym (ap entry_of (after (p + 1) (2 * m) (whole l) (subtree_at 0 l p) (at_right m) gt))
+    ]
+
+pub node_at-behind : (t w : Tree) (p : ℕ) → IsPerfect t → IsPerfect w → 2 * leaf_count t ≤ p + 1 → node_at (rejoined t w) p ≡ node_at w p
+node_at-behind t w p perfect b past =
+    to_rejoined t (λ w v. IsPerfect w → node_at v p ≡ node_at w p)
+    (λ w low b. let le = leaves-le w t b perfect low in ap entry_of (subtree_at-none 0 t p (omega arith)) ∙ sym (ap entry_of (subtree_at-none 0 w p (omega arith))))
+    (λ l n r ge ih b. beside-left l (rejoined t l) n r p (leaf_count-rejoined t l perfect b.1 ge) (ih b.1))
+    w b

@@ -27,6 +27,7 @@ pub mod Replacing
 pub mod AlongPaths
 pub mod Entering
 pub mod TakenBack
+pub mod LoggedHashes
 pub mod ParentEntries
 pub mod Emptying
 pub mod LeafCounts

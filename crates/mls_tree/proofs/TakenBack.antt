@@ -92,7 +92,7 @@ undone-last (y ∷ xs) x t = ap (undone y) (undone-last xs x t)
 
 -- ---- one change is undone
 
-leaf-undone : (t u : Tree) (i : ℕ) (x : Option LeafNode) (node : Option LeafNode) → i < leaf_count t → u ≡ put_leaf 0 t i x
+pub leaf-undone : (t u : Tree) (i : ℕ) (x : Option LeafNode) (node : Option LeafNode) → i < leaf_count t → u ≡ put_leaf 0 t i x
     → node ≡ leaf_at 0 t i → undone (Leaf i node) u ≡ t
 leaf-undone t u i x node inside put former =
     let c = leaf_count-put_leaf 0 t i x in
@@ -101,7 +101,7 @@ leaf-undone t u i x node inside put former =
     ∙ (λ k. put_leaf 0 (put k) i (former k))
     ∙ put_leaf-back 0 t i x (omega arith) (omega arith)
 
-parent-undone : (t u : Tree) (p : ℕ) (x : Option ParentNode) (node : Option (Box ParentNode Global)) → IsParentNodeIndex t p → u ≡ put_parent 0 t p x
+pub parent-undone : (t u : Tree) (p : ℕ) (x : Option ParentNode) (node : Option (Box ParentNode Global)) → IsParentNodeIndex t p → u ≡ put_parent 0 t p x
     → option_map (λ b. b.value) node ≡ parent_of (node_at t p) → undone (Parent p node) u ≡ t
 parent-undone t u p x node inside put former = (λ k. put_parent 0 (put k) p (former k)) ∙ put_parent-back 0 t p x inside
 

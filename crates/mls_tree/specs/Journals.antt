@@ -4,7 +4,7 @@ use Rattle.std.specs.Prelude.{◌≡◌, nat_lt, if◌then◌else◌, List, [], 
 use Rattle.mls_tree.specs.Tree.{Tree, leaf_count}
 use Rattle.mls_tree.specs.TreeOperations.{put_leaf, put_parent, change_parent, without_unmerged, left_subtree, rejoined}
 use Rattle.mls_tree.specs.declared.journal.UndoEntry.{UndoEntry}
-use Rattle.mls_tree.specs.declared.journal.UndoEntry.TheVariants.{Leaf, Parent, AddedUnmerged, Extended, Truncated}
+use Rattle.mls_tree.specs.declared.journal.UndoEntry.TheVariants.{Leaf, Parent, AddedUnmerged, Extended, Truncated, Hash}
 use Rattle.mls_tree.specs.declared.journal.Journal.{Journal}
 
 -- `undone x t` is the tree before a change whose undo entry is `x`.
@@ -14,6 +14,7 @@ undone (Parent p x) t = put_parent 0 t p (option_map (λ b. b.value) x)
 undone (AddedUnmerged p i) t = change_parent (without_unmerged i) 0 t p
 undone Extended t = left_subtree t
 undone (Truncated b) t = rejoined t b.value.tree
+undone (Hash b) t = t
 
 -- `all_undone xs t` is the tree before changes with these undo entries. The last one is undone first.
 abbrev pub all_undone : List UndoEntry → Tree → Tree

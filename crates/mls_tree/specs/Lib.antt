@@ -17,6 +17,8 @@ pub mod CountsModel
 pub mod PublicTreeModel
 pub mod PublicTreeModelInternal
 pub mod Journals
+pub mod LoggedHashes
+pub mod LoggedHashesInternal
 pub mod ChangedNodes
 pub mod TreeSizes
 pub mod NodeArray

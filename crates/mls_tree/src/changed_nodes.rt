@@ -11,18 +11,6 @@ use crate::journal::UndoEntry;
 use crate::public_tree::PublicTree;
 use std::alloc::AllocError;
 
-// Appends `count` node indices, beginning with `first`.
-fn push_range(out: &mut Vec<u32>, first: u32, count: u32) -> Result<(), AllocError>
-    requires { first + count < 2 ^ 32 }
-    ensures { OnOk result (out.new.items ≡ out.old.items ++ range_with_len first count) }
-{
-    out.try_reserve(count as usize)?;
-    for offset in 0..count {
-        out.push_reserved(first + offset);
-    }
-    Ok(())
-}
-
 // Appends the node indices of the non-blank nodes of `tree` among `count` node indices, beginning with `first`.
 fn push_non_blank(
     out: &mut Vec<u32>,
@@ -43,9 +31,9 @@ fn push_non_blank(
     Ok(())
 }
 
-/// Appends the node indices at which a change replaced a node, those that truncating removed, and those of the
-/// non-blank nodes of `tree` in what extending added. `tree` is the tree after all changes. `former` is the undo entry
-/// of the change, and `leaves` the number of leaves after it. Returns the number of leaves before it.
+/// Appends the node indices at which a change replaced a node, those of the non-blank nodes that truncating removed, and
+/// those of the non-blank nodes of `tree` in what extending added. `tree` is the tree after all changes. `former` is the
+/// undo entry of the change, and `leaves` the number of leaves after it. Returns the number of leaves before it.
 pub(crate) fn push_changed(
     out: &mut Vec<u32>,
     tree: &PublicTree,
@@ -88,8 +76,9 @@ pub(crate) fn push_changed(
             if count <= leaves {
                 return Ok(leaves);
             }
-            push_range(out, 2 * leaves - 1, 2 * (count - leaves))?;
+            push_non_blank(out, &**whole, 2 * leaves - 1, 2 * (count - leaves))?;
             Ok(count)
         }
+        UndoEntry::Hash(_) => Ok(leaves),
     }
 }

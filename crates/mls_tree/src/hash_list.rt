@@ -59,9 +59,18 @@ fn push_zeros(bytes: &mut Vec<u8>, count: usize)
     requires { vec_len bytes.old + count ≤ vec_capacity bytes.old }
     ensures { bytes.new.items ≡ bytes.old.items ++ replicate count 0 }
 {
-    for _ in 0..count {
-        bytes.push_reserved(0);
-    }
+    let Ok(()) = bytes.resize(bytes.len() + count, 0) else {
+        unreachable!()
+    };
+}
+
+/// Returns a copy of bytes.
+fn copy_of(alloc: Global, bytes: &[u8]) -> Result<Vec<u8>, AllocError>
+    ensures { IfOk result (λ copy. copy.items ≡ bytes.now) }
+{
+    let mut copy = Vec::new(alloc);
+    copy.extend_from_slice(bytes)?;
+    Ok(copy)
 }
 
 impl HashList {
@@ -146,7 +155,7 @@ impl HashList {
         ensures { IfOk result (λ l. l
             ≡ record self.now { hashes = take count self.now.hashes }) }
     {
-        let bytes = part(self.bytes.as_slice(), 0, count * self.width).to_vec(alloc)?;
+        let bytes = copy_of(alloc, part(self.bytes.as_slice(), 0, count * self.width))?;
         Ok(HashList {
             width: self.width,
             count,
@@ -199,7 +208,7 @@ impl HashList {
         Ok(HashList {
             width: self.width,
             count: self.count,
-            bytes: self.bytes.as_slice().to_vec(alloc)?,
+            bytes: copy_of(alloc, self.bytes.as_slice())?,
         })
     }
 }

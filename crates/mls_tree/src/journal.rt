@@ -6,15 +6,18 @@
 ghost use Rattle.std.specs.Prelude.{◌≡◌, ◌<◌, ◌↔◌, ◌⊎◌, true, false, All, Err, IfOk, IfErr, OnOk, OnErr, option_map};
 ghost use Rattle.std.specs.List.Sorted.{IsStrictlyIncreasing};
 ghost use Rattle.mls_nodes.specs.Limits.{leaf_limit};
-ghost use Rattle.mls_tree.specs.Tree.{leaf_count, node_at, IsParentNodeIndex};
+ghost use Rattle.mls_tree.specs.Tree.{Tree, leaf_count, node_at, IsParentNodeIndex};
 ghost use Rattle.mls_tree.specs.TreeOperations.{put_leaf, put_parent, change_parent, blank_path, with_unmerged, add_unmerged, add_all_unmerged, overfills, is_overfilled, IsOverfull, extend, truncate};
 ghost use Rattle.mls_tree.specs.NodeView.{parent_of};
 ghost use Rattle.mls_tree.specs.Journals.{undone, before, IsEmptyJournal};
+ghost use Rattle.mls_tree.specs.LoggedHashes.{HasRightHashes, IsRightEntry};
 ghost use Rattle.mls_tree.specs.ChangedNodes.{AgreeExceptAt};
 
 use crate::changed_nodes::push_changed;
 use crate::error::TreeError;
+use crate::logged_hashes::{LoggedHash, log_hashes, log_path_hashes};
 use crate::public_tree::PublicTree;
+use crate::tree_size::leaves_of;
 use mls_nodes::{EncodedLeaf, ParentNode};
 use mls_wire::Shared;
 use std::alloc::{AllocError, Global};
@@ -42,6 +45,8 @@ pub(crate) enum UndoEntry {
     Extended,
     /// A larger tree, without the leftmost subtree that the tree now is.
     Truncated(Box<PublicTree>),
+    /// Nothing: before the changes that follow, a subtree had this cached hash.
+    Hash(Box<LoggedHash>),
 }
 
 /// What the changes of a tree have replaced, in the order of the changes. From the first change on, the tree is changed
@@ -57,6 +62,12 @@ pub(crate) enum UndoEntry {
 /// Otherwise it drops the cache. That undoing gives the cached hashes back is tested, not proved.
 ///
 /// The journal has an entry for each node that a change replaces, except if a blank node is replaced by a blank one.
+/// Before a change it also logs the cached hashes that the change clears, if their nodes are long: of leaf nodes and
+/// parents with more than 256 bytes, or of parents with more than 64 unmerged leaves. `rollback_with_hashes` puts these
+/// hashes back. Their nodes are not hashed again, however many changes are made and undone.
+///
+/// Contracts say of a tree and a journal, `HasRightHashes`, that each logged hash is right for the tree that it is put
+/// back into. Each call preserves this, also on error.
 #[derive(Drop)]
 pub struct Journal {
     formers: Vec<UndoEntry>,
@@ -72,6 +83,18 @@ fn rollback(tree: &mut PublicTree, former: UndoEntry)
         UndoEntry::AddedUnmerged { node_index, index } => tree.leave_at(node_index, index),
         UndoEntry::Extended => tree.cut(),
         UndoEntry::Truncated(whole) => tree.rejoin(Box::into_inner(whole)),
+        UndoEntry::Hash(_) => {}
+    }
+}
+
+/// Undoes the change with the undo entry `former`. If the entry is a hash, puts it back.
+fn rollback_with_hash(tree: &mut PublicTree, former: UndoEntry)
+    requires { IsRightEntry former tree.old.tree }
+    ensures tree { tree.new.tree ≡ undone former tree.old.tree }
+{
+    match former {
+        UndoEntry::Hash(hash) => hash.put(tree),
+        other => rollback(tree, other),
     }
 }
 
@@ -96,6 +119,7 @@ impl Journal {
     /// Creates an empty journal. Does not allocate.
     pub fn new(alloc: Global) -> Journal
         ensures nothing { IsEmptyJournal result }
+        ensures hashes { (t : Tree) → HasRightHashes result t }
     {
         Journal {
             formers: Vec::new(alloc),
@@ -115,10 +139,37 @@ impl Journal {
             (tree.new.tree ≡ put_leaf 0 tree.old.tree index leaf) }
         ensures unchanged_on_error { OnErr result (tree.new ≡ tree.old) }
         ensures before { before self.new tree.new.tree ≡ before self.old tree.old.tree }
+        ensures hashes { HasRightHashes self.old tree.old.tree → HasRightHashes self.new tree.new.tree }
     {
+        log_hashes(&mut self.formers, tree, 2 * index)?;
         self.formers.try_reserve(1)?;
         let node = tree.replace_leaf(index, leaf);
         self.formers.push_reserved(UndoEntry::Leaf { index, node });
+        Ok(())
+    }
+
+    // As `put_parent`, but logs no hash.
+    fn replace_parent(
+        &mut self,
+        tree: &mut PublicTree,
+        node_index: u32,
+        parent: Option<Box<ParentNode>>,
+    ) -> Result<(), AllocError>
+        requires { IsParentNodeIndex tree.old.tree node_index }
+        ensures put { OnOk result
+            (tree.new.tree ≡ put_parent 0 tree.old.tree node_index (option_map (λ b. b.value) parent)) }
+        ensures unchanged_on_error { OnErr result (tree.new ≡ tree.old) }
+        ensures before { before self.new tree.new.tree ≡ before self.old tree.old.tree }
+        ensures hashes { HasRightHashes self.old tree.old.tree → HasRightHashes self.new tree.new.tree }
+    {
+        self.formers.try_reserve(1)?;
+        let stays_blank = parent.is_none();
+        let node = tree.replace_parent(node_index, parent);
+        if stays_blank && node.is_none() {
+            return Ok(());
+        }
+        self.formers
+            .push_reserved(UndoEntry::Parent { node_index, node });
         Ok(())
     }
 
@@ -135,16 +186,10 @@ impl Journal {
             (tree.new.tree ≡ put_parent 0 tree.old.tree node_index (option_map (λ b. b.value) parent)) }
         ensures unchanged_on_error { OnErr result (tree.new ≡ tree.old) }
         ensures before { before self.new tree.new.tree ≡ before self.old tree.old.tree }
+        ensures hashes { HasRightHashes self.old tree.old.tree → HasRightHashes self.new tree.new.tree }
     {
-        self.formers.try_reserve(1)?;
-        let stays_blank = parent.is_none();
-        let node = tree.replace_parent(node_index, parent);
-        if stays_blank && node.is_none() {
-            return Ok(());
-        }
-        self.formers
-            .push_reserved(UndoEntry::Parent { node_index, node });
-        Ok(())
+        log_hashes(&mut self.formers, tree, node_index)?;
+        self.replace_parent(tree, node_index, parent)
     }
 
     /// Makes blank the parents above a leaf (RFC 9420, 12.1.2 and 12.1.3), but not the leaf. If memory runs out, some
@@ -158,20 +203,22 @@ impl Journal {
         requires { index < leaf_count tree.old.tree }
         ensures cleared { OnOk result (tree.new.tree ≡ blank_path tree.old.tree index) }
         ensures before { before self.new tree.new.tree ≡ before self.old tree.old.tree }
+        ensures hashes { HasRightHashes self.old tree.old.tree → HasRightHashes self.new tree.new.tree }
     {
         let mut node_indices = match tree.direct_path(alloc, index) {
             Ok(node_indices) => node_indices,
             Err(TreeError::OutOfMemory) => return Err(AllocError),
             Err(_) => unreachable!(),
         };
+        log_path_hashes(&mut self.formers, tree, node_indices.as_slice())?;
         while let Some(node_index) = node_indices.pop() {
-            self.put_parent(tree, node_index, None)?;
+            self.replace_parent(tree, node_index, None)?;
         }
         Ok(())
     }
 
     // Adds a leaf index to the unmerged leaves of the parent at node index `node_index`, unless the parent is blank or
-    // has that leaf index.
+    // has that leaf index. Logs no hash.
     fn insert_unmerged(
         &mut self,
         tree: &mut PublicTree,
@@ -183,6 +230,7 @@ impl Journal {
         ensures in_lists { OnOk result
             (tree.new.tree ≡ change_parent (with_unmerged index) 0 tree.old.tree node_index) }
         ensures before { before self.new tree.new.tree ≡ before self.old tree.old.tree }
+        ensures hashes { HasRightHashes self.old tree.old.tree → HasRightHashes self.new tree.new.tree }
     {
         self.formers.try_reserve(1)?;
         if tree.insert_unmerged_at(node_index, index)? {
@@ -208,6 +256,7 @@ impl Journal {
         requires { index < leaf_count tree.old.tree }
         ensures in_lists { OnOk result (tree.new.tree ≡ add_unmerged tree.old.tree index) }
         ensures before { before self.new tree.new.tree ≡ before self.old tree.old.tree }
+        ensures hashes { HasRightHashes self.old tree.old.tree → HasRightHashes self.new tree.new.tree }
         ensures too_many_leaves { (result ≡ Err TreeError.TooManyLeaves)
             ↔ IsOverfull tree.old.tree index }
         ensures possible_errors { IfErr result
@@ -217,6 +266,7 @@ impl Journal {
             return Err(TreeError::TooManyLeaves);
         }
         let mut node_indices = tree.direct_path(alloc, index)?;
+        log_path_hashes(&mut self.formers, tree, node_indices.as_slice())?;
         while let Some(node_index) = node_indices.pop() {
             self.insert_unmerged(tree, node_index, index)?;
         }
@@ -233,6 +283,7 @@ impl Journal {
         requires { IsStrictlyIncreasing indices.now }
         ensures in_lists { OnOk result (tree.new.tree ≡ add_all_unmerged indices.now tree.old.tree) }
         ensures before { before self.new tree.new.tree ≡ before self.old tree.old.tree }
+        ensures hashes { HasRightHashes self.old tree.old.tree → HasRightHashes self.new tree.new.tree }
         ensures fits { OnOk result (overfills indices.now tree.old.tree ≡ false) }
         ensures too_many_leaves { (result ≡ Err TreeError.TooManyLeaves)
             → overfills indices.now tree.old.tree ≡ true }
@@ -266,6 +317,7 @@ impl Journal {
         requires inside { All (λ i. i < leaf_count tree.old.tree) indices.now }
         ensures in_lists { OnOk result (tree.new.tree ≡ add_all_unmerged indices.now tree.old.tree) }
         ensures before { before self.new tree.new.tree ≡ before self.old tree.old.tree }
+        ensures hashes { HasRightHashes self.old tree.old.tree → HasRightHashes self.new tree.new.tree }
         ensures fits { OnOk result (overfills indices.now tree.old.tree ≡ false) }
         ensures too_many_leaves { (result ≡ Err TreeError.TooManyLeaves)
             → overfills indices.now tree.old.tree ≡ true }
@@ -289,6 +341,7 @@ impl Journal {
         ensures changed { OnOk result (tree.new.tree ≡ extend tree.old.tree) }
         ensures unchanged_on_error { OnErr result (tree.new ≡ tree.old) }
         ensures before { before self.new tree.new.tree ≡ before self.old tree.old.tree }
+        ensures hashes { HasRightHashes self.old tree.old.tree → HasRightHashes self.new tree.new.tree }
         ensures too_many_leaves { (result ≡ Err TreeError.TooManyLeaves)
             ↔ (leaf_count tree.old.tree ≡ leaf_limit) }
         ensures possible_errors { IfErr result
@@ -310,10 +363,12 @@ impl Journal {
         ensures shrunk { OnOk result (tree.new.tree ≡ truncate tree.old.tree) }
         ensures unchanged_on_error { OnErr result (tree.new ≡ tree.old) }
         ensures before { before self.new tree.new.tree ≡ before self.old tree.old.tree }
+        ensures hashes { HasRightHashes self.old tree.old.tree → HasRightHashes self.new tree.new.tree }
     {
         let Some(level) = tree.truncated_height() else {
             return Ok(());
         };
+        log_hashes(&mut self.formers, tree, leaves_of(level) - 1)?;
         self.formers.try_reserve(1)?;
         let slot = new_box(alloc)?;
         let front = tree.take_front(alloc, level)?;
@@ -323,14 +378,13 @@ impl Journal {
         Ok(())
     }
 
-    /// Returns the node indices at which the changes replaced a node, those that truncating removed, and those of the
-    /// non-blank nodes in what extending added (RFC 9420, 7.7 and Appendix C). At every other node index the tree has
-    /// the node that it had before the changes, or had none and has none.
+    /// Returns the node indices at which the changes replaced a node, and those of the non-blank nodes that truncating removed
+    /// or that are in what extending added (RFC 9420, 7.7 and Appendix C). At every other node index the tree has the node
+    /// that it had before the changes, or had none and has none.
     ///
     /// `tree` is the tree that was changed with this journal. (The contract holds for every tree.) The node indices are
-    /// in increasing order, and each is there once. Let n be the number of changes and of nodes that truncating removed.
-    /// The time is proportional to n log n, plus the number of nodes that extending added. The memory is proportional
-    /// to n.
+    /// in increasing order, and each is there once. Let n be their number. The time is proportional to n log n, plus the
+    /// number of nodes that truncating removed or extending added. The memory is proportional to n.
     pub fn changed_node_indices(
         &self,
         alloc: Global,
@@ -364,9 +418,23 @@ impl Journal {
         }
     }
 
+    /// Undoes all changes in reverse order, as `rollback` does, and puts the logged hashes into their cache slots. A hash is
+    /// not put back if the tree's cache is not of its kind any more. Does not allocate.
+    pub fn rollback_with_hashes(&mut self, tree: &mut PublicTree)
+        requires { HasRightHashes self.old tree.old.tree }
+        ensures tree { tree.new.tree ≡ before self.old tree.old.tree }
+        ensures nothing { IsEmptyJournal self.new }
+        ensures hashes { (t : Tree) → HasRightHashes self.new t }
+    {
+        while let Some(entry) = self.formers.pop() {
+            rollback_with_hash(tree, entry);
+        }
+    }
+
     /// Makes all changes final: they cannot be undone after this. Does not allocate.
     pub fn discard(&mut self)
         ensures nothing { IsEmptyJournal self.new }
+        ensures hashes { (t : Tree) → HasRightHashes self.new t }
     {
         self.formers.clear();
     }

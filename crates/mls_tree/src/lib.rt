@@ -23,6 +23,7 @@ mod hash_value;
 mod journal;
 pub mod laws;
 mod leaf_split;
+mod logged_hashes;
 mod merged_parents;
 mod node_array;
 mod node_indices;

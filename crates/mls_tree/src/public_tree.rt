@@ -133,6 +133,14 @@ impl PublicTree {
         self.tree.leaf_count()
     }
 
+    /// Returns the height of the tree.
+    pub(crate) fn height(&self) -> u32
+        ensures value { result ≡ height self.now.tree }
+        ensures low { result ≤ 20 }
+    {
+        self.tree.height()
+    }
+
     /// Returns the number of non-blank leaves: the members of the group.
     pub fn member_count(&self) -> u32
         ensures { result ≡ member_count self.now.tree }

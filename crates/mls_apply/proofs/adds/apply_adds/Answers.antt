@@ -5,6 +5,7 @@ use Rattle.std.proofs.lemmas.Result.{err_from_is_err_and}
 use Rattle.mls_tree.specs.Tree.{leaf_count}
 use Rattle.mls_tree.specs.TreeOperations.{add_all_unmerged, overfills}
 use Rattle.mls_tree.specs.Journals.{before}
+use Rattle.mls_tree.specs.LoggedHashes.{HasRightHashes}
 use Rattle.mls_apply.specs.AppliedList.{applied_tree, after_adds, new_members}
 use Rattle.mls_apply.specs.declared.fault.ApplyFault.TheVariants.{TooManyLeaves}
 use Rattle.mls_apply.specs.declared.list_item.ListItem.{ListItem}
@@ -40,6 +41,7 @@ loop-item-preserved c =
                 rw (w.tree-is, w.added-is, w.start-is, w.in_ok-push.ensures.items)
                 (adding-member whole x rest t c.loop-item.added.items c.loop-item.start here w.in-Add.key_package (ap (λ (y : ListItem). y.proposal) (sym c.item.view_is) ∙ w.in-Add.is) w.in_ok-index.index w.put_member.new.tree.tree (rw w.deref.ensures at w.in_ok-index.ensures.put));
             same_before = (λ k. before (w.journal-is k) (w.tree-is k).tree) ∙ w.put_member.ensures.before ∙ c.loop-item.invariant.same_before;
+            hashes = λ all. subst (λ v. v) (sym (λ k. HasRightHashes (w.journal-is k) (w.tree-is k).tree)) (w.put_member.ensures.hashes (c.loop-item.invariant.hashes all));
           }
       | in_default w ↦
           record {
@@ -47,6 +49,7 @@ loop-item-preserved c =
                 rw (w.tree-is, w.added-is, w.start-is)
                 (adding-other whole x rest t c.loop-item.added.items c.loop-item.start here (λ k e. w.in_default.not-Add k (ap (λ (y : ListItem). y.proposal) c.item.view_is ∙ e)));
             same_before = (λ k. before (w.journal-is k) (w.tree-is k).tree) ∙ c.loop-item.invariant.same_before;
+            hashes = λ all. subst (λ v. v) (sym (λ k. HasRightHashes (w.journal-is k) (w.tree-is k).tree)) (c.loop-item.invariant.hashes all);
           }
     ]
 

@@ -12,4 +12,5 @@ loop-parent-preserved c =
       left = c.loop-parent.invariant.left ∙ put-left t u c.loop-parent.parents.items c.pop.new.self.items c.in-Some.parent split put;
       parents = put-parents t u c.loop-parent.parents.items c.pop.new.self.items c.in-Some.parent split put c.loop-parent.invariant.parents;
       same_before = c.put_parent.ensures.before ∙ c.loop-parent.invariant.same_before;
+      hashes = λ all. c.put_parent.ensures.hashes (c.loop-parent.invariant.hashes all);
     }

@@ -1,8 +1,9 @@
-use Rattle.std.proofs.Common.{◌∙◌, ◌+◌, Some, Err, drop, ap, sym}
+use Rattle.std.proofs.Common.{◌∙◌, ◌+◌, Some, Err, drop, ap, sym, subst}
 use Rattle.std.proofs.lemmas.Result.{err_from_is_err_and}
 use Rattle.mls_tree.specs.Tree.{Tree}
 use Rattle.mls_tree.specs.TreeOperations.{truncate}
 use Rattle.mls_tree.specs.Journals.{before}
+use Rattle.mls_tree.specs.LoggedHashes.{HasRightHashes}
 use Rattle.mls_apply.specs.AppliedList.{after_removes}
 use Rattle.mls_apply.specs.declared.list_item.ListItem.{ListItem}
 use Rattle.mls_apply.proofs.Updating.{next_item}
@@ -39,6 +40,7 @@ loop-item-preserved c =
                 ∙ ap (λ (v : Tree). after_removes rest (truncate v)) (sym w.in_ok-clear_leaf.ensures.cleared)
                 ∙ sym (λ k. after_removes rest (shrunk_if (w.has_removed-is k) (w.tree-is k).tree));
             same_before = (λ k. before (w.journal-is k) (w.tree-is k).tree) ∙ w.clear_leaf.ensures.before ∙ c.loop-item.invariant.same_before;
+            hashes = λ all. subst (λ v. v) (sym (λ k. HasRightHashes (w.journal-is k) (w.tree-is k).tree)) (w.clear_leaf.ensures.hashes (c.loop-item.invariant.hashes all));
           }
       | in_default w ↦
           record {
@@ -47,6 +49,7 @@ loop-item-preserved c =
                 ∙ removes-other x rest (shrunk_if removed t) (λ i e. w.in_default.not-Remove i (ap (λ (y : ListItem). y.proposal) c.item.view_is ∙ e))
                 ∙ sym (λ k. after_removes rest (shrunk_if (w.has_removed-is k) (w.tree-is k).tree));
             same_before = (λ k. before (w.journal-is k) (w.tree-is k).tree) ∙ c.loop-item.invariant.same_before;
+            hashes = λ all. subst (λ v. v) (sym (λ k. HasRightHashes (w.journal-is k) (w.tree-is k).tree)) (c.loop-item.invariant.hashes all);
           }
     ]
 

@@ -13,6 +13,7 @@ loop-index-init c = record {
       subst (λ xs. AreApplied xs c.args.tree.now.tree c.new-replaced.result c.args.tree.now.tree) (sym (drop_all (length c.args.items.now) c.args.items.now (omega arith)))
       (applied-start c.args.tree.now.tree c.new-replaced.result c.new-replaced.ensures.empty);
   same_before = refl;
+  hashes = λ all. all;
 }
 
 pub returns-in_err-apply_update-clause-no_such_leaf : goal.returns-in_err-apply_update-clause-no_such_leaf

@@ -20,3 +20,40 @@ returns-in_err-add_rules-clause-refused g c =
 pub returns-clause-resumed : goal.returns-clause-resumed
 returns-clause-resumed g c =
     made_state _ _ _ _ _ c.in_ok-group.ensures c.as_slice.ensures _ c.in_ok-hold_entries.ensures.held _ c.in_ok-group-2.ensures _ c.in_ok-add_rules.ensures.made
+
+-- the invariant of the group that is dropped
+pub invariant_of-group : goal.invariant_of-group
+invariant_of-group g c =
+    let group = c.hold_entries.new.group in
+    record {
+      same_suite = group.same_suite;
+      requires_these = group.requires_these;
+      same_types = group.same_types;
+      same_senders = group.same_senders;
+      referenced = group.referenced;
+      settled = group.settled;
+    }
+
+pub invariant_of-group-in_err-group-2 : goal.invariant_of-group-in_err-group-2
+invariant_of-group-in_err-group-2 g c =
+    let group = c.hold_entries.new.group in
+    record {
+      same_suite = group.same_suite;
+      requires_these = group.requires_these;
+      same_types = group.same_types;
+      same_senders = group.same_senders;
+      referenced = group.referenced;
+      settled = group.settled;
+    }
+
+pub invariant_of-group-in_err-add_rules : goal.invariant_of-group-in_err-add_rules
+invariant_of-group-in_err-add_rules g c =
+    let group = c.add_rules.new.self in
+    record {
+      same_suite = group.same_suite;
+      requires_these = group.requires_these;
+      same_types = group.same_types;
+      same_senders = group.same_senders;
+      referenced = group.referenced;
+      settled = group.settled;
+    }

@@ -3,8 +3,8 @@ use Rattle.mls_tree.specs.PublicTreeModel.{plain}
 use Rattle.mls_follow.proofs.Starting.{signature_fails, starts, starts_again, fails_again}
 use Rattle.mls_follow.proofs.start.check_info_and_tree.Goals as goal
 
-pub returns-in-Ok-senders_of-clause-started : goal.returns-in-Ok-senders_of-clause-started
-returns-in-Ok-senders_of-clause-started g c =
+pub returns-in-Ok-of-clause-started : goal.returns-in-Ok-of-clause-started
+returns-in-Ok-of-clause-started g c =
     let G = g.C.SignatureCheck.meaning c.args.checker.now in
     starts_again c.args.rules.now.asked G c.args.info.now (plain c.validated_requirements.new.tree) (plain c.args.tree.now) _ c.validated_requirements.ensures.tree
     (starts c.args.rules.now.asked G c.args.info.now (plain c.validated_requirements.new.tree) c.in_ok-required.required c.in_ok-required.ensures.members

@@ -13,7 +13,7 @@ records-init g c =
     (so_far-none _ _ _ _ most, going, c.requires.records, c.requires.out)
 
 pub answer_record-requires-clause-ready : goal.answer_record-requires-clause-ready
-answer_record-requires-clause-ready g c = ready-so_far _ _ _ _ _ _ _ _ c.requires.ready c.records.invariant.0
+answer_record-requires-clause-ready g c = ready-so_far _ _ _ _ _ _ _ _ _ c.requires.ready c.records.invariant.0
 
 pub returns-in_err-next_record-clause-effect_on_error : goal.returns-in_err-next_record-clause-effect_on_error
 returns-in_err-next_record-clause-effect_on_error g c =

@@ -10,7 +10,7 @@ use Rattle.mls_gate.proofs.records.serve.Given as goal
 abbrev pub invariant-records : goal.invariant-records
 invariant-records g l =
     let m = g.C.SignatureCheck.meaning in
-    SoFar (Opening (inputs_of l.fn.start) (m l.fn.checker)) (g.R.Source.device l.fn.records).bytes (g.R.Source.device l.records).bytes (g.K.Sink.device l.fn.out).bytes (g.K.Sink.device l.out).bytes
+    SoFar (Opening (inputs_of l.fn.start) l.fn.judge.time (m l.fn.judge.checker)) (g.R.Source.device l.fn.records).bytes (g.R.Source.device l.records).bytes (g.K.Sink.device l.fn.out).bytes (g.K.Sink.device l.out).bytes
     (phase_of m l.phase) l.reader.most
     × (l.reader.is_over ≡ false) × IsWorking (g.R.Source.device l.records) × IsWorking (g.K.Sink.device l.out)
 

@@ -10,10 +10,11 @@ abbrev pub invariant-messages : goal.invariant-messages
 invariant-messages g l =
     let G = g.C.SignatureCheck.meaning (checker_of l.fn.follower) in
     ((ts : List ProcessedMessage)
-    × SoFar G (state_of l.fn.follower) (g.L.Source.device l.fn.log).bytes (g.L.Source.device l.log).bytes (g.K.Sink.device l.fn.out).bytes (g.K.Sink.device l.out).bytes ts (state_of l.follower)
-    × (l.n ≡ 1 + length ts) × (l.reader.most + length ts ≡ message_limit) × (l.tally.accepted ≡ accepted_count ts) × (l.tally.accepted + l.tally.refused ≡ length ts))
+    × SoFar l.fn.progress.time G (state_of l.fn.follower) (g.L.Source.device l.fn.log).bytes (g.L.Source.device l.log).bytes (g.K.Sink.device l.fn.out).bytes (g.K.Sink.device l.out).bytes ts (state_of l.follower)
+    × (l.number ≡ 1 + length ts) × (l.reader.most + length ts ≡ message_limit) × (l.progress.accepted ≡ accepted_count ts) × (l.progress.accepted + l.progress.refused ≡ length ts))
     × (g.C.SignatureCheck.meaning (checker_of l.follower) ≡ G)
     × (l.reader.is_over ≡ false) × IsWorking (g.L.Source.device l.log) × IsWorking (g.K.Sink.device l.out)
+    × (l.progress.time ≡ l.fn.progress.time)
 
 abbrev pub decreases-messages : goal.decreases-messages
 decreases-messages g l = l.reader.most

@@ -1,5 +1,7 @@
-use Rattle.std.proofs.Common.{◌/◌, ◌∙◌, ap, sym, refl, subst, arith}
-use Rattle.mls_tree.specs.Tree.{leaf_count}
+use Rattle.std.proofs.Common.{◌≡◌, ◌*◌, ◌-◌, ◌/◌, ◌++◌, ◌∙◌, ap, sym, refl, subst, arith}
+use Rattle.std.specs.Prelude.{is_some}
+use Rattle.std.specs.List.{filter, range_with_len}
+use Rattle.mls_tree.specs.Tree.{leaf_count, node_at}
 use Rattle.mls_tree.specs.PublicTreeModel.{KeptTree}
 use Rattle.mls_tree.proofs.ChangedNodeIndices.{Lists, few-leaves, lists_changes-one, lists_changes-no_whole, lists_changes-leaf, lists_changes-parent, lists_changes-in_lists, lists_changes-grown, lists_changes-truncated}
 use Rattle.mls_tree.proofs.changed_nodes.push_changed.Goals as goal
@@ -112,26 +114,36 @@ returns-in_ok-push_non_blank-in-Extended-clause-node_indices c =
     let changes_listed : Lists u old new n (n / 2) c.args.former.now = subst (λ f. Lists u old new n (n / 2) f) (sym c.in-Extended.is) (lists_changes-grown u old new n (n / 2) c.if-leaves-eq1.false refl c.in_ok-push_non_blank-in-Extended.ensures) in
     changes_listed.node_indices
 
-pub returns-in_ok-push_range-in-Truncated-clause-leaves : goal.returns-in_ok-push_range-in-Truncated-clause-leaves
-returns-in_ok-push_range-in-Truncated-clause-leaves c =
+pub returns-in_ok-push_non_blank-in-Truncated-clause-leaves : goal.returns-in_ok-push_non_blank-in-Truncated-clause-leaves
+returns-in_ok-push_non_blank-in-Truncated-clause-leaves c =
     let u = c.args.tree.now.tree in
     let old = c.args.out.now.items in
-    let new = c.push_range.new.out.items in
+    let new = c.push_non_blank-in-Truncated.new.out.items in
     let n = c.args.leaves in
-    let changes_listed : Lists u old new n c.leaf_count-count.result c.args.former.now = subst (λ f. Lists u old new n c.leaf_count-count.result f) (sym c.in-Truncated.is) (lists_changes-truncated u old new n c.leaf_count-count.result c.in-Truncated.whole (c.leaf_count-count.ensures ∙ ap (λ (v : KeptTree). leaf_count v.tree) c.deref.ensures) c.if-count-leaves.false c.in_ok-push_range-in-Truncated.ensures) in
+    let m = c.leaf_count-count.result in
+    let pushed =
+    subst (λ (v : KeptTree). new ≡ old ++ filter (λ q. is_some (node_at v.tree q)) (range_with_len (2 * n - 1) (2 * (m - n)))) c.deref-in-Truncated.ensures
+    c.in_ok-push_non_blank-in-Truncated.ensures
+    in
+    let changes_listed : Lists u old new n c.leaf_count-count.result c.args.former.now = subst (λ f. Lists u old new n c.leaf_count-count.result f) (sym c.in-Truncated.is) (lists_changes-truncated u old new n c.leaf_count-count.result c.in-Truncated.whole (c.leaf_count-count.ensures ∙ ap (λ (v : KeptTree). leaf_count v.tree) c.deref.ensures) c.if-count-leaves.false pushed) in
     changes_listed.count
 
-pub returns-in_ok-push_range-in-Truncated-clause-node_indices : goal.returns-in_ok-push_range-in-Truncated-clause-node_indices
-returns-in_ok-push_range-in-Truncated-clause-node_indices c =
+pub returns-in_ok-push_non_blank-in-Truncated-clause-node_indices : goal.returns-in_ok-push_non_blank-in-Truncated-clause-node_indices
+returns-in_ok-push_non_blank-in-Truncated-clause-node_indices c =
     let u = c.args.tree.now.tree in
     let old = c.args.out.now.items in
-    let new = c.push_range.new.out.items in
+    let new = c.push_non_blank-in-Truncated.new.out.items in
     let n = c.args.leaves in
-    let changes_listed : Lists u old new n c.leaf_count-count.result c.args.former.now = subst (λ f. Lists u old new n c.leaf_count-count.result f) (sym c.in-Truncated.is) (lists_changes-truncated u old new n c.leaf_count-count.result c.in-Truncated.whole (c.leaf_count-count.ensures ∙ ap (λ (v : KeptTree). leaf_count v.tree) c.deref.ensures) c.if-count-leaves.false c.in_ok-push_range-in-Truncated.ensures) in
+    let m = c.leaf_count-count.result in
+    let pushed =
+    subst (λ (v : KeptTree). new ≡ old ++ filter (λ q. is_some (node_at v.tree q)) (range_with_len (2 * n - 1) (2 * (m - n)))) c.deref-in-Truncated.ensures
+    c.in_ok-push_non_blank-in-Truncated.ensures
+    in
+    let changes_listed : Lists u old new n c.leaf_count-count.result c.args.former.now = subst (λ f. Lists u old new n c.leaf_count-count.result f) (sym c.in-Truncated.is) (lists_changes-truncated u old new n c.leaf_count-count.result c.in-Truncated.whole (c.leaf_count-count.ensures ∙ ap (λ (v : KeptTree). leaf_count v.tree) c.deref.ensures) c.if-count-leaves.false pushed) in
     changes_listed.node_indices
 
 pub overflow_mul-count : goal.overflow_mul-count
 overflow_mul-count c = let w = c.deref.result.now in omega (arith, few-leaves w.tree w.shape, c.leaf_count-count.ensures)
 
-pub push_range-requires : goal.push_range-requires
-push_range-requires c = let w = c.deref.result.now in omega (arith, few-leaves w.tree w.shape, c.leaf_count-count.ensures)
+pub push_non_blank-requires-in-Truncated : goal.push_non_blank-requires-in-Truncated
+push_non_blank-requires-in-Truncated c = let w = c.deref.result.now in omega (arith, few-leaves w.tree w.shape, c.leaf_count-count.ensures)

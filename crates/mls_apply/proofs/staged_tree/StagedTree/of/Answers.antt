@@ -12,4 +12,5 @@ invariant_of-result c =
       between = subst (λ (t : Tree). HasBase t c.in-Ok.index) (sym (c.new.ensures.nothing tree)) (index_between tree c.in-Ok.index c.in-Ok.ensures);
       staged_nodes = tt;
       clean = subst (λ (t : Tree). IsIndexOf t c.in-Ok.index) (sym (c.new.ensures.nothing tree)) c.in-Ok.ensures;
+      hashes = c.new.ensures.hashes tree;
     }

@@ -5,7 +5,7 @@ use Rattle.mls_c.proofs.group_follower.GroupFollower.judge.Goals as goal
 
 pub returns : goal.returns
 returns c =
-    let e = c.take-answer.ensures in
-    Judges.judges c.take-answer.result (search rules)
-    (record { takes = takes _ _ _ c.take-answer.result _ e.accepted e.next e.refused e.unchanged_on_error; meaning = e.checker; limit = e.too_long; header = e.no_header; unread = e.unread })
+    let e = c.take_at-answer.ensures in
+    Judges.judges c.take_at-answer.result (search rules)
+    (record { takes = takes _ _ _ _ c.take_at-answer.result _ e.accepted e.next e.refused e.unchanged_on_error; meaning = e.checker; limit = e.too_long; header = e.no_header; unread = e.unread })
     c.judgement_of.ensures c.put_reference.ensures

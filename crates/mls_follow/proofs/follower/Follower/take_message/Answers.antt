@@ -1,5 +1,5 @@
 use Rattle.mls_follow.specs.GroupModel.{group_state}
-use Rattle.mls_follow.proofs.InvariantLemmas.{taken_checked}
+use Rattle.mls_follow.proofs.Timed.{timed_checked}
 use Rattle.mls_follow.proofs.follower.Follower.take_message.Goals as goal
 
 -- what was taken was judged
@@ -7,5 +7,5 @@ pub invariant_of-self : goal.invariant_of-self
 invariant_of-self g c =
     let old = c.args.self.now in
     record {
-      checked = taken_checked (g.C.SignatureCheck.meaning old.checker) (group_state old.group) c.args.bytes.now c.take.result (group_state c.take.new.self) c.take.ensures old.checked;
+      checked = timed_checked c.args.received.now.time (g.C.SignatureCheck.meaning old.checker) (group_state old.group) c.args.received.now.bytes.now c.take.result (group_state c.take.new.self) c.take.ensures old.checked;
     }

@@ -1,7 +1,7 @@
-use Rattle.std.proofs.Common.{Some, ap, sym, refl, ◌∙◌, drop}
+use Rattle.std.proofs.Common.{Some, Ok, ap, sym, refl, ◌∙◌, drop}
 use Rattle.mls_gate.specs.GateSteps.{phase_of}
 use Rattle.mls_gate.specs.declared.request.Request.{Request}
-use Rattle.mls_gate.specs.declared.request.Request.TheVariants.{Learn, Begin, Query, Process, Store}
+use Rattle.mls_gate.specs.declared.request.Request.TheVariants.{Learn, Begin, Query, Process, Time, Store}
 use Rattle.mls_gate.proofs.Replying.{all-behind, behind-letter, gives-behind, stops-answering, broken-body}
 use Rattle.mls_gate.proofs.QueryReplies.{record-answered}
 use Rattle.mls_gate.proofs.phase.GatePhase.answer.Goals as goal
@@ -34,6 +34,11 @@ pub returns-in-Some-Process-clause-answered : goal.returns-in-Some-Process-claus
 returns-in-Some-Process-clause-answered g c =
     let is = sym c.request_of.ensures ∙ c.in-Some-Process.is ∙ ap (λ (x : Request). Some x) c.in-Some-Process.field-0-is in
     all-behind _ c.args.body.now _ (behind-letter c.args.body.now) (Some Process) is _ c.process.result _ c.process.ensures.answered
+
+pub returns-in-Some-Time-clause-answered : goal.returns-in-Some-Time-clause-answered
+returns-in-Some-Time-clause-answered g c =
+    let is = sym c.request_of.ensures ∙ c.in-Some-Time.is ∙ ap (λ (x : Request). Some x) c.in-Some-Time.field-0-is in
+    all-behind _ c.args.body.now (drop 1 c.args.body.now) refl (Some (Time _)) is _ (Ok c.set_time.result) _ (c.set_time.ensures (drop 1 c.args.body.now))
 
 pub returns-in-Some-Store-clause-answered : goal.returns-in-Some-Store-clause-answered
 returns-in-Some-Store-clause-answered g c =

@@ -1,5 +1,4 @@
-use Rattle.std.proofs.Common.{rules, arith, Some, false, ap, refl}
-use Rattle.mls_report.proofs.Answered.{answered}
+use Rattle.std.proofs.Common.{Some, false, ap, refl}
 use Rattle.mls_gate.specs.GateSteps.{phase_of}
 use Rattle.mls_gate.specs.declared.request.Request.TheVariants.{Process}
 use Rattle.mls_gate.proofs.Answering.{judged}
@@ -8,12 +7,9 @@ use Rattle.mls_gate.proofs.phase.GatePhase.process.Goals as goal
 
 pub returns-in_default-clause-answered : goal.returns-in_default-clause-answered
 returns-in_default-clause-answered g c =
-    unstarted g.C.SignatureCheck.meaning c.args.self.now c.in_default.not-Following (Some Process) c.args.message.now (λ i G. refl)
+    unstarted g.C.SignatureCheck.meaning c.args.self.now c.in_default.not-Following (Some Process) c.args.message.now (λ i time G. refl)
 
 pub returns-clause-answered : goal.returns-clause-answered
 returns-clause-answered g c =
-    let t = c.take-answer.ensures in
     replies-at _ _ (ap (phase_of g.C.SignatureCheck.meaning) c.in-Following.is) (Some Process) c.args.message.now _ _ false
-    (judged _ _ _ _ _ c.take-answer.result _
-    (answered _ _ _ c.take-answer.result _ t.accepted t.next t.refused t.unchanged_on_error (first_of (search rules, grind arith)))
-    c.in_ok-message_answer_line.ensures t.checker)
+    (judged _ _ _ _ _ _ c.in-Ok.answer _ c.in-Ok.ensures.answered c.in_ok-message_answer_line.ensures c.in-Ok.ensures.checker)

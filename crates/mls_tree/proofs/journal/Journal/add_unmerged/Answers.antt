@@ -15,7 +15,8 @@ loop-node_index-init c =
       left = refl;
       parents = parents-start t c.args.index node_indices at;
       capacity = capacity-start t c.args.index node_indices at (sym c.is_overfull.ensures ∙ c.if-is_overfull.false);
-      same_before = refl;
+      same_before = c.log_path_hashes.ensures.same;
+      hashes = c.log_path_hashes.ensures.hashes;
     }
 
 pub insert_unmerged-requires : goal.insert_unmerged-requires
@@ -45,6 +46,7 @@ loop-node_index-preserved c =
       parents = parents-step t u all left node_index (with_unmerged i (parent_at 0 t node_index)) split put c.loop-node_index.invariant.parents;
       capacity = capacity-step i t u node_index there.1 capacity.1 put left capacity.0;
       same_before = c.in_ok-insert_unmerged.ensures.before ∙ c.loop-node_index.invariant.same_before;
+      hashes = λ all. c.in_ok-insert_unmerged.ensures.hashes (c.loop-node_index.invariant.hashes all);
     }
 
 pub returns-clause-in_lists : goal.returns-clause-in_lists

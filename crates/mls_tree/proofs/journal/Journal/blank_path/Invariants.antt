@@ -2,6 +2,7 @@ use Rattle.std.proofs.Common.{◌≡◌, vec_len, None}
 use Rattle.std.specs.Prelude.{All}
 use Rattle.mls_tree.specs.Tree.{IsParentNodeIndex}
 use Rattle.mls_tree.specs.Journals.{before}
+use Rattle.mls_tree.specs.LoggedHashes.{HasRightHashes}
 use Rattle.mls_tree.proofs.AlongPaths.{changed}
 use Rattle.mls_tree.proofs.journal.Journal.blank_path.Given as goal
 
@@ -10,6 +11,7 @@ invariant-loop-node_index l = record {
   left : changed (λ _. None) 0 l.fn.tree.tree l.initial.node_indices.items ≡ changed (λ _. None) 0 l.tree.tree l.node_indices.items;
   parents : All (IsParentNodeIndex l.tree.tree) l.node_indices.items;
   same_before : before l.self l.tree.tree ≡ before l.fn.self l.fn.tree.tree;
+  hashes : HasRightHashes l.fn.self l.fn.tree.tree → HasRightHashes l.self l.tree.tree;
 }
 
 abbrev pub decreases-loop-node_index : goal.decreases-loop-node_index

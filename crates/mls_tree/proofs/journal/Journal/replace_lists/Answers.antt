@@ -19,6 +19,7 @@ loop-new-init c =
       left = refl;
       within = subst (All (IsPutWithin 0 (leaf_count t))) (sym c.in_ok-parents.ensures.parents) (new_parents-within 0 t c.args.indices.now);
       same_before = refl;
+      hashes = λ all. all;
     }
 
 pub put_parent-requires : goal.put_parent-requires
@@ -40,6 +41,7 @@ loop-new-preserved c =
       left = now.left ∙ all_put-step t u all rest m split put;
       within = within-step t u all rest m split put now.within;
       same_before = c.in_ok-put_parent.ensures.before ∙ now.same_before;
+      hashes = λ all. c.in_ok-put_parent.ensures.hashes (now.hashes all);
     }
 
 pub returns-clause-in_lists : goal.returns-clause-in_lists

@@ -1,7 +1,0 @@
-use Rattle.mls_check.specs.LeafValidation.{supports_required}
-use Rattle.mls_check.specs.SortedRequirements.{requirements_of}
-use Rattle.mls_check.proofs.Leaves.{HoldsBelow}
-use Rattle.mls_check.proofs.members.first_unmet_requirement.Given as goal
-
-abbrev pub invariant-loop-index : goal.invariant-loop-index
-invariant-loop-index l = HoldsBelow (λ _ x. supports_required (requirements_of l.increasing) x) l.tree.tree l.index

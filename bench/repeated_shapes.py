@@ -171,6 +171,64 @@ def adds_with_a_path_of_a_long_key(put):
     return put.replay(group, [commit(group, inline_adds(len(blanks)), group.path_bytes(0, path, set(blanks)))])
 
 
+def below_a_root():
+    """A group of three in a wide tree, two of them in its left half."""
+    return Sparse(16_384, [0, 1, 8_192])
+
+
+def path_with_a_long_key(group, length):
+    """A commit whose path gives the root a long key, and the group after it."""
+    path = group.renew(0, group.renewed(0), {1: number(group.epoch, length)})
+    sent = commit(group, [], group.path_bytes(0, path, set()))
+    group.epoch += 1
+    return sent
+
+
+def add_refused_24(group):
+    """A commit that adds one with a member's encryption key."""
+    return commit(group, [inline(add(new_leaf("joined")._replace(encryption=group.leaves[1].encryption)))])
+
+
+@shape
+def adds_below_a_long_key(put):
+    """A group whose root has a long key, a path with another one, and commits that add one each and are accepted. Each tree
+    hash has the key, but the key may not be hashed for the index too."""
+    group = below_a_root()
+    path_with_a_long_key(group, 800_000)
+    messages = [path_with_a_long_key(frozen(group), 800_000)]
+    for item in inline_adds(put.size(50)):
+        messages.append(commit(group, [item]))
+        group.epoch += 1
+    return put.replay(group, messages, share=0.7)
+
+
+@shape
+def adds_below_a_long_key_refused_24(put):
+    """Such a path, and commits of an Add each that are refused. The key may not be hashed for each of them."""
+    group = frozen(below_a_root())
+    sent = path_with_a_long_key(group, put.size(16_000))
+    return put.replay(group, [sent] + [add_refused_24(group)] * put.size(1_500))
+
+
+@shape
+def queries_of_adds_below_a_long_key(put):
+    """Queries of such commits, after such a path. The key may not be hashed for them either."""
+    group = frozen(below_a_root())
+    sent = path_with_a_long_key(group, put.size(16_000))
+    return put.queries(group, [add_refused_24(group)] * put.size(1_500), [sent])
+
+
+@shape
+def paths_and_adds_below_a_long_key_refused(put):
+    """A group whose root has a long key, and two commits in turn. One has a path, and 25 refuses it for an extension of its
+    new leaf; the other is such an Add. Once the path is undone, the key may not be hashed again."""
+    group = below_a_root()
+    path_with_a_long_key(group, put.size(16_000))
+    path = frozen(group).renew(0, group.renewed(0)._replace(extensions=EXTENSION))
+    pair = [commit(group, [], group.path_bytes(0, path, set())), add_refused_24(group)]
+    return put.replay(group, pair * put.size(1_000))
+
+
 @shape
 def known_add_of_long_keys_named_again_refused_19(put):
     """A pending Add with long keys, and a commit with a path that names it many times. The keys may not be hashed for
@@ -277,6 +335,28 @@ def large_leaf_resynced_by_queries(put):
     """The second external commit, each time after a query of the first one, which may leave no trace."""
     group, resync, other = large_leaf_resynced_or_not(put)
     return put.gate(group, [(b"q", resync), (b"m", other)] * put.size(400), profile="full")
+
+
+def resync_of_a_long_chain(put):
+    """A group of three in which one leaf has a long chain of certificates, and an external commit that removes it, whose new
+    leaf has another credential and another signature key. A stranger can send it, and it is refused by 37."""
+    group = with_capabilities(Group(3), BOTH)
+    group.set_leaf(1, group.leaves[1]._replace(credential=b"\x00\x02" + vector(vector(b"") * put.size(200_000))))
+    return group, external_commit(group, [inline(EXTERNAL_INIT), inline(remove(1))], NO_NODES)
+
+
+@shape
+def resyncs_of_a_long_chain_refused_37(put):
+    """Such commits. The chain may not be read for each."""
+    group, sent = resync_of_a_long_chain(put)
+    return put.replay(group, [sent] * put.size(500), profile="full")
+
+
+@shape
+def queries_of_resyncs_of_a_long_chain(put):
+    """Queries of such commits. The chain may not be read for them either."""
+    group, sent = resync_of_a_long_chain(put)
+    return put.queries(group, [sent] * put.size(500), profile="full")
 
 
 # ---- unmerged leaves

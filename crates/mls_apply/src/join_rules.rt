@@ -2,8 +2,10 @@
 
 ghost use Rattle.std.specs.Prelude.{◌≡◌, ◌≢◌, ◌↔◌, Some, None, Err, IfOk, IfErr, OnOk, option_copied};
 ghost use Rattle.std.specs.List.{list_all};
+ghost use Rattle.mls_nodes.specs.Layout.{credential};
+ghost use Rattle.mls_nodes.specs.StoredLeaf.{IsAfterKeys};
 ghost use Rattle.mls_msgs.specs.declared.framed_content.Sender.TheVariants.{NewMemberCommit};
-ghost use Rattle.mls_apply.specs.JoinRules.{all_items, are_same_certificates, is_external_init, is_join_list, is_join_proposal, is_remove, is_same_credential, is_successor, is_successor_if_non_blank, is_value, join_items, join_refusal, valid_if_resync, value_count};
+ghost use Rattle.mls_apply.specs.JoinRules.{all_items, is_external_init, is_join_list, is_join_proposal, is_remove, is_same_credential, is_successor, is_successor_if_non_blank, is_value, join_items, join_refusal, valid_if_resync, value_count};
 ghost use Rattle.mls_apply.specs.ProposalRules.{valid_if_psk, valid_if_remove};
 
 use crate::list_item::ListItem;
@@ -11,9 +13,9 @@ use crate::proposal_rules::EpochState;
 use crate::psk_list::{have_distinct_psks, is_valid_psk};
 use crate::refusal::Refusal;
 use mls_msgs::{Commit, Proposal, ProposalOrRef, Sender};
-use mls_nodes::{CredentialBody, CredentialRef, EncodedLeaf, GroupContext};
+use mls_nodes::{EncodedLeaf, GroupContext};
 use mls_tree::PublicTree;
-use mls_wire::{ItemsRef, Opaque};
+use mls_wire::{OpaqueRef, Reader, parse_u16};
 use std::alloc::{AllocError, Global};
 
 /// Checks the rules for an external commit before its list is applied: there is a path, and the proposal list satisfies its
@@ -238,36 +240,51 @@ fn are_valid_psks(context: &GroupContext, items: &[ListItem<'_>]) -> bool
         .all(|item| is_valid_if_psk(context, item.proposal))
 }
 
-/// Returns whether two chains have equal certificates, in one order.
-fn are_same_certificates(chain: &ItemsRef<'_, Opaque>, other: &ItemsRef<'_, Opaque>) -> bool
-    ensures { result ≡ are_same_certificates chain.now other.now }
+/// Returns a reader of what follows the two keys of a leaf node: its credential first.
+fn after_keys(leaf: &EncodedLeaf) -> Reader<'_>
+    ensures { IsAfterKeys leaf.now result }
 {
-    chain.is_same(other)
+    let mut reader = Reader::new(leaf.encoding());
+    let Ok(_) = OpaqueRef::parse(&mut reader) else {
+        unreachable!();
+    };
+    let Ok(_) = OpaqueRef::parse(&mut reader) else {
+        unreachable!();
+    };
+    reader
 }
 
-/// Returns whether two credentials are equal.
-fn is_same_credential(credential: &CredentialRef<'_>, other: &CredentialRef<'_>) -> bool
-    ensures { result ≡ is_same_credential credential.now other.now }
+/// Returns the bytes that encode the credential of a leaf node. No certificate is read: the body of each credential is a
+/// vector (RFC 9420, 5.3).
+fn credential_bytes(leaf: &EncodedLeaf) -> &[u8]
+    ensures { credential leaf.now.credential ≡ Some result.now }
 {
-    match (credential.body(), other.body()) {
-        (CredentialBody::Basic(identity), CredentialBody::Basic(other)) => {
-            identity.as_slice() == other.as_slice()
-        }
-        (CredentialBody::X509(chain), CredentialBody::X509(other)) => {
-            are_same_certificates(chain, other)
-        }
-        _ => false,
-    }
+    let mut reader = after_keys(leaf);
+    let bytes = reader.left();
+    let Ok(_) = parse_u16(&mut reader) else {
+        unreachable!();
+    };
+    let Ok(_) = OpaqueRef::parse(&mut reader) else {
+        unreachable!();
+    };
+    &bytes[..bytes.len() - reader.left().len()]
 }
 
-/// Returns whether a leaf node may replace a removed one. Its encryption key differs, and its credential or its signature
-/// key is equal.
+/// Returns whether two leaf nodes have equal credentials. Their encodings are compared: first the lengths, then the bytes up to
+/// the first that differs.
+fn have_same_credential(old: &EncodedLeaf, leaf: &EncodedLeaf) -> bool
+    ensures { result ≡ is_same_credential old.now.credential leaf.now.credential }
+{
+    credential_bytes(old) == credential_bytes(leaf)
+}
+
+/// Returns whether a leaf node may replace a removed one. Its encryption key differs, and its signature key or its
+/// credential is equal.
 fn is_successor(old: &EncodedLeaf, leaf: &EncodedLeaf) -> bool
     ensures { result ≡ is_successor old.now leaf.now }
 {
     old.encryption_key() != leaf.encryption_key()
-        && (is_same_credential(&old.credential(), &leaf.credential())
-            || old.signature_key() == leaf.signature_key())
+        && (old.signature_key() == leaf.signature_key() || have_same_credential(old, leaf))
 }
 
 /// Returns whether a leaf node may replace a removed one, if that is non-blank.

@@ -12,9 +12,9 @@ ghost use Rattle.mls_index.specs.KeyTableInternal.{AddsOnly, AreDistinctOrFinger
 ghost use Rattle.mls_index.specs.declared.node_key.KeyKind.{KeyKind};
 
 use crate::changed_leaves::smaller;
+use crate::long_keys::LongKeys;
 use crate::node_key::{
-    KeyKind, KeyNumber, fingerprint_at, has_key_but, is_number, key_at_node, node_index_count,
-    number_at, prefix_at,
+    KeyKind, KeyNumber, has_key_but, is_number, key_at_node, node_index_count, number_at, prefix_at,
 };
 use crate::numbers::Numbers;
 use mls_nodes::{fingerprint, key_prefix};
@@ -36,6 +36,8 @@ pub(crate) struct KeyTable {
     numbers: Numbers,
     /// The entries that were added to those of the base tree.
     came: Vec<(u64, u32)>,
+    /// The long keys of parents, which are hashed once.
+    long_keys: LongKeys,
 }
 
 /// Returns whether no two entries have the same number. Nothing is proved of `false`, which costs only that keys are hashed.
@@ -156,12 +158,14 @@ impl KeyTable {
     ) -> Result<KeyTable, AllocError>
         ensures { IfOk result (IsTableOf (number_at choice kind tree.now.tree)) }
     {
+        let long_keys = LongKeys::of(alloc, tree, kind)?;
         let KeyList { entries, numbers } = KeyList::of(alloc, tree, kind, choice)?;
         let entries = BTreeSet::from_iter(alloc, entries)?;
         Ok(KeyTable {
             entries,
             numbers,
             came: Vec::new(alloc),
+            long_keys,
         })
     }
 
@@ -231,7 +235,8 @@ impl KeyTable {
     {
         let mut rest = node_indices;
         while let Some((node_index, tail)) = rest.split_first() {
-            self.insert_at(fingerprint_at(tree, kind, *node_index), *node_index)?;
+            let number = self.long_keys.stage(tree, kind, *node_index)?;
+            self.insert_at(number, *node_index)?;
             rest = tail;
         }
         Ok(())
@@ -272,7 +277,7 @@ impl KeyTable {
         ensures entered { TableContainsKeys kind tree.now.tree self.now
             → (b : ℕ) → result ≡ Some b → has_entry self.now.entries b node_index ≡ true }
     {
-        let Some(number) = fingerprint_at(tree, kind, node_index) else {
+        let Some(number) = self.long_keys.fingerprint_at(tree, kind, node_index) else {
             return None;
         };
         if self.entries.contains(&(number, node_index)) {
@@ -294,6 +299,7 @@ impl KeyTable {
         let left = self.numbers.get(index);
         leave_entry(&mut self.entries, left, number, node_index);
         self.numbers.set(index, number);
+        self.long_keys.accept(node_index, number);
     }
 
     /// Stores the numbers of the keys at these node indices of a tree.
@@ -314,6 +320,7 @@ impl KeyTable {
         while let Some((number, node_index)) = self.came.pop() {
             let now = self.stored_at(node_index);
             leave_entry(&mut self.entries, Some(number), now, node_index);
+            self.long_keys.revert(node_index);
         }
     }
 
@@ -333,6 +340,7 @@ impl KeyTable {
     {
         while let Some((number, node_index)) = self.came.pop() {
             self.entries.remove(&(number, node_index));
+            self.long_keys.revert(node_index);
         }
     }
 
@@ -394,7 +402,7 @@ impl KeyTable {
         let Some(key) = key_at_node(tree, kind, node_index) else {
             return None;
         };
-        let Some(number) = fingerprint_at(tree, kind, node_index) else {
+        let Some(number) = self.long_keys.fingerprint_at(tree, kind, node_index) else {
             unreachable!();
         };
         self.first_with(tree, kind, key, number, Some(node_index))

@@ -14,6 +14,7 @@ mod credential_counts;
 mod key_table;
 pub mod laws;
 mod leaf_credentials;
+mod long_keys;
 mod node_key;
 mod numbers;
 mod tree_index;

@@ -21,9 +21,10 @@ use std::alloc::Global;
 /// a credential of each type and do not support one (RFC 9420, 7.3). With it a key is looked up, and credential types
 /// are compared, without visiting the tree.
 ///
-/// The index has an entry for each key: its number and its node index. It has no copy of the key. If the keys of a kind
-/// had different 8-byte prefixes when the index was made, their numbers are these prefixes. Otherwise, and for each key
-/// that was added since, the number is the fingerprint: the first eight bytes of the key's SHA-256.
+/// The index has an entry for each key: its number and its node index. If the keys of a kind had different 8-byte prefixes
+/// when the index was made, their numbers are these prefixes. Otherwise, and for each key that was added since, the number
+/// is the fingerprint: the first eight bytes of the key's SHA-256. The index has no copy of a key, except of a parent's key
+/// of more than 2,048 bytes: such a key is hashed once, and then compared with its copy.
 ///
 /// A look-up searches the sorted entries for the prefix and for the fingerprint of the key. It compares the key with that
 /// of each entry found. Whoever chooses the keys, these are few. When the index is made, no two entries of a kind have the
@@ -44,7 +45,8 @@ pub struct TreeIndex {
 }
 
 impl TreeIndex {
-    /// Returns the index of a tree. It takes some 115 bytes for each leaf of a full tree.
+    /// Returns the index of a tree. It takes some 115 bytes for each leaf of a full tree, and the bytes of the parents' keys
+    /// of more than 2,048 bytes.
     pub fn of(alloc: Global, tree: &PublicTree) -> Result<TreeIndex, OutOfMemory>
         ensures { IfOk result (IsIndexOf tree.now.tree) }
     {

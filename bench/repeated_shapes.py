@@ -116,9 +116,10 @@ def joins_below_many_required_types_refused_25(put):
 
 @shape
 def queries_of_joins_below_many_required_types(put):
-    """Queries of the commits of the shape above. What is required may not be read for them."""
+    """A few queries of the commits of the shape above. Each signs the whole GroupContext (RFC 9420, 6.1), which is read for its
+    signature. What is required may not be read besides."""
     group = requiring(put)
-    return put.queries(group, [joins_without_a_required_type(group)] * put.size(2_000), profile="full")
+    return put.queries(group, [joins_without_a_required_type(group)] * 200, profile="full")
 
 
 @shape

@@ -18,6 +18,7 @@ mod followers;
 mod group;
 mod inputs;
 mod output;
+mod packages;
 mod reports;
 mod signatures;
 mod states;
@@ -28,13 +29,14 @@ use crate::followers::{Taking, met_rules, write_added, write_answers};
 use crate::group::{
     ADD_ANSWERS, ADD_COMMIT, ADD_RECEIPTS, CLIENT_PROPOSAL, COMMIT, DATA_ANSWERS, DATA_COMMIT,
     DATA_PROPOSAL, DATA_RECEIPTS, EXTENSIONS_ANSWERS, EXTENSIONS_COMMIT, EXTENSIONS_RECEIPTS,
-    FULL_COMMIT, FULL_STATE, GROUP_INFO, JOIN_ANSWERS, JOIN_COMMIT, JOIN_RECEIPTS, NEXT_STATE,
-    PATH_ANSWERS, PATH_COMMIT, PATH_RECEIPTS, PROPOSAL, REMOVE_COMMIT, RESYNC_COMMIT,
-    SECOND_ADD_COMMIT, START_RECEIPTS, STRICT_STATE, TIMED_ANSWERS, TIMED_COMMIT, TIMED_PROPOSAL,
-    TIMED_RECEIPTS, TWO_PENDING_STATE,
+    FULL_COMMIT, FULL_STATE, GROUP_INFO, JOIN_ANSWERS, JOIN_COMMIT, JOIN_RECEIPTS, KEY_PACKAGE,
+    NEXT_STATE, PACKAGE_RECEIPTS, PATH_ANSWERS, PATH_COMMIT, PATH_RECEIPTS, PROPOSAL,
+    REMOVE_COMMIT, RESYNC_COMMIT, SECOND_ADD_COMMIT, START_RECEIPTS, STRICT_STATE, TIMED_ANSWERS,
+    TIMED_COMMIT, TIMED_PROPOSAL, TIMED_RECEIPTS, TWO_PENDING_STATE,
 };
 use crate::inputs::{read_message, read_receipts};
 use crate::output::{Output, Stop};
+use crate::packages::check_alone;
 use crate::reports::{Report, write_report};
 use crate::signatures::write_start_signatures;
 use crate::states::write_stored;
@@ -54,6 +56,7 @@ enum Call {
     Receipts,
     Validate(Validator),
     StartSignatures,
+    CheckPackage(&'static str, &'static str),
     Follow(&'static [&'static str], &'static str),
     FollowAt(u64, &'static [&'static str], &'static str),
     FollowInFull(&'static [&'static str], &'static str),
@@ -95,6 +98,16 @@ const CALLS: &[(&str, Call, &str)] = &[
         "start_signatures, of a group info and a tree of four members",
         Call::StartSignatures,
         START_RECEIPTS,
+    ),
+    (
+        "check_package of a key package",
+        Call::CheckPackage(KEY_PACKAGE, PACKAGE_RECEIPTS),
+        "2ecb8b18295924eead626e0aeaf767ebefa71136bd7e54db65cb6132a1b4968a",
+    ),
+    (
+        "check_package of a key package without receipts",
+        Call::CheckPackage(KEY_PACKAGE, ""),
+        "2 signatures that are not good",
     ),
     (
         "Follower::start, signatures_to_verify and take, to a commit with a path",
@@ -232,6 +245,7 @@ fn make(alloc: Global, call: Call) -> Result<Output, Stop> {
         Call::Receipts => read_receipts(alloc),
         Call::Validate(validator) => validate(alloc, validator),
         Call::StartSignatures => write_start_signatures(alloc),
+        Call::CheckPackage(message, receipts) => check_alone(alloc, message, receipts),
         Call::Follow(messages, receipts) => {
             let taking = Taking::untimed(Rules::plain(), Profile::Members);
             write_answers(alloc, taking, messages, receipts)

@@ -3,7 +3,7 @@
 //! The libraries have no tests of their own, since a crate with tests is proved twice. A proof covers what contracts
 //! say; docs/TESTING.md says what is tested, and how. Here are the examples whose arguments or results have no bytes:
 //! devices that fail, journals, cached hashes, indexes, and inputs at the limits. Here are also sets of strict rules, and
-//! those that are added to a follower or asked of a single tree.
+//! those that are added to a follower or asked of a single tree, and KeyPackages by themselves.
 //!
 //! Expected values are worked out by hand from the RFC's text, and are never what the libraries returned.
 #![tactic(auto)]
@@ -26,6 +26,8 @@ mod large_inputs;
 mod limits;
 #[cfg(test)]
 mod notation;
+#[cfg(test)]
+mod packages;
 #[cfg(test)]
 mod replay_devices;
 #[cfg(test)]

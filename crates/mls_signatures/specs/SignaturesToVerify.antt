@@ -67,6 +67,12 @@ abbrev pub package_signatures : ℕ → KeyPackage → List SignatureToVerify
 package_signatures suite k =
     labeled_signatures suite k.leaf_node.signature_key package_label (package_tbs k) k.signature
 
+-- `key_package_signatures k` is the signatures of a KeyPackage in any group of its cipher suite: that of its leaf node, then its
+-- own (RFC 9420, 7.2 and 10.1). What the leaf node of a KeyPackage signs has no group id and no leaf index.
+abbrev pub key_package_signatures : KeyPackage → List SignatureToVerify
+key_package_signatures k =
+    leaf_signatures k.cipher_suite [] 0 k.leaf_node ++ package_signatures k.cipher_suite k
+
 -- `framed_content_signatures context key a` is the signature of an AuthenticatedContent under a key. `signed_context` says
 -- whether the GroupContext is signed too (RFC 9420, 6.1).
 abbrev pub framed_content_signatures : GroupContext → List ℕ → AuthenticatedParts → List SignatureToVerify

@@ -3,7 +3,8 @@
 //!
 //! [`start_signatures`] and [`message_signatures`] return them without duplicates, for a caller that verifies them
 //! elsewhere. [`info_signatures`] and [`leaf_signatures`] return those of a start one at a time. [`resumption_signatures`]
-//! returns those of a resumption. None verifies a signature. A [`SignatureList`] stores the id of the group once.
+//! returns those of a resumption, [`package_signatures`] those of a KeyPackage by itself. None verifies a signature. A
+//! [`SignatureList`] stores the id of the group once.
 #![tactic(auto)]
 
 mod added_leaves;
@@ -26,7 +27,8 @@ pub use resumption::resumption_signatures;
 pub use signature_list::SignatureList;
 pub use signature_to_verify::SignatureToVerify;
 pub use signatures::{
-    GroupEpoch, info_signatures, leaf_signatures, message_signatures, start_signatures,
+    GroupEpoch, info_signatures, leaf_signatures, message_signatures, package_signatures,
+    start_signatures,
 };
 pub use signing_keys::{
     external_key_among, may_propose, outside_key_among, senders_of, signed_context,

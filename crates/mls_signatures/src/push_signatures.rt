@@ -28,7 +28,7 @@ pub(crate) fn push_leaf_signature(
 ) -> Result<(), OutOfMemory>
     ensures { OnOk result (AppendsSignatures list.old (leaf_signatures context.now.cipher_suite context.now.group_id index leaf.now) list.new) }
 {
-    let signature = leaf_signature(alloc, context, index, leaf)?;
+    let signature = leaf_signature(alloc, context.cipher_suite, &context.group_id, index, leaf)?;
     list.push_optional(alloc, signature)
 }
 

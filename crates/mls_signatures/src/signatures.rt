@@ -6,7 +6,7 @@ ghost use Rattle.mls_nodes.specs.ExternalSenders.{senders_by};
 ghost use Rattle.mls_tree.specs.Tree.{leaf_at};
 ghost use Rattle.mls_apply.specs.Staged.{IsSettled};
 ghost use Rattle.mls_signatures.specs.AddedLeaves.{AppendsSignatures};
-ghost use Rattle.mls_signatures.specs.SignaturesToVerify.{all_message_signatures, authenticated_signatures, info_signatures, join_content_signatures, member_signatures, message_signatures, non_blank_leaf_signatures, outside_content_signatures, outside_proposal_signatures, outside_signatures, sender_signatures, start_signatures};
+ghost use Rattle.mls_signatures.specs.SignaturesToVerify.{all_message_signatures, authenticated_signatures, info_signatures, join_content_signatures, key_package_signatures, member_signatures, message_signatures, non_blank_leaf_signatures, outside_content_signatures, outside_proposal_signatures, outside_signatures, sender_signatures, start_signatures};
 ghost use Rattle.mls_signatures.specs.SigningKeys.{outside_key};
 
 use crate::commit_signatures::{MemberCommit, push_commit_signatures};
@@ -17,12 +17,15 @@ use crate::push_signatures::{
 use crate::signature_list::SignatureList;
 use crate::signature_to_verify::SignatureToVerify;
 use crate::signing_keys::{may_propose, outside_key_among};
-use crate::single_signatures::{info_signature, non_blank_leaf_signature};
+use crate::single_signatures::{
+    info_signature, leaf_signature, non_blank_leaf_signature, package_signature,
+};
 use mls_apply::{PendingProposals, StagedTree};
 use mls_check::OutOfMemory;
-use mls_msgs::{Authenticated, Content, GroupInfo, Message, Profile, Proposal, Sender};
+use mls_msgs::{Authenticated, Content, GroupInfo, KeyPackage, Message, Profile, Proposal, Sender};
 use mls_nodes::{ExternalSenders, GroupContext};
 use mls_tree::PublicTree;
+use mls_wire::Opaque;
 use std::alloc::Global;
 
 /// Returns the signatures of a start from a GroupInfo and a tree (RFC 9420, 12.4.3.1), without duplicates: the GroupInfo's,
@@ -100,6 +103,31 @@ pub fn leaf_signatures(
 {
     let signature = non_blank_leaf_signature(alloc, context, tree, index)?;
     list_of(alloc, signature)
+}
+
+/// Returns the signatures of a KeyPackage in any group of its cipher suite: that of its leaf node, then its own (RFC 9420, 7.2
+/// and 10.1). What the leaf node of a KeyPackage signs has no group id and no leaf index. A signature is left out if what is
+/// signed has no encoding.
+///
+/// # Errors
+///
+/// [`OutOfMemory`].
+pub fn package_signatures(
+    alloc: Global,
+    key_package: &KeyPackage,
+) -> Result<Vec<SignatureToVerify>, OutOfMemory>
+    ensures { IfOk result (λ v. v.items ≡ key_package_signatures key_package.now) }
+{
+    let Ok(group_id) = Opaque::new(Vec::new(alloc)) else {
+        unreachable!();
+    };
+    let suite = key_package.cipher_suite;
+    let signature = leaf_signature(alloc, suite, &group_id, 0, &key_package.leaf_node)?;
+    let mut list = list_of(alloc, signature)?;
+    if let Some(signature) = package_signature(alloc, suite, key_package)? {
+        list.push(signature)?;
+    }
+    Ok(list)
 }
 
 /// What the signatures of a message depend on besides the tree.

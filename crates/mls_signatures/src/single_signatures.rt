@@ -14,7 +14,7 @@ use mls_msgs::{
 };
 use mls_nodes::{EncodedLeaf, GroupContext, leaf_tbs};
 use mls_tree::PublicTree;
-use mls_wire::{CodecFault, Sequence};
+use mls_wire::{CodecFault, Opaque, Sequence};
 use std::alloc::Global;
 
 /// A signature with what it is verified by, except for what is signed: the cipher suite, the public key and the label.
@@ -51,23 +51,24 @@ fn signature_over(
     }))
 }
 
-/// Returns the signature of a leaf node of the group (RFC 9420, 7.2).
+/// Returns the signature of a leaf node of a group with this cipher suite and group id (RFC 9420, 7.2).
 pub(crate) fn leaf_signature(
     alloc: Global,
-    context: &GroupContext,
+    suite: u16,
+    group_id: &Opaque,
     index: u32,
     leaf: &EncodedLeaf,
 ) -> Result<Option<SignatureToVerify>, OutOfMemory>
     ensures { IfOk result (λ o. option_to_list o
-        ≡ leaf_signatures context.now.cipher_suite context.now.group_id index leaf.now) }
+        ≡ leaf_signatures suite group_id.now index leaf.now) }
 {
-    let tbs = match leaf_tbs(alloc, leaf, &context.group_id, index) {
+    let tbs = match leaf_tbs(alloc, leaf, group_id, index) {
         Ok(tbs) => tbs,
         Err(CodecFault::Wire(_)) => return Ok(None),
         Err(CodecFault::OutOfMemory) => return Err(OutOfMemory),
     };
     let signed = Labeled {
-        suite: context.cipher_suite,
+        suite,
         key: leaf.signature_key(),
         label: LEAF_NODE_TBS,
         signature: leaf.signature(),
@@ -89,7 +90,7 @@ pub(crate) fn non_blank_leaf_signature(
     let Some(leaf) = tree.leaf(index) else {
         return Ok(None);
     };
-    leaf_signature(alloc, context, index, leaf)
+    leaf_signature(alloc, context.cipher_suite, &context.group_id, index, leaf)
 }
 
 /// Returns the signature of a GroupInfo, if its signer's leaf is non-blank (RFC 9420, 12.4.3).

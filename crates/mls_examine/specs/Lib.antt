@@ -1,0 +1,4 @@
+pub mod Packages
+pub mod PackagesInternal
+pub mod UnfitNumbers
+pub mod PackageLaws

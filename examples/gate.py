@@ -1,11 +1,14 @@
 #!/usr/bin/env python3
 """Drives the live gate: `mlscheck gate` processes each message of a log, and the signatures are verified here.
 
-    gate.py [--forge] --info FILE [--tree FILE] [--profile PROFILE] --log FILE [--save FILE] [--receipts FILE]
-    gate.py [--forge] --state FILE --log FILE [--save FILE] [--receipts FILE]
+    gate.py [--strict [--allow NUMBERS]] [--forge] --info FILE [--tree FILE] [--profile PROFILE] --log FILE [--save FILE]
+            [--receipts FILE]
+    gate.py [--strict [--allow NUMBERS]] [--forge] --state FILE --log FILE [--save FILE] [--receipts FILE]
 
 The class `Gate` is all that a service needs. It queries the gate for the signatures of a message, verifies them, sends the
 receipts of the good ones, and sends the message. The gate's answer to each message is printed.
+
+With `--strict` the gate asks the strict rules too, as a service should, but for those that `--allow` names.
 
 With `--save` the state after the log is stored in a file, from which a later run begins with `--state`. With `--receipts`
 the receipts of the good signatures are written into a file, for `mlscheck replay`.
@@ -132,6 +135,8 @@ def save(state, path):
 def words_of_main():
     parser = argparse.ArgumentParser(description="Drives the live gate over a log, and verifies the signatures.")
     parser.add_argument("--forge", action="store_true", help="send each message forged first")
+    parser.add_argument("--strict", action="store_true", help="ask the strict rules too")
+    parser.add_argument("--allow", metavar="NUMBERS", help="strict rules that are not asked, as 46,47")
     for name in ("info", "tree", "state", "save", "receipts"):
         parser.add_argument("--" + name, metavar="FILE")
     parser.add_argument("--profile", choices=["members", "full"])
@@ -141,10 +146,11 @@ def words_of_main():
 
 def main():
     words = words_of_main()
-    files = [(name, getattr(words, name)) for name in ("info", "tree", "state", "profile")]
+    given = [(name, getattr(words, name)) for name in ("info", "tree", "state", "profile", "allow")]
+    options = [word for name, value in given if value for word in ("--" + name, value)]
     with open(words.log, "rb") as log:
         messages = list(records(log.read()))
-    gate = Gate(*(word for name, path in files if path for word in ("--" + name, path)))
+    gate = Gate(*options, *(["--strict"] if words.strict else []))
     first = gate.begin()
     print(first)
     if not first.startswith("ready "):

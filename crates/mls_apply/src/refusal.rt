@@ -139,7 +139,7 @@ pub enum Refusal {
     /// A strict rule of the follower's set is not met (own rule). These are checked after the rules of the profile.
     #[error("{0}")]
     Strict(StrictRule),
-    /// The message adds a client by a KeyPackage whose lifetime does not include the time that was handed in (RFC 9420, 7.2
+    /// The message adds a client by a KeyPackage whose lifetime does not include the time that was passed (RFC 9420, 7.2
     /// and 10.1). It is the last to be checked.
     #[error("an added key package is not valid at this time")]
     LifetimeOutside,

@@ -1,6 +1,7 @@
 -- Entries of a number and a node index, in sets and in lists.
-use Rattle.std.proofs.Common.{◌≡◌, ◌≢◌, ◌∙◌, ◌⊎◌, ℕ, ◌<◌, ◌≤◌, List, [], ◌∷◌, ◌++◌, Bool, true, false, cond, eqb, inl, inr, refl, sym, ap, subst, arith, BTreeSet}
+use Rattle.std.proofs.Common.{◌≡◌, ◌≢◌, ◌∙◌, ◌⊎◌, ℕ, ◌<◌, ◌≤◌, List, [], ◌∷◌, ◌++◌, Bool, true, false, not, cond, eqb, inl, inr, refl, sym, ap, subst, arith, BTreeSet}
 use Rattle.std.specs.Prelude.{◌||◌, ◌&&◌}
+use Rattle.std.specs.Bool.{OnFalse}
 use Rattle.std.specs.List.{list_any, filter, AllByRecursion}
 use Rattle.std.specs.List.Sorted.{IsStrictlySortedBy}
 use Rattle.std.specs.BTreeSet.{contains, IsFromIterResult, Updates, IsUnchanged, keys_between}
@@ -8,13 +9,13 @@ use Rattle.std.specs.BTreeMap.{is_at}
 use Rattle.std.specs.BTreeMap.Range.{range_contains}
 use Rattle.std.specs.declared.cmp.Ordering.TheVariants.{Less}
 use Rattle.std.specs.declared.ops.Bound.{Bound}
-use Rattle.std.specs.declared.ops.Bound.TheVariants.{Included}
+use Rattle.std.specs.declared.ops.Bound.TheVariants.{Included, Unbounded}
 use Rattle.std.proofs.lemmas.Bool.{cases_Bool, cases_eq, false≢true, and_parts}
 use Rattle.std.proofs.lemmas.Bool.Decides.{nat_tests}
 use Rattle.std.proofs.lemmas.List.Folds.{list_any-append}
 use Rattle.std.proofs.lemmas.Map.Keys.{sorted_head, sorted_tail}
 use Rattle.mls_index.specs.IncrementalCheck.{contains_node_index}
-use Rattle.mls_index.specs.KeyTable.{entry_cmp, has_entry, contains_entry}
+use Rattle.mls_index.specs.EntryTable.{entry_cmp, has_entry, contains_entry}
 
 -- ---- one entry
 
@@ -76,6 +77,23 @@ pub contained : (s : BTreeSet (ℕ × ℕ)) (b p : ℕ) (v : Bool) → contains 
 unfolding has_entry
 contained s b p v e = e
 
+pub empty-entries : (s : BTreeSet (ℕ × ℕ)) → s.keys ≡ [] → (b p : ℕ) → has_entry s b p ≡ false
+unfolding has_entry
+empty-entries s e b p = ap (list_any (is_at (entry_cmp (b, p)))) e
+
+pub if_not : (v : Bool) → not v ≡ false → v ≡ true
+if_not true e = refl
+if_not false e = absurd (false≢true (sym e))
+
+-- what an insertion says: whether the entry is new
+pub if_old : (added : Bool) (P : Type 0) → added ≡ false → OnFalse added P → P
+if_old true P old h = absurd (false≢true (sym old))
+if_old false P old h = h
+
+pub if_new : (added had : Bool) → added ≡ true → added ≡ not had → had ≡ false
+if_new added true new e = absurd (false≢true (sym e ∙ new))
+if_new added false new e = refl
+
 -- ---- lists of entries
 
 pub or_right : (a : Bool) → (a || true) ≡ true
@@ -98,13 +116,13 @@ own p = grind (arith, nat_tests)
 pub equal : (p q : ℕ) → eqb p q ≡ true → p ≡ q
 equal p q e = grind (arith, nat_tests)
 
-abbrev is_entry : ℕ → ℕ → ℕ × ℕ → Bool
+abbrev pub is_entry : ℕ → ℕ → ℕ × ℕ → Bool
 is_entry b p e = eqb e.0 b && eqb e.1 p
 
 is_entry-same : (b p : ℕ) (e : ℕ × ℕ) → is_entry b p e ≡ true → (e.0 ≡ b) × (e.1 ≡ p)
 is_entry-same b p e h = let parts = and_parts (eqb e.0 b) (eqb e.1 p) h in (equal e.0 b parts.0, equal e.1 p parts.1)
 
-is_entry-own : (b p : ℕ) → is_entry b p (b, p) ≡ true
+pub is_entry-own : (b p : ℕ) → is_entry b p (b, p) ≡ true
 is_entry-own b p = and_both (eqb b b) (eqb p p) (own b) (own p)
 
 pub lists-nil : (es : List (ℕ × ℕ)) → es ≡ [] → (b p : ℕ) → contains_entry es b p ≡ true → ⊥
@@ -230,7 +248,7 @@ AreIncreasing b [] = Unit {0}
 AreIncreasing b (e ∷ es) = RisesFrom b e es × AreIncreasing b es
 
 -- an entry before others of a list is below what a filter lets through
-below_listed : (k : ℕ × ℕ) (test : ℕ × ℕ → Bool) (ks : List (ℕ × ℕ)) → AllByRecursion (λ y. entry_cmp k y ≡ Less) ks
+pub below_listed : (k : ℕ × ℕ) (test : ℕ × ℕ → Bool) (ks : List (ℕ × ℕ)) → AllByRecursion (λ y. entry_cmp k y ≡ Less) ks
     → (b q : ℕ) → contains_entry (filter test ks) b q ≡ true → entry_cmp k (b, q) ≡ Less
 unfolding contains_entry
 below_listed k test [] h b q on = absurd (false≢true on)
@@ -273,6 +291,19 @@ increasing_first s b lo hi r sorted is from to =
 
 pub increasing_more : (b : ℕ) (e : ℕ × ℕ) (all rest : List (ℕ × ℕ)) → all ≡ e ∷ rest → AreIncreasing b all → AreIncreasing b rest
 increasing_more b e all rest cut h = (subst (AreIncreasing b) cut h).1
+
+-- ---- the first entry of a number, or above it
+
+passes_from : (b q : ℕ) → range_contains entry_cmp (Included (b, 0)) Unbounded (b, q) ≡ true
+passes_from b q = grind (arith, nat_tests)
+
+-- an entry of a number is in the range from it
+pub in_from : (s : BTreeSet (ℕ × ℕ)) (b q : ℕ) → has_entry s b q ≡ true → contains_entry (keys_between entry_cmp (Included (b, 0)) Unbounded s) b q ≡ true
+unfolding has_entry contains_entry
+in_from s b q has = filtered (range_contains entry_cmp (Included (b, 0)) Unbounded) b q (passes_from b q) s.keys has
+
+pub no_first : (s : BTreeSet (ℕ × ℕ)) (b : ℕ) → keys_between entry_cmp (Included (b, 0)) Unbounded s ≡ [] → (q : ℕ) → has_entry s b q ≡ true → ⊥
+no_first s b none q has = lists-nil (keys_between entry_cmp (Included (b, 0)) Unbounded s) none b q (in_from s b q has)
 
 -- ---- a search among them
 

@@ -1,7 +1,7 @@
 -- The index of a tree, by its tables.
 use Rattle.mls_index.specs.TreeIndex.{IndexHasBase, IndexContainsKeys}
 use Rattle.mls_index.specs.declared.node_key.KeyKind.TheVariants.{Encryption, Signature}
-use Rattle.mls_index.proofs.Tables.{table-base, between-covers}
+use Rattle.mls_index.proofs.KeyTables.{table-base, between-covers}
 use Rattle.mls_index.proofs.Counting.{counts-base}
 
 pub index_between : IndexHasBase

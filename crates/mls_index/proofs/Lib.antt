@@ -4,6 +4,7 @@ pub mod Entries
 pub mod Meeting
 pub mod OptionalNumbers
 pub mod Tables
+pub mod KeyTables
 pub mod Lookups
 pub mod Indexes
 pub mod Fitting

@@ -11,14 +11,16 @@ use Rattle.mls_nodes.specs.KeyPrefix.{key_prefix}
 use Rattle.mls_index.specs.FirstChanged.{smaller}
 use Rattle.mls_index.specs.FirstIndex.{FindsFirst}
 use Rattle.mls_index.specs.NodeKeys.{key_at_node, HasKey, IsUniqueKey}
-use Rattle.mls_index.specs.KeyTable.{has_entry, contains_entry, TableContainsKeys}
+use Rattle.mls_index.specs.EntryTable.{has_entry, contains_entry}
+use Rattle.mls_index.specs.KeyTable.{TableContainsKeys}
 use Rattle.mls_index.specs.RepeatedKeys.{ShareKey}
 use Rattle.mls_index.specs.RepeatedKeysInternal.{FindsAmong, FindsOther, HasKeyBut}
 use Rattle.mls_index.specs.declared.node_key.KeyKind.{KeyKind}
 use Rattle.mls_index.specs.declared.key_table.KeyTable.{KeyTable}
 use Rattle.mls_index.proofs.Entries.{IsSought, AreIncreasing, sought-all, lists-first}
 use Rattle.mls_index.proofs.Fitting.{never, always}
-use Rattle.mls_index.proofs.Tables.{key-low, entry_cases}
+use Rattle.mls_index.proofs.Tables.{key-low, entered-entry}
+use Rattle.mls_index.proofs.KeyTables.{number_cases}
 
 -- ---- the entries of one number
 
@@ -75,13 +77,32 @@ module _ (P E F : ℕ → Type 0) (both : (i : ℕ) → P i → E i ⊎ F i) whe
         rw e (record { holds = f.holds; smaller = λ k low. neither k (f.smaller k low) (g.smaller k (omega (arith, low, past))) }))
   ]
 
-pub first_of_both : (kind : KeyKind) (t : Tree) (k : KeyTable) (key : List ℕ) (but o p : Option ℕ) → TableContainsKeys kind t k
-    → FindsAmong (IsEntered k.entries (key_prefix key)) (HasKeyBut kind t key but) o
-    → FindsAmong (IsEntered k.entries (fingerprint key)) (HasKeyBut kind t key but) p
-    → FindsFirst (HasKeyBut kind t key but) (smaller o p)
-first_of_both kind t k key but o p covers f g =
-    smaller_among (HasKeyBut kind t key but) (IsEntered k.entries (key_prefix key)) (IsEntered k.entries (fingerprint key))
-    (λ q h. entry_cases k.entries key q (covers.entries key q h.there)) o p f g
+-- each number with the property is among them
+all_among : (P E : ℕ → Type 0) → ((i : ℕ) → P i → E i) → (o : Option ℕ) → FindsAmong E P o → FindsFirst P o
+all_among P E all None f = λ i p. f i (all i p) p
+all_among P E all (Some i) f = record { holds = f.holds; smaller = λ j low p. f.smaller j low (all j p) p }
+
+module _ (kind : KeyKind) (t : Tree) (k : KeyTable) (key : List ℕ) (but : Option ℕ) (covers : TableContainsKeys kind t k) where
+  in_one : (q : ℕ) → HasKeyBut kind t key but q → IsEntered k.prefixes.entries (key_prefix key) q ⊎ IsEntered k.fingerprints.entries (fingerprint key) q
+  in_one q h = elim (number_cases k key q (covers key q h.there)) [
+    | inl prefix ↦ inl (entered-entry k.prefixes (key_prefix key) q prefix)
+    | inr other ↦ inr (entered-entry k.fingerprints (fingerprint key) q other)
+  ]
+
+  pub first_of_both : (o p : Option ℕ) → FindsAmong (IsEntered k.prefixes.entries (key_prefix key)) (HasKeyBut kind t key but) o
+      → FindsAmong (IsEntered k.fingerprints.entries (fingerprint key)) (HasKeyBut kind t key but) p
+      → FindsFirst (HasKeyBut kind t key but) (smaller o p)
+  first_of_both o p f g =
+      smaller_among (HasKeyBut kind t key but) (IsEntered k.prefixes.entries (key_prefix key)) (IsEntered k.fingerprints.entries (fingerprint key)) in_one o p f g
+
+  -- no entry has a fingerprint
+  pub first_of_prefixes : (o : Option ℕ) → ((b p : ℕ) → has_entry k.fingerprints.entries b p ≡ false)
+      → FindsAmong (IsEntered k.prefixes.entries (key_prefix key)) (HasKeyBut kind t key but) o → FindsFirst (HasKeyBut kind t key but) o
+  first_of_prefixes o none f =
+      all_among (HasKeyBut kind t key but) (IsEntered k.prefixes.entries (key_prefix key)) (λ q h. elim (in_one q h) [
+        | inl prefix ↦ prefix
+        | inr other ↦ absurd (false≢true (sym (none (fingerprint key) q) ∙ other))
+      ]) o f
 
 -- ---- answers
 

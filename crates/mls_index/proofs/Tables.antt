@@ -1,26 +1,25 @@
--- The steps by which tables of keys are made, and by which keys come and go.
-use Rattle.std.proofs.Common.{◌≡◌, ◌≢◌, ◌∙◌, ◌⊎◌, ℕ, zero, suc, ◌+◌, ◌*◌, ◌<◌, ◌≤◌, List, [], ◌∷◌, ◌++◌, length, true, false, Option, Some, None, eqb, inl, inr, refl, sym, ap, subst, arith, BTreeSet}
-use Rattle.std.specs.Prelude.{◌||◌, option_map, slice_get, slice_set, unwrap_or}
-use Rattle.std.proofs.lemmas.Bool.{cases_Bool, cases_eq, cases_lt, false≢true}
+-- The steps by which tables of entries are made, and by which entries come and go.
+use Rattle.std.proofs.Common.{◌≡◌, ◌≢◌, ◌∙◌, ◌⊎◌, ℕ, zero, suc, ◌+◌, ◌*◌, ◌<◌, ◌≤◌, List, [], ◌∷◌, ◌++◌, length, true, false, Option, Some, None, inl, inr, refl, sym, ap, subst, arith, BTreeSet}
+use Rattle.std.specs.Prelude.{nat_lt, option_map, slice_get, slice_set, unwrap_or}
+use Rattle.std.proofs.lemmas.Bool.{and_parts, cases_Bool, cases_eq, cases_lt, false≢true}
+use Rattle.std.proofs.lemmas.Bool.Decides.{nat_tests}
 use Rattle.std.proofs.lemmas.Option.{none-some, same_Some}
 use Rattle.mls_tree.specs.Tree.{Tree, leaf_count, node_at}
-use Rattle.mls_tree.specs.ChangedNodes.{AgreeExceptAt}
 use Rattle.mls_tree.proofs.Arrays.{slice_get-set_same, slice_get-set_other}
 use Rattle.mls_nodes.specs.Fingerprints.{fingerprint}
 use Rattle.mls_nodes.specs.KeyPrefix.{key_prefix}
 use Rattle.mls_check.specs.DistinctKeys.{encryption_key}
 use Rattle.mls_check.proofs.Repeats.{no_key_above}
-use Rattle.mls_index.specs.NodeKeys.{node_key, key_at_node, fingerprint_at, is_number_of, is_number_for, AreNumbersOf}
-use Rattle.mls_index.specs.IncrementalCheck.{contains_node_index}
-use Rattle.mls_index.specs.KeyTable.{has_entry, has_number, contains_entry, base_at, AddsFingerprints, HasBaseOf, IsTableOf, IsTableOfTree, TableHasBase, TableContainsKeys}
-use Rattle.mls_index.specs.KeyTableInternal.{HasListed, ListsFirst, ListsAll, listed_at, number_at, IsSettling, AddsOnly, HasStaged, HasLeft, HaveFingerprints, ContainsKeysBut}
+use Rattle.mls_index.specs.NodeKeys.{node_key, key_at_node}
+use Rattle.mls_index.specs.EntryTable.{has_entry, contains_entry, base_at, is_entered, HaveDistinctNumbers, IsTableOf, TableHasBase}
+use Rattle.mls_index.specs.EntryTableInternal.{number_at, HasListed, ListsFirst, ListsAll, listed_at, AddsOnly, HasLeft, HasEntered, HasSettled, AreSettled}
 use Rattle.mls_index.specs.declared.node_key.KeyKind.{KeyKind}
 use Rattle.mls_index.specs.declared.node_key.KeyKind.TheVariants.{Encryption, Signature}
 use Rattle.mls_index.specs.declared.node_key.KeyNumber.{KeyNumber}
 use Rattle.mls_index.specs.declared.node_key.KeyNumber.TheVariants.{Prefix, Fingerprint}
-use Rattle.mls_index.specs.declared.key_table.KeyList.{KeyList}
-use Rattle.mls_index.specs.declared.key_table.KeyTable.{KeyTable}
-use Rattle.mls_index.proofs.Entries.{WithEntry, WithoutEntry, or_cases, or_left, or_right, own, equal, lists-nil, lists-kept, lists-last, lists-added, listed-other}
+use Rattle.mls_index.specs.declared.entry_table.KeyList.{KeyList}
+use Rattle.mls_index.specs.declared.entry_table.EntryTable.{EntryTable}
+use Rattle.mls_index.proofs.Entries.{WithEntry, WithoutEntry, lists-nil, lists-kept, lists-last, lists-added, listed-other}
 
 -- ---- keys at places
 
@@ -42,98 +41,15 @@ key-low kind t n p key e is = elim (cases_lt p n) [
   | inr high ↦ absurd (none-some key (sym (key-above kind t n p e high) ∙ is))
 ]
 
--- trees with the same nodes have the same keys
-same_key : (kind : KeyKind) (node_indices : List ℕ) (old new : Tree) → AgreeExceptAt node_indices old new → (p : ℕ) → contains_node_index node_indices p ≡ false
-    → key_at_node kind old p ≡ key_at_node kind new p
-same_key kind node_indices old new same p off = ap (node_key kind) (same p off)
-
--- ---- numbers of keys
-
-prefix-number : (key : List ℕ) → is_number_of key (key_prefix key) ≡ true
-unfolding is_number_of
-prefix-number key = or_left (eqb (key_prefix key) (key_prefix key)) (eqb (key_prefix key) (fingerprint key)) (own (key_prefix key))
-
-fingerprint-number : (key : List ℕ) → is_number_of key (fingerprint key) ≡ true
-unfolding is_number_of
-fingerprint-number key = ap (λ v. eqb (fingerprint key) (key_prefix key) || v) (own (fingerprint key)) ∙ or_right (eqb (fingerprint key) (key_prefix key))
-
--- a number of a key is one of two
-which_number : (key : List ℕ) (b : ℕ) → is_number_of key b ≡ true → (b ≡ key_prefix key) ⊎ (b ≡ fingerprint key)
-unfolding is_number_of
-which_number key b h = elim (or_cases (eqb b (key_prefix key)) (eqb b (fingerprint key)) h) [
-  | inl prefix ↦ inl (equal b (key_prefix key) prefix)
-  | inr other ↦ inr (equal b (fingerprint key) other)
-]
-
-pub prefix-for : (o : Option (List ℕ)) → is_number_for o (option_map key_prefix o) ≡ true
-unfolding is_number_for
-prefix-for None = refl
-prefix-for (Some key) = prefix-number key
-
-pub fingerprint-for : (o : Option (List ℕ)) → is_number_for o (option_map fingerprint o) ≡ true
-unfolding is_number_for
-fingerprint-for None = refl
-fingerprint-for (Some key) = fingerprint-number key
-
-none-for : is_number_for None None ≡ true
-unfolding is_number_for
-none-for = refl
-
--- a key has a number, which is one of two
-some-for : (key : List ℕ) (o : Option ℕ) → is_number_for (Some key) o ≡ true → (o ≡ Some (key_prefix key)) ⊎ (o ≡ Some (fingerprint key))
-unfolding is_number_for
-some-for key None h = absurd (false≢true h)
-some-for key (Some b) h = elim (which_number key b h) [
-  | inl prefix ↦ inl (ap Some prefix)
-  | inr other ↦ inr (ap Some other)
-]
-
--- those that a table is made with
-pub numbers-chosen : (choice : KeyNumber) (kind : KeyKind) (t : Tree) → AreNumbersOf kind t (number_at choice kind t)
-numbers-chosen Prefix kind t p = prefix-for (key_at_node kind t p)
-numbers-chosen Fingerprint kind t p = fingerprint-for (key_at_node kind t p)
-
 number-above : (choice : KeyNumber) (kind : KeyKind) (t : Tree) (p : ℕ) → key_at_node kind t p ≡ None → number_at choice kind t p ≡ None
 number-above Prefix kind t p none = ap (option_map key_prefix) none
 number-above Fingerprint kind t p none = ap (option_map fingerprint) none
-
--- an entry of a number of a key
-number-entry : (s : BTreeSet (ℕ × ℕ)) (key : List ℕ) (o : Option ℕ) (p : ℕ) → is_number_for (Some key) o ≡ true
-    → ((b : ℕ) → o ≡ Some b → has_entry s b p ≡ true) → has_number s key p ≡ true
-unfolding has_number
-number-entry s key o p is has = elim (some-for key o is) [
-  | inl prefix ↦ or_left (has_entry s (key_prefix key) p) (has_entry s (fingerprint key) p) (has (key_prefix key) prefix)
-  | inr other ↦ ap (λ v. has_entry s (key_prefix key) p || v) (has (fingerprint key) other) ∙ or_right (has_entry s (key_prefix key) p)
-]
-
-pub entry_cases : (s : BTreeSet (ℕ × ℕ)) (key : List ℕ) (p : ℕ) → has_number s key p ≡ true
-    → (has_entry s (key_prefix key) p ≡ true) ⊎ (has_entry s (fingerprint key) p ≡ true)
-unfolding has_number
-entry_cases s key p h = or_cases (has_entry s (key_prefix key) p) (has_entry s (fingerprint key) p) h
-
--- the number of the key's entry: its prefix, if there is no entry of its fingerprint
-pub entered-prefix : (s : BTreeSet (ℕ × ℕ)) (keyed : Option (List ℕ)) (p : ℕ) → ((key : List ℕ) → keyed ≡ Some key → has_number s key p ≡ true)
-    → (f b : ℕ) → Some f ≡ option_map fingerprint keyed → has_entry s f p ≡ false → option_map key_prefix keyed ≡ Some b → has_entry s b p ≡ true
-entered-prefix s None p has f b is free prefix = absurd (none-some b prefix)
-entered-prefix s (Some key) p has f b is free prefix = elim (entry_cases s key p (has key refl)) [
-  | inl there ↦ subst (λ c. has_entry s c p ≡ true) (same_Some (key_prefix key) b prefix) there
-  | inr there ↦ absurd (false≢true (sym free ∙ subst (λ c. has_entry s c p ≡ true) (sym (same_Some f (fingerprint key) is)) there))
-]
-
--- entries that remain are those of the key still
-number-kept : (s n : BTreeSet (ℕ × ℕ)) (key : List ℕ) (p : ℕ) → ((b : ℕ) → has_entry s b p ≡ true → has_entry n b p ≡ true)
-    → has_number s key p ≡ true → has_number n key p ≡ true
-unfolding has_number
-number-kept s n key p kept h = elim (entry_cases s key p h) [
-  | inl prefix ↦ or_left (has_entry n (key_prefix key) p) (has_entry n (fingerprint key) p) (kept (key_prefix key) prefix)
-  | inr other ↦ ap (λ v. has_entry n (key_prefix key) p || v) (kept (fingerprint key) other) ∙ or_right (has_entry n (key_prefix key) p)
-]
 
 get-last : (xs : List (Option ℕ)) (o : Option ℕ) → unwrap_or (slice_get (xs ++ o ∷ []) (length xs)) None ≡ o
 get-last [] o = refl
 get-last (x ∷ xs) o = get-last xs o
 
-length-last : (xs : List (Option ℕ)) (o : Option ℕ) → length (xs ++ o ∷ []) ≡ length xs + 1
+pub length-last : (xs : List (Option ℕ)) (o : Option ℕ) → length (xs ++ o ∷ []) ≡ length xs + 1
 length-last [] o = refl
 length-last (x ∷ xs) o = omega (arith, length-last xs o)
 
@@ -153,24 +69,24 @@ get-blank [] (suc p) = refl
 get-blank (x ∷ xs) zero = refl
 get-blank (x ∷ xs) (suc p) = get-blank xs p
 
-pub base-beyond : (k : KeyTable) (p : ℕ) → length k.numbers ≤ p → base_at k p ≡ None
+pub base-beyond : (k : EntryTable) (p : ℕ) → length k.numbers ≤ p → base_at k p ≡ None
 unfolding base_at
 base-beyond k p high = get-beyond k.numbers p high
 
-pub base-same : (k n : KeyTable) → n.numbers ≡ k.numbers → (p : ℕ) → base_at n p ≡ base_at k p
+pub base-same : (k n : EntryTable) → n.numbers ≡ k.numbers → (p : ℕ) → base_at n p ≡ base_at k p
 unfolding base_at
 base-same k n e p = ap (λ xs. unwrap_or (slice_get xs p) None) e
 
-pub base-blank : (k n : KeyTable) → n.numbers ≡ k.numbers ++ None ∷ [] → (p : ℕ) → base_at n p ≡ base_at k p
+pub base-blank : (k n : EntryTable) → n.numbers ≡ k.numbers ++ None ∷ [] → (p : ℕ) → base_at n p ≡ base_at k p
 unfolding base_at
 base-blank k n e p = ap (λ xs. unwrap_or (slice_get xs p) None) e ∙ get-blank k.numbers p
 
-base-set : (k n : KeyTable) (p : ℕ) (o : Option ℕ) → n.numbers ≡ slice_set k.numbers p o → p < length k.numbers
+base-set : (k n : EntryTable) (p : ℕ) (o : Option ℕ) → n.numbers ≡ slice_set k.numbers p o → p < length k.numbers
     → base_at n p ≡ o
 unfolding base_at
 base-set k n p o e low = ap (λ xs. unwrap_or (slice_get xs p) None) e ∙ ap (λ r. unwrap_or r None) (slice_get-set_same k.numbers p o low)
 
-base-unset : (k n : KeyTable) (p : ℕ) (o : Option ℕ) → n.numbers ≡ slice_set k.numbers p o → (q : ℕ) → q ≢ p
+base-unset : (k n : EntryTable) (p : ℕ) (o : Option ℕ) → n.numbers ≡ slice_set k.numbers p o → (q : ℕ) → q ≢ p
     → base_at n q ≡ base_at k q
 unfolding base_at
 base-unset k n p o e q other = ap (λ xs. unwrap_or (slice_get xs q) None) e ∙ ap (λ r. unwrap_or r None) (slice_get-set_other k.numbers p q o other)
@@ -184,14 +100,14 @@ is_it (Some c) b = elim (cases_eq c b) [
 ]
 
 -- each entry is of what stands at places, or came
-only_cases : (x : ℕ → Option ℕ) (k : KeyTable) → TableHasBase x k → (b p : ℕ) → has_entry k.entries b p ≡ true
+pub only_cases : (x : ℕ → Option ℕ) (k : EntryTable) → TableHasBase x k → (b p : ℕ) → has_entry k.entries b p ≡ true
     → (x p ≡ Some b) ⊎ (contains_entry k.came.items b p ≡ true)
 only_cases x k h b p has = elim (cases_Bool (contains_entry k.came.items b p)) [
   | inl came ↦ inr came
   | inr old ↦ inl (h.only b p has old)
 ]
 
-only_from : (x : ℕ → Option ℕ) (k : KeyTable)
+only_from : (x : ℕ → Option ℕ) (k : EntryTable)
     → ((b p : ℕ) → has_entry k.entries b p ≡ true → (x p ≡ Some b) ⊎ (contains_entry k.came.items b p ≡ true))
     → (b p : ℕ) → has_entry k.entries b p ≡ true → contains_entry k.came.items b p ≡ false → x p ≡ Some b
 only_from x k cases b p has none = elim (cases b p has) [
@@ -270,12 +186,12 @@ list-some b p es fs e = record {
   ];
 }
 
-base-listed : (k : KeyList) (t : KeyTable) → t.numbers ≡ k.numbers → (p : ℕ) → base_at t p ≡ listed_at k p
+base-listed : (k : KeyList) (t : EntryTable) → t.numbers ≡ k.numbers → (p : ℕ) → base_at t p ≡ listed_at k p
 unfolding base_at listed_at
 base-listed k t e p = ap (λ xs. unwrap_or (slice_get xs p) None) e
 
 -- a table of the keys in a list
-pub table-made : (x : ℕ → Option ℕ) (k : KeyList) (t : KeyTable) → ListsAll x k → t.numbers ≡ k.numbers → t.came.items ≡ []
+pub table-made : (x : ℕ → Option ℕ) (k : KeyList) (t : EntryTable) → ListsAll x k → t.numbers ≡ k.numbers → t.came.items ≡ []
     → ((b p : ℕ) → has_entry t.entries b p ≡ contains_entry k.entries.items b p) → IsTableOf x t
 table-made x k t h numbers came entries = record {
   between = record {
@@ -289,22 +205,7 @@ table-made x k t h numbers came entries = record {
 
 -- ---- keys come
 
-pub put-some : (b p : ℕ) (s n : BTreeSet (ℕ × ℕ)) → WithEntry s n b p → HasStaged (Some b) p s n
-put-some b p s n w = record {
-  here = λ c e. subst (λ d. has_entry n d p ≡ true) (same_Some b c e) w.here;
-  remaining = w.remaining;
-  only = λ c q has. elim (w.only c q has) [ inl had ↦ inl had | inr new ↦ inr (ap Some new.0, new.1) ];
-}
-
--- the entry was there
-pub put-had : (b p : ℕ) (s : BTreeSet (ℕ × ℕ)) → has_entry s b p ≡ true → HasStaged (Some b) p s s
-put-had b p s there = record {
-  here = λ c e. subst (λ d. has_entry s d p ≡ true) (same_Some b c e) there;
-  remaining = λ c q had. had;
-  only = λ c q has. inl has;
-}
-
-pub between-same : (x : ℕ → Option ℕ) (k n : KeyTable) → ((b p : ℕ) → has_entry n.entries b p ≡ has_entry k.entries b p)
+pub between-same : (x : ℕ → Option ℕ) (k n : EntryTable) → ((b p : ℕ) → has_entry n.entries b p ≡ has_entry k.entries b p)
     → n.numbers ≡ k.numbers → n.came.items ≡ k.came.items → TableHasBase x k → TableHasBase x n
 between-same x k n entries numbers came h = record {
   base = λ p. base-same k n numbers p ∙ h.base p;
@@ -316,7 +217,7 @@ between-same x k n entries numbers came h = record {
   new = λ b p listed. h.new b p (ap (λ es. contains_entry es b p) (sym came) ∙ listed);
 }
 
-pub between-base : (x : ℕ → Option ℕ) (k n : KeyTable) → n.entries ≡ k.entries → n.came ≡ k.came
+pub between-base : (x : ℕ → Option ℕ) (k n : EntryTable) → n.entries ≡ k.entries → n.came ≡ k.came
     → ((p : ℕ) → base_at n p ≡ base_at k p) → TableHasBase x k → TableHasBase x n
 between-base x k n entries came base h = record {
   base = λ p. base p ∙ h.base p;
@@ -328,7 +229,7 @@ between-base x k n entries came base h = record {
   new = λ b p listed. h.new b p (ap (λ c. contains_entry c.items b p) (sym came) ∙ listed);
 }
 
-pub between-more : (x : ℕ → Option ℕ) (k n : KeyTable) (b p : ℕ) → has_entry k.entries b p ≡ false → WithEntry k.entries n.entries b p
+pub between-more : (x : ℕ → Option ℕ) (k n : EntryTable) (b p : ℕ) → has_entry k.entries b p ≡ false → WithEntry k.entries n.entries b p
     → n.came.items ≡ k.came.items ++ (b, p) ∷ [] → n.numbers ≡ k.numbers → TableHasBase x k → TableHasBase x n
 between-more x k n b p free w came numbers h = record {
   base = λ q. base-same k n numbers q ∙ h.base q;
@@ -348,48 +249,6 @@ between-more x k n b p free w came numbers h = record {
         false≢true (sym free ∙ subst (λ d. has_entry k.entries d p ≡ true) (sym new.0) (subst (λ r. has_entry k.entries c r ≡ true) (sym new.1) (h.all c q e)))
   ];
 }
-
-pub covers-more : (kind : KeyKind) (t : Tree) (k n : KeyTable) (r : ℕ) (tail : List ℕ) (o : Option ℕ) → o ≡ fingerprint_at kind t r
-    → HasStaged o r k.entries n.entries → ContainsKeysBut (r ∷ tail) kind t k → ContainsKeysBut tail kind t n
-covers-more kind t k n r tail o is w h key p off there = elim (cases_eq p r) [
-  | inl same ↦
-      (let here : key_at_node kind t r ≡ Some key = ap (key_at_node kind t) (sym same) ∙ there in
-      number-entry n.entries key o p (subst (λ v. is_number_for v o ≡ true) here (subst (λ v. is_number_for (key_at_node kind t r) v ≡ true) (sym is) (fingerprint-for (key_at_node kind t r))))
-      (λ b e. subst (λ q. has_entry n.entries b q ≡ true) (sym same) (w.here b e)))
-  | inr other ↦ number-kept k.entries n.entries key p (λ b had. w.remaining b p had) (h key p (listed-other r p tail other ∙ off) there)
-]
-
--- ---- numbers of the entries that come
-
-module _ (kind : KeyKind) (t : Tree) where
-  pub adds-nothing : (k n : KeyTable) → n.entries ≡ k.entries → AddsFingerprints kind t k n
-  adds-nothing k n same b p has = inl (ap (λ s. has_entry s b p) (sym same) ∙ has)
-
-  pub adds-since : (k m n : KeyTable) → m.entries ≡ k.entries → AddsFingerprints kind t m n → AddsFingerprints kind t k n
-  adds-since k m n same h b p has = elim (h b p has) [
-    | inl had ↦ inl (ap (λ s. has_entry s b p) (sym same) ∙ had)
-    | inr new ↦ inr new
-  ]
-
-  -- one more, of the number of the key there
-  pub adds-more : (k m n : KeyTable) (p : ℕ) (o : Option ℕ) → o ≡ fingerprint_at kind t p → AddsOnly o p m.entries n.entries
-      → AddsFingerprints kind t k m → AddsFingerprints kind t k n
-  adds-more k m n p o is only h b q has = elim (only b q has) [
-    | inl had ↦ h b q had
-    | inr new ↦ inr (ap (fingerprint_at kind t) (sym new.1) ∙ sym is ∙ new.0)
-  ]
-
--- the keys at the places that changed were entered
-pub covers-all : (kind : KeyKind) (old t : Tree) (node_indices : List ℕ) (count : ℕ) (k m n : KeyTable) → count + 1 ≡ 2 * leaf_count t
-    → m.entries ≡ k.entries → count ≤ length m.numbers → n.numbers ≡ m.numbers
-    → TableContainsKeys kind old k → AgreeExceptAt node_indices old t → (ContainsKeysBut node_indices kind t m → ContainsKeysBut [] kind t n)
-    → TableContainsKeys kind t n
-covers-all kind old t node_indices count k m n is entries capacity numbers had same put =
-    let wide : count ≤ length n.numbers = subst (λ v. count ≤ length v) (sym numbers) capacity in
-    record {
-      entries = λ key p there. put (λ c q off e. ap (λ s. has_number s c q) entries ∙ had.entries c q (same_key kind node_indices old t same q off ∙ e)) key p refl there;
-      capacity = λ key p there. let low = key-low kind t count p key is there in omega (arith, low, wide);
-    }
 
 -- ---- keys go
 
@@ -417,134 +276,155 @@ left-other p left o s n w b q other had = elim (w.remaining b q had) [
   | inr gone ↦ absurd (other (sym gone.1))
 ]
 
--- keys that are covered stay so: the number that is there now has an entry
-covers-left : (kind : KeyKind) (t : Tree) (k n : KeyTable) (p : ℕ) (left o : Option ℕ) → HasLeft left o p k.entries n.entries
-    → is_number_for (key_at_node kind t p) o ≡ true → ((b : ℕ) → o ≡ Some b → has_entry k.entries b p ≡ true)
-    → length n.numbers ≡ length k.numbers → TableContainsKeys kind t k → TableContainsKeys kind t n
-covers-left kind t k n p left o w is entered long h = record {
-  entries = λ key q there. elim (cases_eq q p) [
+-- ---- entries that can be stored
+
+some_room : (k : EntryTable) (p b : ℕ) → base_at k p ≡ Some b → p < length k.numbers
+some_room k p b e = elim (cases_lt p (length k.numbers)) [
+  | inl low ↦ low
+  | inr high ↦ absurd (none-some b (sym (base-beyond k p high) ∙ e))
+]
+
+low-test : (p n : ℕ) → p < n → nat_lt p n ≡ true
+low-test p n low = grind (arith, nat_tests)
+
+high-test : (p n : ℕ) → n ≤ p → nat_lt p n ≡ false
+high-test p n high = grind (arith, nat_tests)
+
+below-test : (p n : ℕ) → nat_lt p n ≡ true → p < n
+below-test p n e = grind (arith, nat_tests)
+
+pub entered-same : (k : EntryTable) (b p : ℕ) → p < length k.numbers → is_entered k b p ≡ has_entry k.entries b p
+unfolding is_entered
+entered-same k b p low = rw (low-test p (length k.numbers) low) refl
+
+pub entered-beyond : (k : EntryTable) (b p : ℕ) → length k.numbers ≤ p → is_entered k b p ≡ false
+unfolding is_entered
+entered-beyond k b p high = rw (high-test p (length k.numbers) high) refl
+
+pub entered-low : (k : EntryTable) (b p : ℕ) → is_entered k b p ≡ true → p < length k.numbers
+unfolding is_entered
+entered-low k b p h = below-test p (length k.numbers) (and_parts (nat_lt p (length k.numbers)) (has_entry k.entries b p) h).0
+
+pub entered-entry : (k : EntryTable) (b p : ℕ) → is_entered k b p ≡ true → has_entry k.entries b p ≡ true
+entered-entry k b p h = sym (entered-same k b p (entered-low k b p h)) ∙ h
+
+pub entered-from : (k : EntryTable) (b p : ℕ) → p < length k.numbers → has_entry k.entries b p ≡ true → is_entered k b p ≡ true
+entered-from k b p low has = entered-same k b p low ∙ has
+
+-- an entry that can be stored stays one
+pub entered-kept : (k n : EntryTable) → ((b p : ℕ) → has_entry k.entries b p ≡ true → has_entry n.entries b p ≡ true) → length k.numbers ≤ length n.numbers
+    → (b p : ℕ) → is_entered k b p ≡ true → is_entered n b p ≡ true
+entered-kept k n kept long b p h =
+    let low : p < length n.numbers = omega (arith, entered-low k b p h, long) in
+    entered-from n b p low (kept b p (entered-entry k b p h))
+
+-- the number of the base can be stored
+pub entered-base : (x : ℕ → Option ℕ) (k : EntryTable) → TableHasBase x k → (b p : ℕ) → base_at k p ≡ Some b → is_entered k b p ≡ true
+entered-base x k h b p is = entered-from k b p (some_room k p b is) (h.all b p (sym (h.base p) ∙ is))
+
+-- ---- a number is stored
+
+-- the node index is above those that are stored: it has no number
+pub settled-beyond : (k : EntryTable) (p : ℕ) (o : Option ℕ) → length k.numbers ≤ p → HasEntered o p k → HasSettled o p k k
+settled-beyond k p o high h = record {
+  here = base-beyond k p high ∙ sym (none_is o refl);
+  others = λ q other. refl;
+  left = record {
+    gone = λ b is other. absurd (none-some b (sym (base-beyond k p high) ∙ is));
+    only = λ b q has. has;
+    remaining = λ b q had. inl had;
+  };
+  came = refl;
+  long = refl;
+}
+  where
+    none_is : (r : Option ℕ) → o ≡ r → o ≡ None
+    none_is None e = e
+    none_is (Some b) e = absurd (let low = entered-low k b p (h b e) in omega (arith, low, high))
+
+pub settled-stored : (k n : EntryTable) (p : ℕ) (left o : Option ℕ) → base_at k p ≡ left → HasLeft left o p k.entries n.entries
+    → n.numbers ≡ slice_set k.numbers p o → p < length k.numbers → length n.numbers ≡ length k.numbers → n.came.items ≡ k.came.items → HasSettled o p k n
+settled-stored k n p left o was w set low long came = record {
+  here = base-set k n p o set low;
+  others = base-unset k n p o set;
+  left = subst (λ l. HasLeft l o p k.entries n.entries) (sym was) w;
+  came = came;
+  long = long;
+}
+
+-- the entry of the number that is stored remains, and those of other node indices
+pub entered-now : (k n : EntryTable) (p : ℕ) (o : Option ℕ) → HasEntered o p k → HasSettled o p k n → HasEntered o p n
+entered-now k n p o entered s b is =
+    entered-from n b p (subst (λ m. p < m) (sym s.long) (entered-low k b p (entered b is)))
+    (left-now p (base_at k p) o k.entries n.entries s.left (λ c e. entered-entry k c p (entered c e)) b is)
+
+pub entered-other : (k n : EntryTable) (p : ℕ) (o : Option ℕ) → HasSettled o p k n → (b q : ℕ) → q ≢ p → is_entered k b q ≡ true → is_entered n b q ≡ true
+entered-other k n p o s b q other h =
+    entered-from n b q (subst (λ m. q < m) (sym s.long) (entered-low k b q h)) (left-other p (base_at k p) o k.entries n.entries s.left b q other (entered-entry k b q h))
+
+pub settled-more : (rest : List ℕ) (k n : EntryTable) (p : ℕ) (o : Option ℕ) → HasEntered o p k → HasSettled o p k n → AreSettled (p ∷ rest) k → AreSettled rest n
+settled-more rest k n p o entered s h = record {
+  all = λ b q off e. elim (cases_eq q p) [
     | inl same ↦
-        (let here : key_at_node kind t p ≡ Some key = ap (key_at_node kind t) (sym same) ∙ there in
-        subst (λ r. has_number n.entries key r ≡ true) (sym same)
-        (number-entry n.entries key o p (subst (λ v. is_number_for v o ≡ true) here is) (left-now p left o k.entries n.entries w entered)))
-    | inr other ↦ number-kept k.entries n.entries key q (λ b had. left-other p left o k.entries n.entries w b q other had) (h.entries key q there)
+        subst (λ r. has_entry n.entries b r ≡ true) (sym same)
+        (left-now p (base_at k p) o k.entries n.entries s.left (λ c is. entered-entry k c p (entered c is)) b (sym s.here ∙ ap (base_at n) (sym same) ∙ e))
+    | inr other ↦
+        left-other p (base_at k p) o k.entries n.entries s.left b q other
+        (h.all b q (listed-other p q rest other ∙ off) (sym (s.others q other) ∙ e))
   ];
-  capacity = λ key q there. subst (λ m. q < m) (sym long) (h.capacity key q there);
+  only = λ b q has. elim (h.only b q (s.left.only b q has)) [
+    | inl stored ↦ elim (cases_eq q p) [
+      | inl same ↦ elim (is_it o b) [
+        | inl it ↦ inl (ap (base_at n) same ∙ s.here ∙ it)
+        | inr foreign ↦
+            absurd (false≢true (sym (s.left.gone b (ap (base_at k) (sym same) ∙ stored) foreign) ∙ subst (λ r. has_entry n.entries b r ≡ true) same has))
+      ]
+      | inr other ↦ inl (s.others q other ∙ stored)
+    ]
+    | inr new ↦ inr (ap (λ es. contains_entry es b q) s.came ∙ new)
+  ];
 }
 
-pub settling-first : (kind : KeyKind) (old t : Tree) (node_indices : List ℕ) (k : KeyTable) → HasBaseOf kind old k → TableContainsKeys kind t k
-    → AgreeExceptAt node_indices old t → IsSettling kind t node_indices k
-settling-first kind old t node_indices k h covers same = record {
-  covers = covers;
-  numbers = λ p off. subst (λ o. is_number_for o (base_at k p) ≡ true) (same_key kind node_indices old t same p off) (h.numbers p);
-  all = λ b p off is. h.table.all b p is;
-  only = only_cases (base_at k) k h.table;
+-- an entry that came goes, unless it is of the number that is stored
+pub settled-came : (k n : EntryTable) (b p : ℕ) → k.came.items ≡ n.came.items ++ (b, p) ∷ []
+    → HasLeft (Some b) (base_at k p) p k.entries n.entries → n.numbers ≡ k.numbers → AreSettled [] k → AreSettled [] n
+settled-came k n b p came w numbers h = record {
+  all = λ c q off e. elim (cases_eq q p) [
+    | inl same ↦
+        subst (λ r. has_entry n.entries c r ≡ true) (sym same)
+        (left-now p (Some b) (base_at k p) k.entries n.entries w (λ d is. h.all d p refl is) c (sym (base-same k n numbers p) ∙ ap (base_at n) (sym same) ∙ e))
+    | inr other ↦ left-other p (Some b) (base_at k p) k.entries n.entries w c q other (h.all c q off (sym (base-same k n numbers q) ∙ e))
+  ];
+  only = λ c q has. elim (h.only c q (w.only c q has)) [
+    | inl stored ↦ inl (base-same k n numbers q ∙ stored)
+    | inr new ↦ elim (lists-added n.came.items b p c q (ap (λ es. contains_entry es c q) (sym came) ∙ new)) [
+      | inl more ↦ inr more
+      | inr same ↦ elim (is_it (base_at k p) c) [
+        | inl it ↦ inl (base-same k n numbers q ∙ ap (base_at k) (sym same.1) ∙ it)
+        | inr foreign ↦
+            absurd (false≢true (sym (w.gone c (ap Some same.0) foreign) ∙ subst (λ r. has_entry n.entries c r ≡ true) (sym same.1) has))
+      ]
+    ]
+  ];
 }
 
-module _ (kind : KeyKind) (t : Tree) where
-  -- a place beyond those that are kept, where no key stands
-  pub settling-beyond : (rest : List ℕ) (k : KeyTable) (p : ℕ) → length k.numbers ≤ p → IsSettling kind t (p ∷ rest) k → IsSettling kind t rest k
-  settling-beyond rest k p high h = record {
-    covers = h.covers;
-    numbers = λ q off. elim (cases_eq q p) [
-      | inl same ↦
-          subst (λ r. is_number_for (key_at_node kind t r) (base_at k r) ≡ true) (sym same)
-          (subst (λ o. is_number_for o (base_at k p) ≡ true) (sym none) (subst (λ o. is_number_for None o ≡ true) (sym (base-beyond k p high)) none-for))
-      | inr other ↦ h.numbers q (listed-other p q rest other ∙ off)
+pub settled-last : (k n : EntryTable) → n.entries ≡ k.entries → n.numbers ≡ k.numbers → k.came.items ≡ [] → n.came.items ≡ [] → AreSettled [] k
+    → IsTableOf (base_at k) n
+settled-last k n entries numbers old none h = record {
+  between = record {
+    base = base-same k n numbers;
+    all = λ b p is. ap (λ s. has_entry s b p) entries ∙ h.all b p refl is;
+    only = λ b p has not. elim (h.only b p (ap (λ s. has_entry s b p) (sym entries) ∙ has)) [
+      | inl stored ↦ stored
+      | inr came ↦ absurd (lists-nil k.came.items old b p came)
     ];
-    all = λ b q off is. elim (cases_eq q p) [
-      | inl same ↦ absurd (none-some b (sym (ap (base_at k) same ∙ base-beyond k p high) ∙ is))
-      | inr other ↦ h.all b q (listed-other p q rest other ∙ off) is
-    ];
-    only = h.only;
-  }
-    where
-      none_at : (o : Option (List ℕ)) → key_at_node kind t p ≡ o → key_at_node kind t p ≡ None
-      none_at None e = e
-      none_at (Some key) e = absurd (let low = h.covers.capacity key p e in omega (arith, low, high))
-
-      none : key_at_node kind t p ≡ None
-      none = none_at (key_at_node kind t p) refl
-
-  pub settling-more : (rest : List ℕ) (k n : KeyTable) (p : ℕ) (left o : Option ℕ) → is_number_for (key_at_node kind t p) o ≡ true
-      → (TableContainsKeys kind t k → (b : ℕ) → o ≡ Some b → has_entry k.entries b p ≡ true) → base_at k p ≡ left
-      → HasLeft left o p k.entries n.entries → n.numbers ≡ slice_set k.numbers p o → p < length k.numbers
-      → length n.numbers ≡ length k.numbers
-      → n.came.items ≡ k.came.items → IsSettling kind t (p ∷ rest) k → IsSettling kind t rest n
-  settling-more rest k n p left o is entered was w set low long came h = record {
-    covers = covers-left kind t k n p left o w is (entered h.covers) long h.covers;
-    numbers = λ q off. elim (cases_eq q p) [
-      | inl same ↦
-          subst (λ r. is_number_for (key_at_node kind t r) (base_at n r) ≡ true) (sym same)
-          (subst (λ v. is_number_for (key_at_node kind t p) v ≡ true) (sym (base-set k n p o set low)) is)
-      | inr other ↦ subst (λ v. is_number_for (key_at_node kind t q) v ≡ true) (sym (base-unset k n p o set q other)) (h.numbers q (listed-other p q rest other ∙ off))
-    ];
-    all = λ b q off e. elim (cases_eq q p) [
-      | inl same ↦
-          subst (λ r. has_entry n.entries b r ≡ true) (sym same)
-          (left-now p left o k.entries n.entries w (entered h.covers) b (sym (base-set k n p o set low) ∙ ap (base_at n) (sym same) ∙ e))
-      | inr other ↦
-          left-other p left o k.entries n.entries w b q other
-          (h.all b q (listed-other p q rest other ∙ off) (sym (base-unset k n p o set q other) ∙ e))
-    ];
-    only = λ b q has. elim (h.only b q (w.only b q has)) [
-      | inl stored ↦ elim (cases_eq q p) [
-        | inl same ↦ elim (is_it o b) [
-          | inl it ↦ inl (ap (base_at n) same ∙ base-set k n p o set low ∙ it)
-          | inr foreign ↦
-              absurd (false≢true (sym (w.gone b (sym was ∙ ap (base_at k) (sym same) ∙ stored) foreign) ∙ subst (λ r. has_entry n.entries b r ≡ true) same has))
-        ]
-        | inr other ↦ inl (base-unset k n p o set q other ∙ stored)
-      ]
-      | inr new ↦ inr (ap (λ es. contains_entry es b q) came ∙ new)
-    ];
-  }
-
-  -- an entry that came goes, unless it is of the number that is stored
-  pub settling-came : (k n : KeyTable) (b p : ℕ) → k.came.items ≡ n.came.items ++ (b, p) ∷ []
-      → HasLeft (Some b) (base_at k p) p k.entries n.entries → n.numbers ≡ k.numbers → IsSettling kind t [] k → IsSettling kind t [] n
-  settling-came k n b p came w numbers h = record {
-    covers = covers-left kind t k n p (Some b) (base_at k p) w (h.numbers p refl) (λ c is. h.all c p refl is) (ap length numbers) h.covers;
-    numbers = λ q off. subst (λ v. is_number_for (key_at_node kind t q) v ≡ true) (sym (base-same k n numbers q)) (h.numbers q off);
-    all = λ c q off e. elim (cases_eq q p) [
-      | inl same ↦
-          subst (λ r. has_entry n.entries c r ≡ true) (sym same)
-          (left-now p (Some b) (base_at k p) k.entries n.entries w (λ d is. h.all d p refl is) c (sym (base-same k n numbers p) ∙ ap (base_at n) (sym same) ∙ e))
-      | inr other ↦ left-other p (Some b) (base_at k p) k.entries n.entries w c q other (h.all c q off (sym (base-same k n numbers q) ∙ e))
-    ];
-    only = λ c q has. elim (h.only c q (w.only c q has)) [
-      | inl stored ↦ inl (base-same k n numbers q ∙ stored)
-      | inr new ↦ elim (lists-added n.came.items b p c q (ap (λ es. contains_entry es c q) (sym came) ∙ new)) [
-        | inl more ↦ inr more
-        | inr same ↦ elim (is_it (base_at k p) c) [
-          | inl it ↦ inl (base-same k n numbers q ∙ ap (base_at k) (sym same.1) ∙ it)
-          | inr foreign ↦
-              absurd (false≢true (sym (w.gone c (ap Some same.0) foreign) ∙ subst (λ r. has_entry n.entries c r ≡ true) (sym same.1) has))
-        ]
-      ]
-    ];
-  }
-
-  pub settling-last : (k n : KeyTable) → n.entries ≡ k.entries → n.numbers ≡ k.numbers → k.came.items ≡ [] → n.came.items ≡ [] → IsSettling kind t [] k
-      → IsTableOfTree kind t n
-  settling-last k n entries numbers old none h = record {
-    table = record {
-      between = record {
-        base = λ p. refl;
-        all = λ b p is. ap (λ s. has_entry s b p) entries ∙ h.all b p refl (sym (base-same k n numbers p) ∙ is);
-        only = λ b p has not. elim (h.only b p (ap (λ s. has_entry s b p) (sym entries) ∙ has)) [
-          | inl stored ↦ base-same k n numbers p ∙ stored
-          | inr came ↦ absurd (lists-nil k.came.items old b p came)
-        ];
-        new = λ b p came. absurd (lists-nil n.came.items none b p came);
-      };
-      none_came = none;
-    };
-    numbers = λ p. subst (λ v. is_number_for (key_at_node kind t p) v ≡ true) (sym (base-same k n numbers p)) (h.numbers p refl);
-  }
+    new = λ b p came. absurd (lists-nil n.came.items none b p came);
+  };
+  none_came = none;
+}
 
 -- an entry that came goes again
-pub between-less : (x : ℕ → Option ℕ) (k n : KeyTable) (b p : ℕ) → k.came.items ≡ n.came.items ++ (b, p) ∷ [] → WithoutEntry k.entries n.entries b p
+pub between-less : (x : ℕ → Option ℕ) (k n : EntryTable) (b p : ℕ) → k.came.items ≡ n.came.items ++ (b, p) ∷ [] → WithoutEntry k.entries n.entries b p
     → n.numbers ≡ k.numbers → TableHasBase x k → TableHasBase x n
 between-less x k n b p came w numbers h = record {
   base = λ q. base-same k n numbers q ∙ h.base q;
@@ -566,66 +446,61 @@ between-less x k n b p came w numbers h = record {
   new = λ c q listed. h.new c q (ap (λ es. contains_entry es c q) came ∙ lists-kept n.came.items ((b, p) ∷ []) c q listed);
 }
 
-pub between-last : (x : ℕ → Option ℕ) (k : KeyTable) → k.came.items ≡ [] → TableHasBase x k → IsTableOf x k
+pub between-last : (x : ℕ → Option ℕ) (k : EntryTable) → k.came.items ≡ [] → TableHasBase x k → IsTableOf x k
 between-last x k none h = record { between = h; none_came = none }
 
--- ---- what a table covers
+-- ---- the base of a table
 
-some_room : (k : KeyTable) (p b : ℕ) → base_at k p ≡ Some b → p < length k.numbers
-some_room k p b e = elim (cases_lt p (length k.numbers)) [
-  | inl low ↦ low
-  | inr high ↦ absurd (none-some b (sym (base-beyond k p high) ∙ e))
-]
-
--- the base of a table, as the table stores it
-base-own : (x : ℕ → Option ℕ) (k : KeyTable) → TableHasBase x k → TableHasBase (base_at k) k
-base-own x k h = record {
-  base = λ p. refl;
-  all = λ b p is. h.all b p (sym (h.base p) ∙ is);
-  only = λ b p has old. h.base p ∙ h.only b p has old;
-  new = λ b p came is. h.new b p came (sym (h.base p) ∙ is);
+base-equal : (x y : ℕ → Option ℕ) (k : EntryTable) → ((p : ℕ) → x p ≡ y p) → TableHasBase x k → TableHasBase y k
+base-equal x y k same h = record {
+  base = λ p. h.base p ∙ same p;
+  all = λ b p is. h.all b p (same p ∙ is);
+  only = λ b p has old. sym (same p) ∙ h.only b p has old;
+  new = λ b p came is. h.new b p came (same p ∙ is);
 }
 
-module _ (kind : KeyKind) (t : Tree) where
-  numbers-own : (x : ℕ → Option ℕ) (k : KeyTable) → ((p : ℕ) → base_at k p ≡ x p) → AreNumbersOf kind t x → AreNumbersOf kind t (base_at k)
-  numbers-own x k base h p = subst (λ o. is_number_for (key_at_node kind t p) o ≡ true) (sym (base p)) (h p)
+pub table-equal : (x y : ℕ → Option ℕ) (k : EntryTable) → ((p : ℕ) → x p ≡ y p) → IsTableOf x k → IsTableOf y k
+table-equal x y k same h = record { between = base-equal x y k same h.between; none_came = h.none_came }
 
-  -- a call by which a table keeps its base
-  pub base-kept : (k n : KeyTable) → ((x : ℕ → Option ℕ) → TableHasBase x k → TableHasBase x n) → HasBaseOf kind t k → HasBaseOf kind t n
-  base-kept k n kept h =
-      let after = kept (base_at k) h.table in
-      record { table = base-own (base_at k) n after; numbers = numbers-own (base_at k) n after.base h.numbers }
+-- as the table stores it
+pub base-own : (x : ℕ → Option ℕ) (k : EntryTable) → TableHasBase x k → TableHasBase (base_at k) k
+base-own x k h = base-equal x (base_at k) k (λ p. sym (h.base p)) h
 
-  pub table-of : (x : ℕ → Option ℕ) (k : KeyTable) → AreNumbersOf kind t x → IsTableOf x k → IsTableOfTree kind t k
-  table-of x k numbers h = record {
-    table = record { between = base-own x k h.between; none_came = h.none_came };
-    numbers = numbers-own x k h.between.base numbers;
-  }
+pub table-own : (x : ℕ → Option ℕ) (k : EntryTable) → IsTableOf x k → IsTableOf (base_at k) k
+table-own x k h = record { between = base-own x k h.between; none_came = h.none_came }
 
-  pub table-base : (k : KeyTable) → IsTableOfTree kind t k → HasBaseOf kind t k
-  table-base k h = record { table = h.table.between; numbers = h.numbers }
+-- a table without keys
+pub table-empty : (k : EntryTable) → k.numbers ≡ [] → k.came.items ≡ [] → ((b p : ℕ) → has_entry k.entries b p ≡ false) → IsTableOf (λ _. None) k
+unfolding base_at
+table-empty k numbers came entries = record {
+  between = record {
+    base = λ p. ap (λ xs. unwrap_or (slice_get xs p) None) numbers;
+    all = λ b p is. absurd (none-some b is);
+    only = λ b p has old. absurd (false≢true (sym (entries b p) ∙ has));
+    new = λ b p new. absurd (lists-nil k.came.items came b p new);
+  };
+  none_came = came;
+}
 
-  -- a table contains the keys of its base
-  pub between-covers : (k : KeyTable) → HasBaseOf kind t k → TableContainsKeys kind t k
-  between-covers k h = record {
-    entries = λ key p there. number-entry k.entries key (base_at k p) p (numbered key p there) (λ b is. h.table.all b p is);
-    capacity = λ key p there. elim (some-for key (base_at k p) (numbered key p there)) [
-      | inl prefix ↦ some_room k p (key_prefix key) prefix
-      | inr other ↦ some_room k p (fingerprint key) other
-    ];
-  }
-    where
-      numbered : (key : List ℕ) (p : ℕ) → key_at_node kind t p ≡ Some key → is_number_for (Some key) (base_at k p) ≡ true
-      numbered key p there = subst (λ o. is_number_for o (base_at k p) ≡ true) there (h.numbers p)
+-- ---- different numbers
 
--- ---- the table of a tree
-
-module _ (kind : KeyKind) (t : Tree) where
-  pub table-chosen : (choice : KeyNumber) (k : KeyTable) → IsTableOf (number_at choice kind t) k → IsTableOfTree kind t k
-  table-chosen choice k h = table-of kind t (number_at choice kind t) k (numbers-chosen choice kind t) h
-
-  pub table-fingerprints : (k : KeyTable) → IsTableOf (number_at Fingerprint kind t) k → HaveFingerprints kind t k.entries
-  table-fingerprints k h b p has = elim (only_cases (number_at Fingerprint kind t) k h.between b p has) [
-    | inl old ↦ old
-    | inr came ↦ absurd (lists-nil k.came.items h.none_came b p came)
+pub distinct-more : (s n : BTreeSet (ℕ × ℕ)) (b p : ℕ) → AddsOnly b p s n → ((q : ℕ) → has_entry s b q ≡ true → q ≡ p) → HaveDistinctNumbers s → HaveDistinctNumbers n
+distinct-more s n b p adds free h c q r has has' = elim (adds c q has) [
+  | inl old ↦ elim (adds c r has') [
+    | inl old' ↦ h c q r old old'
+    | inr new' ↦ free q (subst (λ d. has_entry s d q ≡ true) (sym new'.0) old) ∙ new'.1
   ]
+  | inr new ↦ elim (adds c r has') [
+    | inl old' ↦ sym (free r (subst (λ d. has_entry s d r ≡ true) (sym new.0) old') ∙ new.1)
+    | inr new' ↦ sym new.1 ∙ new'.1
+  ]
+]
+
+pub distinct-less : (s n : BTreeSet (ℕ × ℕ)) → ((b p : ℕ) → has_entry n b p ≡ true → has_entry s b p ≡ true) → HaveDistinctNumbers s → HaveDistinctNumbers n
+distinct-less s n only h b p q has has' = h b p q (only b p has) (only b q has')
+
+pub distinct-none : (k : EntryTable) → IsTableOf (λ _. None) k → HaveDistinctNumbers k.entries
+distinct-none k h b p q has has' = elim (only_cases (λ _. None) k h.between b p has) [
+  | inl old ↦ absurd (none-some b old)
+  | inr came ↦ absurd (lists-nil k.came.items h.none_came b p came)
+]

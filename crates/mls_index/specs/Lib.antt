@@ -1,6 +1,8 @@
 pub mod FirstIndex
 pub mod NodeKeys
 pub mod NumbersInternal
+pub mod EntryTable
+pub mod EntryTableInternal
 pub mod KeyTable
 pub mod KeyTableInternal
 pub mod TreeIndex

@@ -1,6 +1,6 @@
 -- The keys of a tree by node index (RFC 9420, 7.3). `kind` says whether these are encryption keys or signature keys.
 -- Used by contracts.
-use Rattle.std.specs.Prelude.{◌≡◌, ◌≢◌, ℕ, ◌==◌, ◌||◌, List, Bool, true, false, Option, Some, None, option_map}
+use Rattle.std.specs.Prelude.{◌≡◌, ◌≢◌, ℕ, ◌==◌, List, Bool, true, false, Option, Some, None, option_map}
 use Rattle.mls_nodes.specs.Fingerprints.{fingerprint}
 use Rattle.mls_nodes.specs.KeyPrefix.{key_prefix}
 use Rattle.mls_nodes.specs.NodeModel.{NodeValue, leaf_node, parent_node}
@@ -24,24 +24,29 @@ node_key Signature node = signature_key node
 abbrev pub key_at_node : KeyKind → Tree → ℕ → Option (List ℕ)
 key_at_node kind t p = node_key kind (node_at t p)
 
+-- `prefix_at kind t p` is the prefix of the key at a node index.
+abbrev pub prefix_at : KeyKind → Tree → ℕ → Option ℕ
+prefix_at kind t p = option_map key_prefix (key_at_node kind t p)
+
 -- `fingerprint_at kind t p` is the fingerprint of the key at a node index.
 abbrev pub fingerprint_at : KeyKind → Tree → ℕ → Option ℕ
 fingerprint_at kind t p = option_map fingerprint (key_at_node kind t p)
 
--- `is_number_of key b`: an entry of the key may have the number b. It is the prefix of the key or its fingerprint.
-unfoldable pub is_number_of : List ℕ → ℕ → Bool
-is_number_of key b = (b == key_prefix key) || (b == fingerprint key)
+-- `are_numbers_for o b f`: there is a key, and either `b` is its prefix and `f` is `None`, or `f` is its fingerprint and `b`
+-- is `None`. Or there is no key, and both are `None`.
+unfoldable pub are_numbers_for : Option (List ℕ) → Option ℕ → Option ℕ → Bool
+are_numbers_for None None None = true
+are_numbers_for None None (Some f) = false
+are_numbers_for None (Some b) f = false
+are_numbers_for (Some key) None None = false
+are_numbers_for (Some key) None (Some f) = f == fingerprint key
+are_numbers_for (Some key) (Some b) None = b == key_prefix key
+are_numbers_for (Some key) (Some b) (Some f) = false
 
--- `is_number_for o b`: there is a key and a number of it, or neither.
-unfoldable pub is_number_for : Option (List ℕ) → Option ℕ → Bool
-is_number_for None None = true
-is_number_for None (Some b) = false
-is_number_for (Some key) None = false
-is_number_for (Some key) (Some b) = is_number_of key b
-
--- `AreNumbersOf kind t x`: `x` maps each node index to a number of the key there, or to `None` if there is no key.
-abbrev pub AreNumbersOf : KeyKind → Tree → (ℕ → Option ℕ) → Type 0
-AreNumbersOf kind t x = (p : ℕ) → is_number_for (key_at_node kind t p) (x p) ≡ true
+-- `AreNumbersOf kind t x y`: for each node index with a key, either `x` maps it to the prefix of the key, or `y` maps it to the
+-- fingerprint. Otherwise they map a node index to `None`.
+abbrev pub AreNumbersOf : KeyKind → Tree → (ℕ → Option ℕ) → (ℕ → Option ℕ) → Type 0
+AreNumbersOf kind t x y = (p : ℕ) → are_numbers_for (key_at_node kind t p) (x p) (y p) ≡ true
 
 -- `HasKey kind t key`: some node of the tree has this key.
 abbrev pub HasKey : KeyKind → Tree → List ℕ → Type 0

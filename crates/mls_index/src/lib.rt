@@ -11,10 +11,11 @@
 
 mod changed_leaves;
 mod credential_counts;
+mod entry_table;
+mod hashed_keys;
 mod key_table;
 pub mod laws;
 mod leaf_credentials;
-mod long_keys;
 mod node_key;
 mod numbers;
 mod tree_index;

@@ -1,11 +1,10 @@
 //! The keys of a tree by node index.
 
-ghost use Rattle.std.specs.Prelude.{◌≡◌, ◌↔◌, ◌+◌, ◌*◌, ◌<◌, Some, IsTrue, option_map};
+ghost use Rattle.std.specs.Prelude.{◌≡◌, ◌↔◌, ◌+◌, ◌*◌, ◌<◌, Some, IsTrue};
 ghost use Rattle.std.specs.Option.{option_copied};
-ghost use Rattle.mls_nodes.specs.KeyPrefix.{key_prefix};
 ghost use Rattle.mls_tree.specs.Tree.{leaf_count};
-ghost use Rattle.mls_index.specs.NodeKeys.{key_at_node, fingerprint_at};
-ghost use Rattle.mls_index.specs.KeyTableInternal.{number_at};
+ghost use Rattle.mls_index.specs.NodeKeys.{key_at_node, prefix_at, fingerprint_at};
+ghost use Rattle.mls_index.specs.EntryTableInternal.{number_at};
 ghost use Rattle.mls_index.specs.RepeatedKeysInternal.{HasKeyBut};
 
 use mls_nodes::{Node, fingerprint, key_prefix};
@@ -65,7 +64,7 @@ pub(crate) fn fingerprint_at(tree: &PublicTree, kind: KeyKind, node_index: u32) 
 
 /// Returns the prefix of the key at a node index.
 pub(crate) fn prefix_at(tree: &PublicTree, kind: KeyKind, node_index: u32) -> Option<u64>
-    ensures { result ≡ option_map key_prefix (key_at_node kind tree.now.tree node_index) }
+    ensures { result ≡ prefix_at kind tree.now.tree node_index }
 {
     match key_at_node(tree, kind, node_index) {
         Some(key) => Some(key_prefix(key)),

@@ -6,7 +6,7 @@ ghost use Rattle.mls_tree.specs.ChangedNodes.{AgreeExceptAt};
 ghost use Rattle.mls_check.specs.LeafValidation.{FindsFailing, supports_used_credentials};
 ghost use Rattle.mls_index.specs.NodeKeys.{HasKey, IsUniqueKey};
 ghost use Rattle.mls_index.specs.RepeatedKeys.{FindsRepeatedAt};
-ghost use Rattle.mls_index.specs.TreeIndex.{HasBase, IsIndexOf, ContainsKeysOf, AddsFingerprintsTo};
+ghost use Rattle.mls_index.specs.TreeIndex.{HasBase, IsIndexOf, ContainsKeysOf, AddsNumbersTo};
 ghost use Rattle.mls_index.specs.IncrementalCheck.{AreUniqueKeys, SupportCredentials};
 
 use crate::changed_leaves::smaller;
@@ -21,15 +21,19 @@ use std::alloc::Global;
 /// a credential of each type and do not support one (RFC 9420, 7.3). With it a key is looked up, and credential types
 /// are compared, without visiting the tree.
 ///
-/// The index has an entry for each key: its number and its node index. If the keys of a kind had different 8-byte prefixes
-/// when the index was made, their numbers are these prefixes. Otherwise, and for each key that was added since, the number
-/// is the fingerprint: the first eight bytes of the key's SHA-256. The index has no copy of a key, except of a parent's key
-/// of more than 2,048 bytes: such a key is hashed once, and then compared with its copy.
+/// The index has an entry for each key: its number and its node index. The number is the 8-byte prefix of the key, or its
+/// fingerprint: the first eight bytes of the key's SHA-256. If the keys of a kind had different prefixes when the index was
+/// made, their numbers are these prefixes, otherwise the fingerprints. A key that was added since has its prefix as its
+/// number, unless an entry of another node index has this prefix.
 ///
-/// A look-up searches the sorted entries for the prefix and for the fingerprint of the key. It compares the key with that
-/// of each entry found. Whoever chooses the keys, these are few. When the index is made, no two entries of a kind have the
-/// same number, or each number is a fingerprint. Each entry that is added later has the fingerprint as its number. Different
-/// keys with equal fingerprints are hard to find, by SHA-256.
+/// A look-up searches the sorted entries for the prefix of the key. If an entry has a fingerprint, it also searches for the
+/// fingerprint of the key. It compares the key with that of each entry found. Whoever chooses the keys, these are few. No two
+/// entries of a kind have the same prefix as their number (`IsIndexOf`, `HasBase`). Different keys with equal fingerprints are
+/// hard to find, by SHA-256.
+///
+/// So no key is hashed as long as all keys of a kind have different prefixes, except a parent's key of more than 2,048 bytes.
+/// The index has a copy of such a key: it is hashed once, and then compared with its copy. A shorter key that is added with
+/// its fingerprint is copied too, until the change is accepted or refused.
 ///
 /// # Following a change of the tree
 ///
@@ -62,17 +66,17 @@ impl TreeIndex {
 
     /// Adds the keys and the leaves of a tree at these node indices, which must include all at which it differs from
     /// the base tree. A node index may be listed twice. Call it again for more changes, each time with all node indices
-    /// at which the tree then differs from the base tree. The number of each entry that is added is the fingerprint of its
-    /// key.
+    /// at which the tree then differs from the base tree. The number of each entry that is added is the prefix or the
+    /// fingerprint of its key.
     ///
     /// # Errors
     ///
-    /// `OutOfMemory`. Some of the keys may have been added, each by its fingerprint. The base tree is unchanged.
+    /// `OutOfMemory`. Some of the keys may have been added. The base tree is unchanged.
     pub fn stage(&mut self, tree: &PublicTree, node_indices: &[u32]) -> Result<(), OutOfMemory>
         ensures index_base { (t : Tree) → HasBase t self.old → HasBase t self.new }
         ensures index_contains_keys { OnOk result ((t : Tree) → HasBase t self.old
             → AgreeExceptAt node_indices.now t tree.now.tree → ContainsKeysOf tree.now.tree self.new) }
-        ensures numbers { AddsFingerprintsTo tree.now.tree self.old self.new }
+        ensures numbers { AddsNumbersTo tree.now.tree self.old self.new }
     {
         self.encryption
             .stage(tree, KeyKind::Encryption, node_indices)?;

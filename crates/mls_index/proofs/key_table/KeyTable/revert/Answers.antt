@@ -1,16 +1,5 @@
-use Rattle.std.proofs.Common.{◌∙◌, refl, sym}
-use Rattle.std.proofs.lemmas.List.{nil_from_length}
-use Rattle.mls_index.proofs.Entries.{removed}
-use Rattle.mls_index.proofs.Tables.{between-less, between-same, between-last}
+use Rattle.mls_index.proofs.KeyTables.{table-reverted}
 use Rattle.mls_index.proofs.key_table.KeyTable.revert.Goals as goal
 
-pub loop-number-preserved : goal.loop-number-preserved
-loop-number-preserved c = λ x h.
-    between-less x c.loop-number.self _ c.in-Some.number c.in-Some.node_index c.in-Some.ensures.items
-    (removed c.loop-number.self.entries c.remove.new.self c.in-Some.number c.in-Some.node_index c.remove.ensures.updates) refl (c.loop-number.invariant x h)
-
 pub returns : goal.returns
-returns c = λ x h.
-    let old = nil_from_length c.loop-number.self.came.items (sym c.loop-number.self.came.ok.0 ∙ c.in_default.ensures.cases.0) in
-    let new = nil_from_length c.pop.new.self.items (sym c.pop.new.self.ok.0 ∙ c.in_default.ensures.cases.1) in
-    between-last x _ new (between-same x c.loop-number.self _ (λ b p. refl) refl (new ∙ sym old) (c.loop-number.invariant x h))
+returns c = λ kind t h. table-reverted kind t c.args.self.now _ c.revert.ensures.index c.revert-2.ensures.index c.revert.ensures.only h

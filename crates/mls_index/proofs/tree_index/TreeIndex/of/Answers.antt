@@ -1,4 +1,4 @@
 use Rattle.mls_index.proofs.tree_index.TreeIndex.of.Goals as goal
 
 pub returns : goal.returns
-returns c = record { encryption = c.in_ok-encryption.ensures.index; signature = c.in_ok-signature.ensures.index; credentials = c.in_ok-credentials.ensures }
+returns c = record { encryption = c.in_ok-encryption.ensures; signature = c.in_ok-signature.ensures; credentials = c.in_ok-credentials.ensures }

@@ -1,32 +1,32 @@
 use Rattle.mls_index.specs.declared.node_key.KeyKind.TheVariants.{Encryption, Signature}
-use Rattle.mls_index.proofs.Tables.{base-kept, between-covers}
+use Rattle.mls_index.proofs.KeyTables.{between-covers}
 use Rattle.mls_index.proofs.tree_index.TreeIndex.stage.Goals as goal
 
 pub returns-in_err-stage-clause-index_base : goal.returns-in_err-stage-clause-index_base
 returns-in_err-stage-clause-index_base c = λ t h. record {
-  encryption = base-kept Encryption t _ _ c.stage.ensures.index_base h.encryption;
+  encryption = c.stage.ensures.index_base t h.encryption;
   signature = h.signature;
   credentials = h.credentials;
 }
 
 pub returns-in_err-stage-2-clause-index_base : goal.returns-in_err-stage-2-clause-index_base
 returns-in_err-stage-2-clause-index_base c = λ t h. record {
-  encryption = base-kept Encryption t _ _ c.stage.ensures.index_base h.encryption;
-  signature = base-kept Signature t _ _ c.stage-2.ensures.index_base h.signature;
+  encryption = c.stage.ensures.index_base t h.encryption;
+  signature = c.stage-2.ensures.index_base t h.signature;
   credentials = h.credentials;
 }
 
 pub returns-in_err-stage-3-clause-index_base : goal.returns-in_err-stage-3-clause-index_base
 returns-in_err-stage-3-clause-index_base c = λ t h. record {
-  encryption = base-kept Encryption t _ _ c.stage.ensures.index_base h.encryption;
-  signature = base-kept Signature t _ _ c.stage-2.ensures.index_base h.signature;
+  encryption = c.stage.ensures.index_base t h.encryption;
+  signature = c.stage-2.ensures.index_base t h.signature;
   credentials = c.stage-3.ensures.index_base t h.credentials;
 }
 
 pub returns-clause-index_base : goal.returns-clause-index_base
 returns-clause-index_base c = λ t h. record {
-  encryption = base-kept Encryption t _ _ c.stage.ensures.index_base h.encryption;
-  signature = base-kept Signature t _ _ c.stage-2.ensures.index_base h.signature;
+  encryption = c.stage.ensures.index_base t h.encryption;
+  signature = c.stage-2.ensures.index_base t h.signature;
   credentials = c.stage-3.ensures.index_base t h.credentials;
 }
 

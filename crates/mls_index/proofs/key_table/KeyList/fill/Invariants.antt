@@ -1,5 +1,0 @@
-use Rattle.mls_index.specs.KeyTableInternal.{ListsFirst, number_at}
-use Rattle.mls_index.proofs.key_table.KeyList.fill.Given as goal
-
-abbrev pub invariant-loop-node_index : goal.invariant-loop-node_index
-invariant-loop-node_index l = ListsFirst (number_at l.choice l.kind l.tree.tree) l.node_index l.self

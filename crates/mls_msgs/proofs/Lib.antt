@@ -7,3 +7,5 @@ pub mod Profiles
 pub mod MembersRead
 pub mod ContentTbs
 pub mod RuleSets
+pub mod Bodies
+pub mod SecretsInInput

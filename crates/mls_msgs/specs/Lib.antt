@@ -2,6 +2,9 @@ pub mod Layout
 pub mod Authenticated
 pub mod PublicMessage
 pub mod Message
+pub mod BodyContracts
+pub mod PrivateMessage
+pub mod Welcome
 pub mod Profile
 pub mod Rules
 pub mod StrictRules
@@ -11,10 +14,16 @@ pub mod Ciphertext
 pub mod Parsing
 pub mod FrameParsing
 pub mod MessageParsing
+pub mod PrivateMessageParsing
+pub mod EncryptedGroupSecrets
+pub mod ReferencesLeft
+pub mod WelcomeParsing
 pub mod PskExact
 pub mod ProposalExact
 pub mod CommitExact
 pub mod FrameExact
 pub mod AuthenticatedExact
 pub mod MessageExact
+pub mod PrivateMessageExact
+pub mod WelcomeExact
 pub mod MembersReading

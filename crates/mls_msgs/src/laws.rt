@@ -7,6 +7,8 @@ ghost use Rattle.mls_msgs.specs.Layout.{key_package, psk_usage, psk_kind, psk_id
 ghost use Rattle.mls_msgs.specs.Authenticated.{authenticated_content};
 ghost use Rattle.mls_msgs.specs.PublicMessage.{public_message};
 ghost use Rattle.mls_msgs.specs.Message.{message};
+ghost use Rattle.mls_msgs.specs.PrivateMessage.{content_type, private_message};
+ghost use Rattle.mls_msgs.specs.Welcome.{encrypted_group_secrets, welcome};
 ghost use Rattle.mls_msgs.specs.Tbs.{content_label, package_label, info_label, reference_label};
 ghost use Rattle.mls_msgs.specs.Rules.{is_strict_rule, rule_bits, has_rule, is_plain, plain_rules, strict_rules};
 ghost use Rattle.mls_msgs.specs.declared.rules.Rules.{Rules};
@@ -36,6 +38,10 @@ pub fn unambiguous()
     ensures authenticated { IsUniquelyDecodable authenticated_content }
     ensures public_message { IsUniquelyDecodable public_message }
     ensures group_info { IsUniquelyDecodable group_info }
+    ensures content_type { IsUniquelyDecodable content_type }
+    ensures private_message { IsUniquelyDecodable private_message }
+    ensures encrypted_group_secrets { IsUniquelyDecodable encrypted_group_secrets }
+    ensures welcome { IsUniquelyDecodable welcome }
     ensures message { IsInjective message }
 {}
 

@@ -1,5 +1,5 @@
 //! The messages of RFC 9420: KeyPackage, proposals, commits, and the structs that frame them, with decoding and
-//! encoding, and the content that is signed and hashed.
+//! encoding, and the content that is signed and hashed. Of a PrivateMessage and a Welcome the front is read.
 #![tactic(auto)]
 
 mod authenticated;
@@ -13,6 +13,7 @@ mod key_package;
 pub mod laws;
 mod message;
 mod pre_shared_key;
+mod private_message;
 mod profile;
 mod proposal;
 mod public_message;
@@ -21,6 +22,7 @@ mod reserved_draft;
 mod rules;
 mod strict_rule;
 mod tbs;
+mod welcome;
 
 pub use authenticated::{
     Authenticated, AuthenticatedParts, decode_authenticated, decode_authenticated_in,
@@ -34,6 +36,7 @@ pub use group_info::GroupInfo;
 pub use key_package::KeyPackage;
 pub use message::{Message, decode_message, decode_message_in, encode_message};
 pub use pre_shared_key::{PreSharedKeyId, PskKind, PskUsage};
+pub use private_message::{PrivateContent, PrivateFront, read_private};
 pub use profile::Profile;
 pub use proposal::{Proposal, ProposalOrRef, decode_proposal, decode_proposal_in, encode_proposal};
 pub use public_message::{PublicMessage, PublicParts};
@@ -44,3 +47,4 @@ pub use tbs::{
     CONTENT_LABEL, GROUP_INFO_LABEL, KEY_PACKAGE_LABEL, PROPOSAL_REFERENCE_LABEL, confirmed_input,
     content_tbs, info_tbs, package_tbs,
 };
+pub use welcome::{ReferencesLeft, WelcomeFront, read_welcome};

@@ -15,6 +15,13 @@ use Rattle.mls_msgs.specs.CommitExact.{proposals_exact, ciphertext_exact, cipher
 use Rattle.mls_msgs.specs.FrameExact.{sender_exact, content_exact, framed_content_exact}
 use Rattle.mls_msgs.specs.AuthenticatedExact.{authenticated_content_exact, public_message_exact}
 use Rattle.mls_msgs.specs.MessageExact.{group_info_exact, message_again}
+use Rattle.mls_msgs.specs.PrivateMessage.{content_type, private_message}
+use Rattle.mls_msgs.specs.PrivateMessageParsing.{content_type_at, private_message_at}
+use Rattle.mls_msgs.specs.PrivateMessageExact.{content_type_exact, private_message_exact}
+use Rattle.mls_msgs.specs.Welcome.{encrypted_group_secrets, welcome}
+use Rattle.mls_msgs.specs.EncryptedGroupSecrets.{encrypted_group_secrets_at}
+use Rattle.mls_msgs.specs.WelcomeParsing.{welcome_at}
+use Rattle.mls_msgs.specs.WelcomeExact.{encrypted_group_secrets_exact, welcome_exact}
 use Rattle.mls_msgs.proofs.laws.unambiguous.Goals as goal
 
 pub returns-clause-key_package : goal.returns-clause-key_package
@@ -76,6 +83,18 @@ returns-clause-public_message c = unambiguous public_message public_message_at p
 
 pub returns-clause-group_info : goal.returns-clause-group_info
 returns-clause-group_info c = unambiguous group_info group_info_at group_info_exact
+
+pub returns-clause-content_type : goal.returns-clause-content_type
+returns-clause-content_type c = unambiguous content_type content_type_at content_type_exact
+
+pub returns-clause-private_message : goal.returns-clause-private_message
+returns-clause-private_message c = unambiguous private_message private_message_at private_message_exact
+
+pub returns-clause-encrypted_group_secrets : goal.returns-clause-encrypted_group_secrets
+returns-clause-encrypted_group_secrets c = unambiguous encrypted_group_secrets encrypted_group_secrets_at encrypted_group_secrets_exact
+
+pub returns-clause-welcome : goal.returns-clause-welcome
+returns-clause-welcome c = unambiguous welcome welcome_at welcome_exact
 
 pub returns-clause-message : goal.returns-clause-message
 returns-clause-message c = λ x y text p q. some_is x y (sym (message_again x text p) ∙ message_again y text q)

@@ -1,11 +1,14 @@
 -- Parts of an encoded file, files that are equal, and which file a state has.
-use Rattle.std.proofs.Common.{◌≡◌, ℕ, List, Option, Some, None, Result, Ok, Err, refl, sym, ◌∙◌, ap}
+use Rattle.std.proofs.Common.{◌≡◌, ◌+◌, ◌-◌, ◌^◌, ◌<◌, ◌≤◌, ℕ, List, ◌++◌, length, drop, append_assoc, Option, Some, None, Result, Ok, Err, refl, sym, ◌∙◌, ap, arith}
+use Rattle.std.proofs.lemmas.List.{drop_at, length-append}
 use Rattle.std.specs.Int.{w16}
 use Rattle.sha2.specs.Sha256.{sha256}
 use Rattle.mls_wire.specs.Encoding.{◌⊕◌, number, vector}
 use Rattle.mls_wire.specs.EncodingConcat.{joined}
 use Rattle.mls_wire.specs.ExactTheorems.{unambiguous}
+use Rattle.mls_wire.specs.EncodedSizes.{sized_text, sized_none_text}
 use Rattle.mls_wire.specs.OptionBind.{some_is}
+use Rattle.mls_wire.specs.SaturatingSizes.{size}
 use Rattle.mls_wire.specs.WriteContracts.{MakesPiece}
 use Rattle.mls_wire.specs.declared.fault.CodecFault.{CodecFault}
 use Rattle.mls_wire.specs.declared.fault.CodecFault.TheVariants as codec
@@ -24,6 +27,40 @@ state_encoded f bytes e =
     let a = joined (number w16 2) (vector f.checksum ⊕ follower_state f.state) bytes e in
     let b = joined (vector f.checksum) (follower_state f.state) a.1 a.3 in
     (b.1, b.3)
+
+-- the state of a file that has an encoding has a size
+pub state_sized : (f : StateFile) (bytes : List ℕ) → state_file f ≡ Some bytes → None ≡ size (follower_state f.state) → ⊥
+state_sized f bytes e none =
+    let encoded = state_encoded f bytes e in
+    let nothing : follower_state f.state ≡ None = sized_none_text (follower_state f.state) none in
+    absurd cc
+
+-- the encoded state is the end of the file
+pub state_last : (f : StateFile) (bytes : List ℕ) (n : ℕ) → state_file f ≡ Some bytes → Some n ≡ size (follower_state f.state)
+    → length bytes < 2 ^ 64
+    → (n ≤ length bytes) × (follower_state f.state ≡ Some (drop (length bytes - n) bytes))
+unfolding state_file
+state_last f bytes n e sized lt =
+    let a = joined (number w16 2) (vector f.checksum ⊕ follower_state f.state) bytes e in
+    let b = joined (vector f.checksum) (follower_state f.state) a.1 a.3 in
+    let text = sized_text (follower_state f.state) n sized in
+    let same : text.0 ≡ b.1 = some_is _ _ (sym text.1 ∙ b.3) in
+    let whole : bytes ≡ (a.0 ++ b.0) ++ b.1 = a.4 ∙ ap (λ (t : List ℕ). a.0 ++ t) b.4 ∙ sym (append_assoc a.0 b.0 b.1) in
+    let long : length bytes ≡ length (a.0 ++ b.0) + length b.1 = ap length whole ∙ length-append (a.0 ++ b.0) b.1 in
+    let rest : n ≡ length b.1 = omega (arith, ap length same, text.2, long, lt) in
+    let front : length (a.0 ++ b.0) ≡ length bytes - n = omega (arith, long, rest) in (
+      omega (arith, long, rest),
+      b.3 ∙ ap (λ (t : List ℕ). Some t) (sym (ap (drop (length bytes - n)) whole ∙ drop_at (a.0 ++ b.0) b.1 (length bytes - n) front)),
+    )
+
+-- whether the checksum is the digest of the end of the file, which is the encoded state
+pub is_digest : (f : StateFile) (body : List ℕ) → follower_state f.state ≡ Some body → (f.checksum ≡ sha256 body) → HasChecksum f
+is_digest f body e digest = record { body = body; encoded = e; digest = digest }
+
+pub has_digest : (f : StateFile) (body : List ℕ) → follower_state f.state ≡ Some body → HasChecksum f → f.checksum ≡ sha256 body
+has_digest f body e checked =
+    let same : checked.body ≡ body = some_is _ _ (sym checked.encoded ∙ e) in
+    checked.digest ∙ ap sha256 same
 
 -- files of one checksum and one state are one
 same_file : (f g : StateFile) → f.checksum ≡ g.checksum → f.state ≡ g.state → f ≡ g

@@ -1,6 +1,7 @@
 //! State files: the version 2, a checksum and a state.
 
-ghost use Rattle.std.specs.Prelude.{◌↔◌, IfOk, IsSome, IsTrue};
+ghost use Rattle.std.specs.Prelude.{◌≡◌, ◌↔◌, IfOk, Some, IsTrue};
+ghost use Rattle.sha2.specs.Sha256.{sha256};
 ghost use Rattle.mls_wire.specs.ReadContracts.{seen};
 ghost use Rattle.mls_state.specs.Layout.{follower_state, state_file};
 ghost use Rattle.mls_state.specs.StateFile.{DecodesStateFile, HasChecksum, MakesStateFile};
@@ -13,7 +14,7 @@ use mls_wire::{
     bytes_of, read_input,
 };
 use sha2::{Digest, Sha256};
-use std::alloc::{AllocError, Global};
+use std::alloc::Global;
 
 /// A state, with the checksum that its file has: the SHA-256 digest of the encoded state.
 #[derive(Debug, Drop)]
@@ -68,14 +69,21 @@ impl Encode for StateFile {
     }
 }
 
+/// Returns the SHA-256 digest of bytes.
+fn digest_of(bytes: &[u8]) -> [u8; 32]
+    ensures { result ≡ sha256 bytes.now }
+{
+    let mut hasher = Sha256::new();
+    hasher.update(bytes);
+    hasher.finalize()
+}
+
 /// Returns the SHA-256 digest of the encoding of a state.
 fn checksum_of(alloc: Global, state: &FollowerState) -> Result<[u8; 32], CodecFault>
     ensures { MakesChecksum (follower_state state.now) result }
 {
     let body = bytes_of(alloc, state)?;
-    let mut hasher = Sha256::new();
-    hasher.update(body.as_slice());
-    Ok(hasher.finalize())
+    Ok(digest_of(body.as_slice()))
 }
 
 /// Returns the file of a state.
@@ -92,17 +100,17 @@ pub fn encode_state_file(alloc: Global, state: FollowerState) -> Result<Vec<u8>,
     bytes_of(alloc, &StateFile { checksum, state })
 }
 
-/// Returns whether the checksum of a file is that of its state.
-#[tactic(auto, using(crate::proofs::Files::state_encoded))]
-fn is_intact(alloc: Global, file: &StateFile) -> Result<bool, AllocError>
-    requires { IsSome (state_file file.now) }
-    ensures { IfOk result (λ intact. IsTrue intact ↔ HasChecksum file.now) }
+/// Returns whether the checksum of a file is that of its state. The bytes are those of the file: the encoded state is their end,
+/// so it is not encoded again.
+fn is_intact(bytes: &[u8], file: &StateFile) -> bool
+    requires { state_file file.now ≡ Some bytes.now }
+    ensures { IsTrue result ↔ HasChecksum file.now }
 {
-    match checksum_of(alloc, &file.state) {
-        Ok(checksum) => Ok(file.checksum.as_slice() == checksum.as_slice()),
-        Err(CodecFault::OutOfMemory) => Err(AllocError),
-        Err(CodecFault::Wire(_)) => unreachable!(),
-    }
+    let Some(len) = file.state.size() else {
+        unreachable!()
+    };
+    let checksum = digest_of(&bytes[bytes.len() - len..]);
+    file.checksum.as_slice() == checksum.as_slice()
 }
 
 /// Returns the state in a file.
@@ -116,15 +124,9 @@ pub fn decode_state_file(alloc: Global, bytes: &[u8]) -> Result<FollowerState, S
     ensures { DecodesStateFile bytes.now result }
 {
     let file: StateFile = read_input(alloc, bytes)?;
-    match is_intact(alloc, &file) {
-        Ok(true) => Ok(file.state),
-        Ok(false) => {
-            drop(file);
-            Err(StateFileFault::ChecksumDiffers)
-        }
-        Err(AllocError) => {
-            drop(file);
-            Err(StateFileFault::OutOfMemory)
-        }
+    if is_intact(bytes, &file) {
+        return Ok(file.state);
     }
+    drop(file);
+    Err(StateFileFault::ChecksumDiffers)
 }

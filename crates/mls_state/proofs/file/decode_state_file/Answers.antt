@@ -1,13 +1,16 @@
-use Rattle.std.proofs.Common.{refl, rules}
+use Rattle.std.proofs.Common.{◌∙◌, refl, sym}
+use Rattle.std.proofs.lemmas.Bool.{false≢true}
 use Rattle.mls_state.proofs.file.decode_state_file.Goals as goal
 
-pub returns-in-Ok-true : goal.returns-in-Ok-true
-returns-in-Ok-true c =
-    let read = c.in_ok-file.ensures.encoded in
-    (record { file = c.in_ok-file.file; state = refl; checked = c.in-Ok-true.ensures.0 (search rules); encoded = read.0 }, read.1)
+pub is_intact-requires : goal.is_intact-requires
+is_intact-requires c = c.in_ok-file.ensures.encoded.0
 
-pub returns-in-Ok-false : goal.returns-in-Ok-false
-returns-in-Ok-false c =
+pub returns-then-is_intact : goal.returns-then-is_intact
+returns-then-is_intact c =
     let read = c.in_ok-file.ensures.encoded in
-    let intact = c.in-Ok-false.ensures.1 in
-    (c.in_ok-file.file, read.0, λ checked. let h = intact checked in search rules)
+    (record { file = c.in_ok-file.file; state = refl; checked = c.is_intact.ensures.0 c.if-is_intact.true; encoded = read.0 }, read.1)
+
+pub returns : goal.returns
+returns c =
+    let read = c.in_ok-file.ensures.encoded in
+    (c.in_ok-file.file, read.0, λ checked. absurd (false≢true (sym c.if-is_intact.false ∙ c.is_intact.ensures.1 checked)))

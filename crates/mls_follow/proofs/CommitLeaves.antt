@@ -15,24 +15,25 @@ use Rattle.mls_apply.specs.Senders.{member_index}
 use Rattle.mls_msgs.specs.declared.proposal.Proposal.TheVariants.{Add, Update, Remove, ContextExtensions, PreSharedKey, ReInit, ExternalInit}
 use Rattle.mls_tree.specs.Tree.{Tree, leaf, branch, height, leaf_count, leaf_at, member_count}
 use Rattle.mls_tree.specs.BlankLeaves.{first_blank_leaf, IsFirstBlank, AllLeavesNonBlank}
-use Rattle.mls_tree.specs.TreeOperations.{put_leaf, blank_path, update, remove, extend, add, add_at, added_leaf, extended_if_full, number_or, blank_tree, is_overfilled_above}
+use Rattle.mls_tree.specs.TreeOperations.{update, extend, add, add_at, added_leaf, extended_if_full, number_or, blank_tree, is_overfilled_above}
 use Rattle.mls_tree.proofs.Choices.{below, from as past}
 use Rattle.mls_tree.proofs.Added.{leaf_at-add_at_other}
 use Rattle.mls_tree.proofs.FirstBlanks.{first_blank_leaf-leftmost}
-use Rattle.mls_tree.proofs.Kept.{leaf_at-truncate, leaf_at-extend}
+use Rattle.mls_tree.proofs.Kept.{leaf_at-extend}
 use Rattle.mls_tree.proofs.Trees.{leaf_count-positive}
 use Rattle.mls_check.proofs.Elements.{contains-head, contains-tail}
 use Rattle.mls_check.proofs.Leaves.{leaf_at-leaf, leaf_at-left, leaf_at-right}
 use Rattle.mls_apply.specs.declared.list_item.ListItem.{ListItem}
 use Rattle.mls_apply.specs.ListRules.{replaced_leaf}
 use Rattle.mls_apply.specs.MergePath.{PathStep, path_step_at, merged_from}
-use Rattle.mls_apply.specs.AppliedList.{AppliedTree, applied_tree, outcome, with_members, new_members, without_adds, after_leaf, after_adds, updated_at, after_update, after_updates, after_remove, after_removes}
+use Rattle.mls_apply.specs.AppliedList.{AppliedTree, applied_tree, outcome, with_members, new_members, without_adds, after_leaf, after_adds, updated_at, after_update, after_updates, after_removes}
 use Rattle.mls_apply.specs.PathRules.{node_keys}
-use Rattle.mls_apply.proofs.Leaves.{kept_beside, put_there}
+use Rattle.mls_apply.proofs.Leaves.{kept_beside}
 use Rattle.mls_apply.proofs.Merging.{came_from}
 use Rattle.mls_apply.proofs.SoundOutcomes.{unless, where_so}
 use Rattle.mls_follow.specs.MessageRules.{resulting}
 use Rattle.mls_signatures.specs.SignaturesToVerify.{index_before, replaced_leaves, new_leaves}
+use Rattle.mls_signatures.proofs.RemovedLeaves as removed
 
 module _ (j : ℕ) where
   index_later : (o : Option ℕ) (js : List ℕ) → Contains js j → Contains (index_before o js) j
@@ -47,12 +48,12 @@ module _ (j : ℕ) where
   index_here k js e = subst (λ i. Contains (k ∷ js) i) e (contains-head k js)
 
   module _ (x : LeafNode) where
-    -- the leaf was set before, to the same
+    -- the leaf is set, to this leaf node
     abbrev Stood : Tree → Type 0
-    Stood t = leaf_at 0 t j ≡ Some x
+    Stood t = removed.Stood j x t
 
     same_tree : (t u : Tree) → t ≡ u → Stood u → Stood t
-    same_tree t u e set = ap (λ (v : Tree). leaf_at 0 v j) e ∙ set
+    same_tree t u e set = removed.same_tree j x t u e set
 
     -- ---- Updates
 
@@ -86,30 +87,6 @@ module _ (j : ℕ) where
             | inr w ↦ inr w
           ]
         ])
-
-    -- ---- Removes
-
-    removed : (p : Proposal) (t u : Tree) → after_remove p t ≡ Some u → Stood u → Stood t
-    removed (Add k) t u e set = same_tree t u (same_Some t u e) set
-    removed (Update y) t u e set = same_tree t u (same_Some t u e) set
-    removed (ContextExtensions es) t u e set = same_tree t u (same_Some t u e) set
-    removed (PreSharedKey es) t u e set = same_tree t u (same_Some t u e) set
-    removed (ReInit es) t u e set = same_tree t u (same_Some t u e) set
-    removed (ExternalInit es) t u e set = same_tree t u (same_Some t u e) set
-    removed (Remove k) t u e set =
-        let parts = cond_some (is_some (leaf_at 0 t k)) (remove t k) u e in
-        let at : Stood (blank_path (put_leaf 0 t k None) k) =
-        sym (leaf_at-truncate 0 (blank_path (put_leaf 0 t k None) k) j) ∙ same_tree (remove t k) u parts.1 set in
-        elim (cases_eq j k) [
-          | inl same ↦ absurd (none-some x (sym (put_there t k j None parts.0 same) ∙ at))
-          | inr away ↦ sym (kept_beside t k j None parts.0 away) ∙ at
-        ]
-
-    removes : (items : List ListItem) (t u : Tree) → after_removes items t ≡ Some u → Stood u → Stood t
-    unfolding after_removes
-    removes [] t u e set = same_tree t u (same_Some t u e) set
-    removes (y ∷ ys) t u e set =
-        option_and_then_some (after_removes ys) (after_remove y.proposal t) u e (λ v a b. removed y.proposal t v a (removes ys v u b set))
 
     -- ---- Adds
 
@@ -149,7 +126,7 @@ module _ (j : ℕ) where
         (λ v c d. elim (adds (new_members items) w g
         (where_so (nat_le (member_count w + length (new_members items)) leaf_limit) (after_adds (new_members items) w) g b) set) [
           | inl k ↦ inl (Contains-append_right (replaced_leaves items) g.added j k)
-          | inr f ↦ elim (updates items t v c (removes items v w d f)) [
+          | inr f ↦ elim (updates items t v c (removed.removes j x items v w d f)) [
             | inl k ↦ inl (Contains-append_left (replaced_leaves items) g.added j k)
             | inr h ↦ inr h
           ]

@@ -31,7 +31,7 @@ use Rattle.mls_signatures.specs.declared.signature_to_verify.SignatureToVerify.{
 use Rattle.mls_follow.specs.State.{State, EncodesMessage}
 use Rattle.mls_follow.specs.Acceptance.{EncodesNoMessage}
 use Rattle.mls_follow.specs.TimedAcceptance.{FailsRuleAt, IsFirstRefusalAt}
-use Rattle.mls_follow.specs.MessageSignatures.{AreSignaturesOf}
+use Rattle.mls_follow.specs.MessageSignatures.{AreFreshSignaturesOf, AreSignaturesOf}
 use Rattle.mls_follow.specs.MessageHeader.{IsWireFormat, HasHeader, HasNoHeader, IsUnreadMessage}
 
 -- bytes have the header of one wire format at most
@@ -146,13 +146,24 @@ no_signatures false e = e
 has_no_signatures : (s : State) (bytes : List ℕ) (list : List SignatureToVerify) → list ≡ [] → IsUnreadMessage bytes → AreSignaturesOf s bytes list
 has_no_signatures s bytes list empty u = record { message = messages.Unread u.wire_format u.header.0; encoded = encodes_unread s.profile bytes u; same = no_signatures s.ended empty }
 
-pub none_listed : (s : State) (bytes : List ℕ) (list : List SignatureToVerify) → list ≡ []
-    → (NotPublic ≢ OutOfMemory → ((NotPublic ≡ Malformed) × EncodesNoMessage s.profile bytes) ⊎ ((NotPublic ≡ NotPublic) × IsUnreadMessage bytes))
-    → AreSignaturesOf s bytes list
-none_listed s bytes list empty h = elim (h (λ e. absurd cc)) [
+has_no_fresh : (s : State) (bytes : List ℕ) (list : List SignatureToVerify) → list ≡ [] → IsUnreadMessage bytes → AreFreshSignaturesOf s bytes list
+has_no_fresh s bytes list empty u = record { message = messages.Unread u.wire_format u.header.0; encoded = encodes_unread s.profile bytes u; same = no_signatures s.ended empty }
+
+-- what is refused as not public is unread
+is_unread_message : (profile : Profile) (bytes : List ℕ)
+    → (NotPublic ≢ OutOfMemory → ((NotPublic ≡ Malformed) × EncodesNoMessage profile bytes) ⊎ ((NotPublic ≡ NotPublic) × IsUnreadMessage bytes)) → IsUnreadMessage bytes
+is_unread_message profile bytes h = elim (h (λ e. absurd cc)) [
   | inl a ↦ let bad = a.0 in absurd cc
-  | inr a ↦ has_no_signatures s bytes list empty a.1
+  | inr a ↦ a.1
 ]
+
+module _ (s : State) (bytes : List ℕ) (list : List SignatureToVerify) (empty : list ≡ [])
+    (h : NotPublic ≢ OutOfMemory → ((NotPublic ≡ Malformed) × EncodesNoMessage s.profile bytes) ⊎ ((NotPublic ≡ NotPublic) × IsUnreadMessage bytes)) where
+  pub none_listed : AreSignaturesOf s bytes list
+  none_listed = has_no_signatures s bytes list empty (is_unread_message s.profile bytes h)
+
+  pub none_fresh : AreFreshSignaturesOf s bytes list
+  none_fresh = has_no_fresh s bytes list empty (is_unread_message s.profile bytes h)
 
 -- it is the first rule that a PrivateMessage and a Welcome fail
 module _ (now : Option ℕ) (G : VerifyFn) (s : State) (required : RequiredCapabilities) (requires : Requires s.context required) (bytes : List ℕ) where

@@ -213,7 +213,7 @@ module _ (G K : VerifyFn) where
 
     -- the leaves that the list of a member's commit brings into the tree, and the others
     module _ (i : ℕ) (path : Option UpdatePath) (items : List ListItem) (g : AppliedTree) (made : outcome items s.tree ≡ Some g)
-        (h : AgreeOn G K (applied_list_signatures s.context i path items (Some g))) where
+        (h : AgreeOn G K (applied_list_signatures new_leaves s.context i path items (Some g))) where
       of_list : AgreeOn G K (signatures_at s.context.cipher_suite s.context.group_id g.tree (new_leaves items g))
       of_list = front G K (signatures_at s.context.cipher_suite s.context.group_id g.tree (new_leaves items g)) (path_signatures s.context i path) h
 
@@ -229,7 +229,7 @@ module _ (G K : VerifyFn) where
 
     outcomes_alike : (i : ℕ) (path : Option UpdatePath) (items : List ListItem) (o : Option AppliedTree) → outcome items s.tree ≡ o
         → list_refusal (senders.Member i) items (is_some path) ≡ None → IsSome (leaf_at 0 s.tree i)
-        → AgreeOn G K (applied_list_signatures s.context i path items o)
+        → AgreeOn G K (applied_list_signatures new_leaves s.context i path items o)
         → first_failing (applied_tree_rules G s required (senders.Member i) path o) ≡ first_failing (applied_tree_rules K s required (senders.Member i) path o)
     outcomes_alike i path items None e kept set h = refl
     outcomes_alike i path items (Some g) e kept set h =
@@ -260,7 +260,7 @@ module _ (G K : VerifyFn) where
   module _ (s : State) (required : RequiredCapabilities) (old : AgreeOn G K (tree_signatures s.context.cipher_suite s.context.group_id 0 s.tree)) where
     unders_alike : (i : ℕ) (path : Option UpdatePath) (items : List ListItem) (o : Option AppliedTree) → outcome items s.tree ≡ o
         → list_refusal (senders.Member i) items (is_some path) ≡ None → IsSome (leaf_at 0 s.tree i)
-        → AgreeOn G K (applied_list_signatures s.context i path items o) → (after : Option RequiredCapabilities)
+        → AgreeOn G K (applied_list_signatures new_leaves s.context i path items o) → (after : Option RequiredCapabilities)
         → first_failing (rules_with_requirements G s (senders.Member i) path o after) ≡ first_failing (rules_with_requirements K s (senders.Member i) path o after)
     unders_alike i path items o e kept set h None = refl
     unders_alike i path items o e kept set h (Some r) = outcomes_alike s r old i path items o e kept set h
@@ -269,8 +269,8 @@ module _ (G K : VerifyFn) where
         → first_failing (proposal_list_rules G s required i c o) ≡ first_failing (proposal_list_rules K s required i c o)
     lists_alike i c None set h = refl
     lists_alike i c (Some items) set h =
-        let inline = front G K (entries_signatures s.context (senders.Member i) c.proposals) (applied_list_signatures s.context i c.path items (outcome items s.tree)) h in
-        let after = back G K (entries_signatures s.context (senders.Member i) c.proposals) (applied_list_signatures s.context i c.path items (outcome items s.tree)) h in
+        let inline = front G K (entries_signatures s.context (senders.Member i) c.proposals) (applied_list_signatures new_leaves s.context i c.path items (outcome items s.tree)) h in
+        let after = back G K (entries_signatures s.context (senders.Member i) c.proposals) (applied_list_signatures new_leaves s.context i c.path items (outcome items s.tree)) h in
         let adds = all_inline_alike s.context (senders.Member i) (valid_if_add G s.context) (valid_if_add K s.context) (adds_alike s.context (senders.Member i)) c.proposals inline in
         let updates = all_inline_alike s.context (senders.Member i) (valid_if_update G s.context s.tree (senders.Member i)) (valid_if_update K s.context s.tree (senders.Member i))
         (updates_alike s.context s.tree (senders.Member i)) c.proposals inline in
@@ -339,7 +339,7 @@ module _ (G K : VerifyFn) where
           (front G K (framed_content_signatures s.context key a) (proposal_signatures s.context sender p) h)
           (offers_alike s required old a sender p (back G K (framed_content_signatures s.context key a) (proposal_signatures s.context sender p) h))
 
-      contents_alike : (i : ℕ) (x : LeafNode) (content : Content) → IsSome (leaf_at 0 s.tree i) → AgreeOn G K (content_signatures s.context s.known s.tree a i x content)
+      contents_alike : (i : ℕ) (x : LeafNode) (content : Content) → IsSome (leaf_at 0 s.tree i) → AgreeOn G K (content_signatures commit_signatures s.context s.known s.tree a i x content)
           → first_failing (content_rules G s required a i x content) ≡ first_failing (content_rules K s required a i x content)
       contents_alike i x (contents.Application sent) set h = refl
       contents_alike i x (contents.Proposal p) set h =
@@ -350,7 +350,7 @@ module _ (G K : VerifyFn) where
           (front G K (framed_content_signatures s.context x.signature_key a) items h)
           (commits_alike i c set (back G K (framed_content_signatures s.context x.signature_key a) items h))
 
-      leaves_alike : (i : ℕ) (o : Option LeafNode) → leaf_at 0 s.tree i ≡ o → AgreeOn G K (member_signatures s.context s.known s.tree a i o)
+      leaves_alike : (i : ℕ) (o : Option LeafNode) → leaf_at 0 s.tree i ≡ o → AgreeOn G K (member_signatures commit_signatures s.context s.known s.tree a i o)
           → first_failing (leaf_rules G s required a i o) ≡ first_failing (leaf_rules K s required a i o)
       leaves_alike i None e h = refl
       leaves_alike i (Some x) e h = contents_alike i x a.content.content (ap is_some e) h
@@ -409,7 +409,7 @@ module _ (G K : VerifyFn) where
       joiners_alike Members h = refl
       joiners_alike Full h = join_contents_alike a.content.content h
 
-      senders_alike : (sender : Sender) → AgreeOn G K (sender_signatures s.profile s.context s.known s.tree a sender)
+      senders_alike : (sender : Sender) → AgreeOn G K (sender_signatures commit_signatures s.profile s.context s.known s.tree a sender)
           → first_failing (sender_rules G s required a sender) ≡ first_failing (sender_rules K s required a sender)
       senders_alike (senders.Member i) h = leaves_alike i (leaf_at 0 s.tree i) refl h
       senders_alike (senders.External j) h = outsides_alike s.profile (senders.External j) h
@@ -417,16 +417,16 @@ module _ (G K : VerifyFn) where
       senders_alike senders.NewMemberCommit h = joiners_alike s.profile h
 
       frames_alike : (not s.ended ≡ true → AgreeOn G K (if bytes_eq a.content.group_id s.context.group_id && a.content.epoch == s.context.epoch
-          then sender_signatures s.profile s.context s.known s.tree a a.content.sender else []))
+          then sender_signatures commit_signatures s.profile s.context s.known s.tree a a.content.sender else []))
           → first_failing (frame_rules G s required a) ≡ first_failing (frame_rules K s required a)
       frames_alike h =
           gated (bytes_eq a.content.group_id s.context.group_id) (a.content.epoch == s.context.epoch) (not s.ended)
           (first_failing (sender_rules G s required a a.content.sender)) (first_failing (sender_rules K s required a a.content.sender))
           (λ e going. senders_alike a.content.sender
           (given G K (bytes_eq a.content.group_id s.context.group_id && a.content.epoch == s.context.epoch)
-          (sender_signatures s.profile s.context s.known s.tree a a.content.sender) e (h going)))
+          (sender_signatures commit_signatures s.profile s.context s.known s.tree a a.content.sender) e (h going)))
 
-    pub messages_alike : (m : Message) → (not s.ended ≡ true → AgreeOn G K (all_message_signatures s.profile s.context s.known s.tree m)) → first_failing (message_rules G s required m) ≡ first_failing (message_rules K s required m)
+    pub messages_alike : (m : Message) → (not s.ended ≡ true → AgreeOn G K (all_message_signatures commit_signatures s.profile s.context s.known s.tree m)) → first_failing (message_rules G s required m) ≡ first_failing (message_rules K s required m)
     messages_alike (messages.Public m) h = frames_alike m.auth h
     messages_alike (messages.Unread w b) h = refl
     messages_alike (messages.GroupInfo g) h = refl
@@ -435,5 +435,5 @@ module _ (G K : VerifyFn) where
 pub decide_refusals : SignaturesDetermineRefusal
 decide_refusals G K s required m needed old =
     all_alike G K s required m (messages_alike G K s required old m
-    (λ going. from_deduplicated G K (all_message_signatures s.profile s.context s.known s.tree m)
+    (λ going. from_deduplicated G K (all_message_signatures commit_signatures s.profile s.context s.known s.tree m)
     (while_open G K s.ended (message_signatures s.profile s.context s.known s.tree m) going needed)))

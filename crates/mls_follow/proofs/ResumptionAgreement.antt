@@ -24,7 +24,7 @@ use Rattle.mls_msgs.specs.declared.proposal.Proposal.{Proposal}
 use Rattle.mls_apply.specs.PendingContent.{authenticated_of}
 use Rattle.mls_apply.specs.declared.list_item.KnownProposal.{KnownProposal}
 use Rattle.mls_signatures.specs.Agreement.{AgreeOn, Agrees}
-use Rattle.mls_signatures.specs.SignaturesToVerify.{all_message_signatures, all_resumption_signatures, framed_content_signatures, in_full, is_supported_context, member_signatures, outside_signatures, pending_proposal_signatures, pending_signatures, proposal_signatures, resumption_signatures, sender_signatures, tree_signatures}
+use Rattle.mls_signatures.specs.SignaturesToVerify.{all_message_signatures, all_resumption_signatures, commit_signatures, framed_content_signatures, in_full, is_supported_context, member_signatures, outside_signatures, pending_proposal_signatures, pending_signatures, proposal_signatures, resumption_signatures, sender_signatures, tree_signatures}
 use Rattle.mls_signatures.specs.SigningKeys.{leaf_key, may_propose, outside_key, signing_key}
 use Rattle.mls_signatures.specs.declared.signature_to_verify.SignatureToVerify.{SignatureToVerify}
 use Rattle.mls_signatures.proofs.SupportedContexts.{passes_context}
@@ -85,7 +85,7 @@ module _ (G K : VerifyFn) where
     abbrev Agreed : Sender → Option (List ℕ) → Type 0
     Agreed sender key = AgreeOn G K (pending_proposal_signatures context (of sender) key)
 
-    by_leaf : (i : ℕ) (o : Option LeafNode) → Agreed (senders.Member i) (leaf_key o) → AgreeOn G K (member_signatures context known t (authenticated_of context (of (senders.Member i))) i o)
+    by_leaf : (i : ℕ) (o : Option LeafNode) → Agreed (senders.Member i) (leaf_key o) → AgreeOn G K (member_signatures commit_signatures context known t (authenticated_of context (of (senders.Member i))) i o)
     by_leaf i None h = agree_none
     by_leaf i (Some x) h = h
 
@@ -99,7 +99,7 @@ module _ (G K : VerifyFn) where
     in_profile Full qs h = h
 
     by_sender : (profile : Profile) (sender : Sender) → Agreed sender (signing_key context t sender (contents.Proposal p))
-        → AgreeOn G K (sender_signatures profile context known t (authenticated_of context (of sender)) sender)
+        → AgreeOn G K (sender_signatures commit_signatures profile context known t (authenticated_of context (of sender)) sender)
     by_sender profile (senders.Member i) h = by_leaf i (leaf_at 0 t i) h
     by_sender profile (senders.External j) h =
         in_profile profile _ (by_key (senders.External j) (outside_key context (senders.External j) (contents.Proposal p)) h)
@@ -109,9 +109,9 @@ module _ (G K : VerifyFn) where
 
   entry_agrees : (profile : Profile) (context : GroupContext) (known : List KnownProposal) (t : Tree) (k : KnownProposal)
       → AgreeOn G K (pending_proposal_signatures context k (signing_key context t k.sender (contents.Proposal k.proposal)))
-      → AgreeOn G K (all_message_signatures profile context known t (entry_message (authenticated_of context k)))
+      → AgreeOn G K (all_message_signatures commit_signatures profile context known t (entry_message (authenticated_of context k)))
   entry_agrees profile context known t k h =
-      agree_if (bytes_eq context.group_id context.group_id && context.epoch == context.epoch) (sender_signatures profile context known t (authenticated_of context k) k.sender)
+      agree_if (bytes_eq context.group_id context.group_id && context.epoch == context.epoch) (sender_signatures commit_signatures profile context known t (authenticated_of context k) k.sender)
       (by_sender context known t k.reference k.proposal k.authenticated_data k.signature profile k.sender h)
 
   -- an entry is held by one as by the other
@@ -121,8 +121,8 @@ module _ (G K : VerifyFn) where
   holds_one s k new old own h =
       let a : IsAcceptable G s h.accepts.bytes = h.accepts.accepted.0 in
       let same : entry_message (authenticated_of s.context k) ≡ a.message = one_message (entry_message (authenticated_of s.context k)) a.message h.accepts.bytes h.accepts.encoded a.encoded in
-      let needed : AgreeOn G K (all_message_signatures s.profile s.context s.known s.tree a.message) =
-      subst (λ (m : Message). AgreeOn G K (all_message_signatures s.profile s.context s.known s.tree m)) same (entry_agrees s.profile s.context s.known s.tree k own) in
+      let needed : AgreeOn G K (all_message_signatures commit_signatures s.profile s.context s.known s.tree a.message) =
+      subst (λ (m : Message). AgreeOn G K (all_message_signatures commit_signatures s.profile s.context s.known s.tree m)) same (entry_agrees s.profile s.context s.known s.tree k own) in
       let alike = all_alike G K s a.required a.message (messages_alike G K s a.required old a.message (λ going. needed)) in
       record {
         format = h.format;

@@ -1,4 +1,4 @@
--- What a follower answers at a time that is handed in, beside what it answers without.
+-- What a follower answers at a time that is passed, beside what it answers without.
 use Rattle.std.proofs.Common.{◌≡◌, ◌≢◌, ◌∙◌, ℕ, List, Option, None, Result, Ok, Err, sym, ap, subst, inl, inr}
 use Rattle.std.specs.Prelude.{OnOk, IfErr}
 use Rattle.std.proofs.lemmas.List.{append-nil}

@@ -1,4 +1,4 @@
--- The invariant of a follower's state (RFC 9420, 7.3, 12.4.2 and 13.4). Internal: no public contract uses this.
+-- The invariants of a follower's state (RFC 9420, 7.3, 12.4, 12.4.2 and 13.4). Internal: no public contract uses this.
 use Rattle.std.specs.Prelude.{◌≡◌, Bool, true}
 use Rattle.std.specs.Coded.{Coded-set, coded_bool}
 use Rattle.mls_nodes.specs.declared.required_capabilities.RequiredCapabilities.{RequiredCapabilities}
@@ -7,6 +7,7 @@ use Rattle.mls_check.specs.DistinctKeys.{has_distinct_keys}
 use Rattle.mls_check.specs.LeafValidation.{LeavesAreValid, all_leaves, member_rule}
 use Rattle.mls_check.specs.Signatures.{VerifyFn}
 use Rattle.mls_msgs.specs.Rules.{has_rule}
+use Rattle.mls_signatures.specs.AcceptedSignatures.{are_from_packages, are_pending_accepted}
 use Rattle.mls_follow.specs.State.{State}
 use Rattle.mls_follow.specs.StrictRules.{supports_extensions}
 
@@ -31,4 +32,18 @@ HasUniqueKeysAndValidLeaves-prop G s x y = λ i. record {
         ((x.members required requires).rules k) ((y.members required requires).rules k) i;
   };
   supported = λ asked. bool_set (supports_extensions s.context.extensions s.tree) true (x.supported asked) (y.supported asked) i;
+}
+
+-- `HasAcceptedPending G s`: the checker's verification function G accepts the signatures of each pending proposal: those of an
+-- Add's leaf node and KeyPackage (RFC 9420, 12.1.1), and that of an Update's leaf node (12.1.2). The leaf node of each pending Add
+-- is from a KeyPackage (10.1).
+pub record HasAcceptedPending (G : VerifyFn) (s : State) : Type 0 where
+  pub accepted : are_pending_accepted G s.context s.known ≡ true
+  pub packages : are_from_packages s.known ≡ true
+
+-- `HasAcceptedPending` has at most one proof.
+pub HasAcceptedPending-prop : (G : VerifyFn) (s : State) → IsProp (HasAcceptedPending G s)
+HasAcceptedPending-prop G s x y = λ i. record {
+  accepted = bool_set (are_pending_accepted G s.context s.known) true x.accepted y.accepted i;
+  packages = bool_set (are_from_packages s.known) true x.packages y.packages i;
 }

@@ -1,4 +1,4 @@
--- Lifetimes at a time that the caller hands in, in seconds since 1970 (RFC 9420, 7.2, 7.3 and 10.1). No clock is read, and no
+-- Lifetimes at a time that the caller passes, in seconds since 1970 (RFC 9420, 7.2, 7.3 and 10.1). No clock is read, and no
 -- state has the time. Only an Add that a message has by value is judged: not what a commit names by reference, which was
 -- judged when it came, and no leaf of the tree. Used by contracts.
 use Rattle.std.specs.Prelude.{ℕ, nat_le, Bool, true, ◌&&◌, List, [], ◌∷◌, ◌++◌, Option, Some, None}
@@ -48,7 +48,7 @@ content_is_timely now (contents.Application _) = true
 content_is_timely now (contents.Proposal p) = is_timely now p
 content_is_timely now (contents.Commit c) = list_all (entry_is_timely now) c.proposals
 
--- `lifetime_rules now m` is the rule 53 for a message, if a time is handed in.
+-- `lifetime_rules now m` is the rule 53 for a message, if a time is passed.
 abbrev pub lifetime_rules : Option ℕ → Message → List (Rule Refusal)
 lifetime_rules None m = []
 lifetime_rules (Some now) (messages.Public m) = rule LifetimeOutside (content_is_timely now m.auth.content.content) ∷ []
@@ -56,6 +56,6 @@ lifetime_rules (Some now) (messages.Unread _ _) = []
 lifetime_rules (Some now) (messages.GroupInfo _) = []
 lifetime_rules (Some now) (messages.KeyPackage _) = []
 
--- `all_rules_at now G s required m` is the rules for a message at this time, if one is handed in: all others, and then 53.
+-- `all_rules_at now G s required m` is the rules for a message at this time, if one is passed: all others, and then 53.
 abbrev pub all_rules_at : Option ℕ → VerifyFn → State → RequiredCapabilities → Message → List (Rule Refusal)
 all_rules_at now G s required m = all_rules G s required m ++ lifetime_rules now m

@@ -11,6 +11,7 @@ use Rattle.mls_msgs.specs.declared.group_info.GroupInfo.{GroupInfo}
 use Rattle.mls_msgs.specs.declared.profile.Profile.{Profile}
 use Rattle.mls_msgs.specs.declared.message.Message.{Message}
 use Rattle.mls_apply.specs.RuleLists.{first_failing}
+use Rattle.mls_signatures.specs.AcceptedSignatures.{unaccepted}
 use Rattle.mls_signatures.specs.Agreement.{AgreeOn}
 use Rattle.mls_signatures.specs.SignaturesToVerify as lists
 use Rattle.mls_signatures.specs.declared.signature_to_verify.SignatureToVerify.{SignatureToVerify}
@@ -26,6 +27,12 @@ abbrev pub message_signatures_in_state : State → Message → List SignatureToV
 message_signatures_in_state s m =
     if s.ended then [] else lists.message_signatures s.profile s.context s.known s.tree m
 
+-- `fresh_signatures_in_state s m` is those of a message in the state `s` that no pending proposal has, without duplicates.
+-- Empty if the group is over.
+abbrev pub fresh_signatures_in_state : State → Message → List SignatureToVerify
+fresh_signatures_in_state s m =
+    if s.ended then [] else lists.fresh_message_signatures s.profile s.context s.known s.tree m
+
 -- `state_signatures s` is the signatures of all leaves of the tree of `s`, from left to right (RFC 9420, 7.2).
 abbrev pub state_signatures : State → List SignatureToVerify
 state_signatures s = lists.tree_signatures s.context.cipher_suite s.context.group_id 0 s.tree
@@ -35,6 +42,20 @@ pub record AreSignaturesOf (s : State) (bytes : List ℕ) (needed : List Signatu
   pub message : Message
   pub encoded : EncodesMessage s.profile message bytes
   pub same : needed ≡ message_signatures_in_state s message
+
+-- `AreFreshSignaturesOf s bytes needed`: `bytes` encode a message, and `needed` are those of its signatures in the state `s` that
+-- no pending proposal has.
+pub record AreFreshSignaturesOf (s : State) (bytes : List ℕ) (needed : List SignatureToVerify) : Type 0 where
+  pub message : Message
+  pub encoded : EncodesMessage s.profile message bytes
+  pub same : needed ≡ fresh_signatures_in_state s message
+
+-- `HaveUnacceptedOf G s bytes needed`: `bytes` encode a message, and of `needed` and of the message's signatures in the state `s`
+-- the same ones are not accepted by G, in the same order.
+pub record HaveUnacceptedOf (G : VerifyFn) (s : State) (bytes : List ℕ) (needed : List SignatureToVerify) : Type 0 where
+  pub message : Message
+  pub encoded : EncodesMessage s.profile message bytes
+  pub same : unaccepted G needed ≡ unaccepted G (message_signatures_in_state s message)
 
 -- `AgreeOnStart G K info supplied`: `G` and `K` agree on the signatures of a start, for each tree that it may use.
 abbrev pub AgreeOnStart : VerifyFn → VerifyFn → GroupInfo → Option RatchetTree → Type 0

@@ -1,4 +1,4 @@
--- Which messages a follower accepts at a time that is handed in, if one is, and the first rule that a refused one fails (RFC
+-- Which messages a follower accepts at a time that is passed, if one is, and the first rule that a refused one fails (RFC
 -- 9420, 7.2, 7.3 and 10.1). `now` is that time, in seconds since 1970, `s` the state, G the verification function of the
 -- checker. Used by contracts.
 use Rattle.std.specs.Prelude.{◌≡◌, ◌≢◌, ◌⊎◌, ℕ, List, Option, Some, None, Result, Ok, Err}

@@ -1,5 +1,5 @@
 -- What a time changes in the answers of a follower: it refuses more, and changes nothing else (RFC 9420, 7.2). `now` is the
--- time that is handed in, if one is. Used by contracts.
+-- time that is passed, if one is. Used by contracts.
 use Rattle.std.specs.Prelude.{◌≡◌, ◌⊎◌, ◌↔◌, ◌≤◌, ℕ, List, Option, Some, Result, Err}
 use Rattle.mls_nodes.specs.Requirements.{Requires}
 use Rattle.mls_nodes.specs.declared.required_capabilities.RequiredCapabilities.{RequiredCapabilities}

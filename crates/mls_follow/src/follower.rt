@@ -12,7 +12,7 @@ ghost use Rattle.mls_apply.specs.Staged.{IsSettled};
 ghost use Rattle.mls_follow.specs.CommitTree.{initial_state_of_tree};
 ghost use Rattle.mls_follow.specs.State.{EncodesMessage};
 ghost use Rattle.mls_follow.specs.GroupModel.{group_state};
-ghost use Rattle.mls_follow.specs.FollowerInvariant.{HasUniqueKeysAndValidLeaves, HasUniqueKeysAndValidLeaves-prop};
+ghost use Rattle.mls_follow.specs.FollowerInvariant.{HasAcceptedPending, HasAcceptedPending-prop, HasUniqueKeysAndValidLeaves, HasUniqueKeysAndValidLeaves-prop};
 ghost use Rattle.mls_follow.specs.Acceptance.{IsAcceptable, IsNext, IsFirstRefusal};
 ghost use Rattle.mls_follow.specs.MessageHeader.{HasNoHeader, IsUnreadMessage};
 ghost use Rattle.mls_follow.specs.TimedAcceptance.{IsAcceptableAt, IsFirstRefusalAt, IsTransitionAt};
@@ -42,13 +42,14 @@ use std::alloc::Global;
 
 /// A follower of a group: the group's public state, and a checker of signatures. Its tree always has distinct
 /// encryption keys and valid leaf nodes, by this checker. With strict rule 51 these always support the types of the
-/// GroupContext's extensions.
+/// GroupContext's extensions. The checker always accepts the signatures of the pending Adds and Updates.
 #[derive(Drop)]
 pub struct Follower<C: SignatureCheck> {
     pub(crate) group: Group,
     checker: C,
     pub(crate) alloc: Global,
     ghost checked: { HasUniqueKeysAndValidLeaves (C.meaning checker) (group_state group) } by { HasUniqueKeysAndValidLeaves-prop (C.meaning checker) (group_state group) },
+    ghost accepted: { HasAcceptedPending (C.meaning checker) (group_state group) } by { HasAcceptedPending-prop (C.meaning checker) (group_state group) },
 }
 
 /// Returns the group of a GroupInfo with its tree, from what was found of them, with no pending proposals.
@@ -392,7 +393,7 @@ impl<C: SignatureCheck> Follower<C> {
     }
 
     /// Processes one message (RFC 9420, 6), and accepts it if it satisfies every rule: those of the profile, then the strict
-    /// rules of the follower's set, and last, if a time is handed in, that the lifetime of the leaf node of each Add that the
+    /// rules of the follower's set, and last, if a time is passed, that the lifetime of the leaf node of each Add that the
     /// message has by value includes it (7.2, 7.3 and 10.1). `now` is in seconds since 1970, as a Lifetime. No clock is read,
     /// and no state has the time: a leaf node of the tree stays valid when its lifetime ends, and an Add that a commit names by
     /// reference was judged when it came.

@@ -5,8 +5,9 @@
 //! Contracts model a follower as its state (`specs/State.antt`): the profile, the context, the tree, the interim transcript
 //! hash, the pending proposals, and whether the group is over.
 //!
-//! [`Follower::signatures_to_verify`] returns the signatures of a message, for a caller that verifies them elsewhere;
-//! those of a start are [`mls_signatures::start_signatures`].
+//! [`Follower::signatures_to_verify`] returns the signatures of a message, for a caller that verifies them elsewhere, and
+//! [`Follower::fresh_signatures`] those that no pending proposal has; those of a start are
+//! [`mls_signatures::start_signatures`].
 #![tactic(auto)]
 
 mod added_rules;
@@ -20,6 +21,7 @@ mod group;
 mod group_tree;
 pub mod laws;
 mod lifetimes;
+mod lone_add;
 mod message_header;
 mod next_extensions;
 mod pending_entries;
@@ -39,6 +41,7 @@ mod taken;
 
 pub use added_rules::StrictRefused;
 pub use follower::Follower;
+pub use lone_add::AddFault;
 pub use mls_apply::{Refusal, confirmed_hash, interim_hash};
 pub use resume::ResumeRefused;
 pub use resume_fault::ResumeFault;

@@ -1,4 +1,4 @@
-//! Whether a message is judged within the lifetimes of those that it adds, at a time that the caller hands in (RFC 9420, 7.2,
+//! Whether a message is judged within the lifetimes of those that it adds, at a time that the caller passes (RFC 9420, 7.2,
 //! 7.3 and 10.1). No clock is read.
 
 ghost use Rattle.std.specs.Prelude.{◌≡◌, ◌&&◌, nat_le};

@@ -66,7 +66,7 @@ pub(crate) struct JudgedFrame<'a> {
     pub(crate) late: Option<Refusal>,
 }
 
-/// A message that was received, its bytes, and the time at which it is judged, in seconds since 1970, if one is handed in.
+/// A message that was received, its bytes, and the time at which it is judged, in seconds since 1970, if one is passed.
 #[derive(Clone, Copy)]
 pub(crate) struct ReceivedMessage<'a> {
     pub(crate) message: &'a Message,

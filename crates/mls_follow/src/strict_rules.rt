@@ -54,7 +54,7 @@ fn unmet_rule(group: &Group, public: &PublicMessage) -> Option<StrictRule>
 }
 
 /// Returns the refusal by the first rule after those of the profile that a PublicMessage does not meet by itself: a strict one of
-/// the group's set, but for 51, or that for lifetimes at the time `now`, if one is handed in. Allocates nothing.
+/// the group's set, but for 51, or that for lifetimes at the time `now`, if one is passed. Allocates nothing.
 #[tactic(auto, unfolding(crate::specs::StrictRulesInternal::late_rule))]
 pub(crate) fn late_rule(group: &Group, now: Option<u64>, public: &PublicMessage) -> Option<Refusal>
     ensures { result ≡ late_rule now (group_state group.now) public.now }

@@ -436,7 +436,7 @@ impl Group {
         }
     }
 
-    /// Processes a message, which `bytes` must encode, at this time if one is handed in.
+    /// Processes a message, which `bytes` must encode, at this time if one is passed.
     pub(crate) fn take<C: SignatureCheck>(
         &mut self,
         alloc: Global,

@@ -10,3 +10,4 @@ pub mod Openings
 pub mod GateOnce
 pub mod GateExists
 pub mod QueryReplies
+pub mod UnacceptedLines

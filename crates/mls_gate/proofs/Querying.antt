@@ -15,7 +15,7 @@ use Rattle.mls_gate.proofs.Answering.{queried}
 use Rattle.mls_gate.proofs.Replying.{replies-at}
 
 module _ (o : Option Phase) (time : Option ℕ) (G K known : VerifyFn) (s t : State) (message : List ℕ) (needed made : List SignatureToVerify) (a b : Option (List ℕ)) (at : o ≡ Some (Following time G s))
-    (is : IsQueried s message needed) (all : made ≡ needed) (checked : known ≡ K) (same : K ≡ G) (stays : t ≡ s) where
+    (is : IsQueried G s message needed) (all : made ≡ needed) (checked : known ≡ K) (same : K ≡ G) (stays : t ≡ s) where
   abbrev Asked : Outcome → Type 0
   Asked outcome = RespondsIn o (Some Query) message outcome
 
@@ -28,7 +28,7 @@ module _ (o : Option Phase) (time : Option ℕ) (G K known : VerifyFn) (s t : St
   replied : Replies Asked (query_text known made) false after
   replied =
       replies-at o (Some (Following time G s)) at (Some Query) message after (query_text known made) false
-      (queried time G K s t message is.signatures (query_text known made) is.has_signatures (text-is ∙ is.same G) same stays)
+      (queried time G K s t message is.signatures (query_text known made) is.has_signatures (text-is ∙ is.same) same stays)
 
   pub queried-behind : Appends a b (query_text known made) → GivesBehind Asked after a b said.Silent
   queried-behind wrote = record {

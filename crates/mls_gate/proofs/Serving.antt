@@ -71,12 +71,13 @@ pub record SoFar (p : Phase) (r0 r1 w0 w1 : Option (List ℕ)) (now : Option Pha
   pub is : now ≡ Some (phase_after p turns)
   pub count : most + length turns ≡ record_limit
 
-pub so_far-none : (p : Phase) (r w : Option (List ℕ)) (most : ℕ) → most ≡ record_limit → SoFar p r r w w (Some p) most
-so_far-none p r w most all = record {
+pub so_far-none : (p : Phase) (r w : Option (List ℕ)) (now : Option Phase) (most : ℕ) → now ≡ Some p → most ≡ record_limit
+    → SoFar p r r w w now most
+so_far-none p r w now most is all = record {
   turns = [];
   serves = record { answered = tt; bounded = omega arith; records = []; are_records = refl; all_read = Consumes-nil r };
   wrote = Appends-nil w;
-  is = refl;
+  is = is;
   count = omega arith;
 }
 

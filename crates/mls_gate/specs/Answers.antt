@@ -1,5 +1,5 @@
 -- The answer to a record of the gate's input: its lines, and the phase after it. `G` is the verification function of
--- what was learnt so far, `time` the time at which messages are judged, if one was handed in. Used by contracts.
+-- what was learnt so far, `time` the time at which messages are judged, if one was passed. Used by contracts.
 use Rattle.std.specs.Prelude.{◌≡◌, ◌⊎◌, ℕ, ◌+◌, List, [], ◌∷◌, ◌++◌, Bool, codes, drop, Option, Some, None, Result, Ok, Err, if◌then◌else◌}
 use Rattle.std.specs.Fmt.{decimal}
 use Rattle.mls_tree.specs.Tree.{member_count}

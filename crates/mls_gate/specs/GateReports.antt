@@ -8,7 +8,7 @@ use Rattle.mls_show.specs.declared.verdict.Verdict.{Verdict}
 use Rattle.mls_gate.specs.GateReport.{Gates}
 
 -- `IsGateReport time G i records text verdict`: a gate from these inputs and over the bytes of these records has written
--- this text, and has this verdict. Messages are judged at the time, if one is handed in, until a record sets another.
+-- this text, and has this verdict. Messages are judged at the time, if one is passed, until a record sets another.
 pub record IsGateReport (time : Option ℕ) (G : VerifyFn) (i : Inputs) (records text : List ℕ) (verdict : Verdict)
     : Type 0 where
   pub records_left : Option (List ℕ)

@@ -8,7 +8,7 @@ use Rattle.mls_signatures.specs.declared.signature_to_verify.SignatureToVerify.{
 use Rattle.mls_follow.specs.CoveredLogs.{all_good}
 use Rattle.mls_follow.specs.FollowerModel.{checker_of, state_of}
 use Rattle.mls_follow.specs.State.{State}
-use Rattle.mls_start.specs.Inputs.{inputs_of}
+use Rattle.mls_start.specs.Inputs.{Inputs, inputs_of}
 use Rattle.mls_start.specs.StartFindings.{IsFirstState}
 use Rattle.mls_report.specs.SignaturesReport.{HasSignatures}
 use Rattle.mls_report.specs.SignaturesSteps.{LinesWithoutMemory}
@@ -40,6 +40,18 @@ abbrev pub IsReady : Option Phase → Type 0
 IsReady None = ⊥
 IsReady (Some (Opening i time G)) = (s : State) × IsFirstState all_good i s
 IsReady (Some (Following time G s)) = Unit {0}
+
+-- `CanOpen o`: no follower has started yet, and one starts or resumes from the inputs, each signature being good.
+pub record CanOpen (o : Option Phase) : Type 0 where
+  pub inputs : Inputs
+  pub time : Option ℕ
+  pub verify : VerifyFn
+  pub is : o ≡ Some (Opening inputs time verify)
+  pub ready : (s : State) × IsFirstState all_good inputs s
+
+-- `FromOpening o Holds`: this holds of the phase, if no follower has started yet.
+abbrev pub FromOpening : Option Phase → (Phase → Type 0) → Type 0
+FromOpening o Holds = (i : Inputs) (time : Option ℕ) (G : VerifyFn) → o ≡ Some (Opening i time G) → Holds (Opening i time G)
 
 -- The verdict if the input ends between two records.
 abbrev pub verdict_at : Option Phase → Verdict
@@ -118,11 +130,11 @@ StopsAnswering Meets after written0 written1 Write = StopsInText Meets after wri
 StopsAnswering Meets after written0 written1 Memory =
     Appends written0 written1 [] ⊎ StopsInQuery Meets after written0 written1
 
--- The list is that of a query of a message in a state.
-pub record IsQueried (s : State) (message : List ℕ) (needed : List SignatureToVerify) : Type 0 where
+-- The lines of the list are those of a query of a message in a state.
+pub record IsQueried (G : VerifyFn) (s : State) (message : List ℕ) (needed : List SignatureToVerify) : Type 0 where
   pub signatures : Option (List SignatureToVerify)
   pub has_signatures : HasSignatures s message signatures
-  pub same : (G : VerifyFn) → query_text G needed ≡ message_query G signatures
+  pub same : query_text G needed ≡ message_query G signatures
 
 -- ---- lines of signatures
 

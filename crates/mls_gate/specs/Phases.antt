@@ -7,7 +7,7 @@ use Rattle.mls_show.specs.declared.verdict.Verdict.{Verdict}
 use Rattle.mls_show.specs.declared.verdict.Verdict.TheVariants.{Yes, No}
 
 -- `Opening i time G`: no follower has started yet from the inputs. `Following time G s`: a follower is in this state. `G` is
--- the verification function of what was learnt so far, `time` the time at which messages are judged, if one was handed in.
+-- the verification function of what was learnt so far, `time` the time at which messages are judged, if one was passed.
 pub data Phase : Type 0 where
   Opening : Inputs → Option ℕ → VerifyFn → Phase
   Following : Option ℕ → VerifyFn → State → Phase

@@ -26,12 +26,12 @@ pub(crate) const BROKEN: &str = "broken\n";
 /// What the gate is at.
 #[derive(Drop)]
 pub(crate) enum GatePhase<C: SignatureCheck> {
-    /// No follower has started: what the group is followed from, and what was learnt and handed in.
+    /// No follower has started: what the group is followed from, what was learnt, and the time, if one was passed.
     Opening {
         start: StartBytes,
         judge: Judge<C>,
     },
-    /// A follower has started. It judges messages at the time, if one was handed in.
+    /// A follower has started. It judges messages at the time, if one was passed.
     Following {
         follower: Follower<C>,
         time: Option<u64>,
@@ -74,17 +74,19 @@ impl Answer {
     }
 }
 
-/// Returns the signatures of a message that is queried. Bytes that are no message have none.
+/// Returns the signatures of a message that is queried, except for those of the pending proposals, which the checker accepts.
+/// Bytes that are no message have none.
 fn queried_signatures<C: SignatureCheck>(
     alloc: Global,
     follower: &mut Follower<C>,
     message: &[u8],
 ) -> Result<SignatureList, OutOfMemory>
-    ensures signatures { IfOk result (IsQueried (state_of follower.old) message.now) }
+    ensures signatures { IfOk result (IsQueried (C.meaning (checker_of follower.old)) (state_of follower.old)
+        message.now) }
     ensures state { state_of follower.new ≡ state_of follower.old }
     ensures checker { checker_of follower.new ≡ checker_of follower.old }
 {
-    match follower.signatures_to_verify(message) {
+    match follower.fresh_signatures(message) {
         Ok(signatures) => Ok(signatures),
         Err(SignatureListFault::Malformed) => Ok(SignatureList::new(alloc)),
         Err(SignatureListFault::OutOfMemory) => Err(OutOfMemory),

@@ -7,7 +7,7 @@ ghost use Rattle.mls_follow.specs.State.{State};
 ghost use Rattle.mls_start.specs.Inputs.{inputs_of};
 ghost use Rattle.mls_start.specs.StartFindings.{IsFirstState};
 ghost use Rattle.mls_gate.specs.GateReport.{Gates, GatesPart, ReportsRecords, RecordsPart};
-ghost use Rattle.mls_gate.specs.GateSteps.{phase_of, IsReady, Answered, AnswersIn, StopsAnswering};
+ghost use Rattle.mls_gate.specs.GateSteps.{phase_of, CanOpen, FromOpening, IsReady, Answered, AnswersIn, StopsAnswering};
 ghost use Rattle.mls_gate.specs.Phases.{Opening};
 
 use crate::phase::{BROKEN, GatePhase};
@@ -39,6 +39,40 @@ fn answer_record<C: LearningCheck, K: Sink>(
     Ok(answer.is_last())
 }
 
+/// Answers the records, and writes the lines of each before the next is read. No follower has started.
+fn answer_records<R: Source, C: LearningCheck, K: Sink>(
+    alloc: Global,
+    phase: &mut GatePhase<C>,
+    records: &mut R,
+    out: &mut K,
+) -> Result<Verdict, RunFault>
+    requires opening { CanOpen (phase_of C.meaning phase.old) }
+    requires records { IsWorking (R.device records.old) }
+    requires out { IsWorking (K.device out.old) }
+    ensures printed { IfOk result (λ verdict. FromOpening (phase_of C.meaning phase.old) (λ p. ReportsRecords p
+        (R.device records.old).bytes (R.device records.new).bytes (K.device out.old).bytes (K.device out.new).bytes verdict)) }
+    ensures effect_on_error { IfErr result (λ fault. FromOpening (phase_of C.meaning phase.old) (λ p. RecordsPart p
+        (R.device records.old).bytes (R.device records.new).bytes (K.device out.old).bytes (K.device out.new).bytes fault)) }
+    ensures read { ReadFails result (R.device records.new) }
+    ensures write { WriteFails result (K.device out.new) }
+{
+    let mut reader = Records::new(alloc, u32::MAX);
+    'records: loop {
+        match next_record(&mut reader, records)? {
+            RecordStep::Record => {
+                if answer_record(alloc, phase, reader.body(), out)? {
+                    return Ok(Verdict::No);
+                }
+            }
+            RecordStep::End { is_broken: false } => return Ok(phase.end_verdict()),
+            RecordStep::End { is_broken: true } => {
+                write_text(out, BROKEN)?;
+                return Ok(Verdict::No);
+            }
+        }
+    }
+}
+
 /// Answers the records of a gate whose follower has not started, and writes the lines of each before the next is read.
 fn serve<R: Source, C: LearningCheck, K: Sink>(
     alloc: Global,
@@ -58,21 +92,7 @@ fn serve<R: Source, C: LearningCheck, K: Sink>(
     ensures write { WriteFails result (K.device out.new) }
 {
     let mut phase = GatePhase::Opening { start, judge };
-    let mut reader = Records::new(alloc, u32::MAX);
-    'records: loop {
-        match next_record(&mut reader, records)? {
-            RecordStep::Record => {
-                if answer_record(alloc, &mut phase, reader.body(), out)? {
-                    return Ok(Verdict::No);
-                }
-            }
-            RecordStep::End { is_broken: false } => return Ok(phase.end_verdict()),
-            RecordStep::End { is_broken: true } => {
-                write_text(out, BROKEN)?;
-                return Ok(Verdict::No);
-            }
-        }
-    }
+    answer_records(alloc, &mut phase, records, out)
 }
 
 /// Follows one group over records. If no follower starts or resumes from `start` with the strict rules though each signature
@@ -90,7 +110,8 @@ fn serve<R: Source, C: LearningCheck, K: Sink>(
 ///   finding, and the gate ends with `No`.
 /// - `q` and a message: a line for each signature of the message that is not known to be good
 ///   ([`mls_follow::Follower::signatures_to_verify`]), and one with their number. Each line is written before the next
-///   signature is made.
+///   signature is made. The signatures of the pending proposals, which are known to be good, are not made
+///   ([`mls_follow::Follower::fresh_signatures`]).
 /// - `m` and a message: the message is processed ([`mls_follow::Follower::take_at`]). The line says that it was accepted
 ///   and what it led to, with `ended` if the group is over (11.2); or the number and the name of the refusal.
 /// - `t` and a time, eight bytes, the first the highest: from now on messages are judged at this time, in seconds since 1970,

@@ -1,6 +1,8 @@
 -- The leaves that the Adds of a commit's list add, in walks along the list and along these leaves.
 use Rattle.std.proofs.Common.{◌≡◌, ◌≢◌, ◌∙◌, ℕ, zero, suc, ◌+◌, ◌<◌, ◌≤◌, List, [], ◌∷◌, ◌++◌, take, drop, get_or, length, Bool, true, false, cond, Option, Some, None, refl, sym, ap, subst, arith, append_assoc, append-nil, length-append}
-use Rattle.std.specs.Prelude.{IfSome, option_map, option_and_then, slice_get, codes}
+use Rattle.std.specs.Prelude as every
+use Rattle.std.specs.Prelude.{IfSome, if◌then◌else◌, option_map, option_and_then, slice_get, codes}
+use Rattle.std.specs.Str.{bytes_eq}
 use Rattle.std.specs.Borrow.{Bor}
 use Rattle.std.specs.Ordering.{nat_cmp}
 use Rattle.std.specs.Cmp.{unsigned_ties}
@@ -10,7 +12,9 @@ use Rattle.std.specs.List.{list_any}
 use Rattle.std.specs.BTreeSet as set
 use Rattle.std.proofs.lemmas.Bool.{eqb-true, eqb-false, false≢true}
 use Rattle.std.proofs.lemmas.List.{take_more, take_all, drop_all, map-append}
+use Rattle.std.proofs.lemmas.List.Elements.{All-cons, All-nil}
 use Rattle.std.proofs.lemmas.Option.{same_Some, none-some}
+use Rattle.mls_check.proofs.Elements.{and-left, and-right}
 use Rattle.mls_wire.specs.Encoding.{◌⊕◌}
 use Rattle.mls_nodes.specs.declared.context.GroupContext.{GroupContext}
 use Rattle.mls_nodes.specs.declared.leaf.LeafNode.{LeafNode}
@@ -35,9 +39,12 @@ use Rattle.mls_apply.specs.OutlineInternal.{AreAt}
 use Rattle.mls_apply.proofs.Adding.{no_add, same_members}
 use Rattle.mls_apply.proofs.Updating.{next_item}
 use Rattle.mls_apply.proofs.AddedLeaves.{outcome_members}
-use Rattle.mls_signatures.specs.AddedLeaves.{reference_of_entry, reference_at, leaf_of_add, leaf_in, NamesAre, ValuesAre, HasNames, indices, leaf_nodes, name_of, AreAdded, IsNamedBy, AreNamedBy, AreOfValues, AreNamedAlike, IsAfter, IsMapOf, added_signatures, IsRepeat, IsByValue, AppendsSignatures, IsListed, ListValues}
+use Rattle.mls_signatures.specs.AcceptedSignatures.{are_from_packages, is_from_package}
+use Rattle.mls_signatures.specs.AddedLeaves.{HasPackageNames, IfFresh, IsPackageIfNamed, reference_of_entry, reference_at, leaf_of_add, leaf_in, NamesAre, ValuesAre, HasNames, indices, leaf_nodes, name_of, AreAdded, IsNamedBy, AreNamedBy, AreOfValues, AreNamedAlike, IsAfter, IsMapOf, added_signatures, IsRepeat, IsByValue, AppendsSignatures, IsListed, ListValues}
 use Rattle.mls_signatures.specs.SignaturesToVerify.{labeled_signatures, leaf_signatures, package_signatures, non_blank_leaf_signatures, signatures_at, proposal_signatures, entry_signatures, entries_signatures}
 use Rattle.mls_signatures.specs.declared.added_leaves.AddedLeaf.{AddedLeaf}
+use Rattle.mls_signatures.specs.declared.added_leaves.NewLeaves.{NewLeaves}
+use Rattle.mls_signatures.specs.declared.added_leaves.NewLeaves.TheVariants.{All, Fresh}
 use Rattle.mls_signatures.specs.declared.signature_to_verify.SignatureToVerify.{SignatureToVerify}
 use Rattle.mls_signatures.proofs.Repeats.{AllMet, all_front, all_behind, all_itself, appended-met, appended-still, met-appends, all-left, all-right, extends-none, extends-more, extends-skip}
 
@@ -87,6 +94,43 @@ names_resolved committer known (x ∷ xs) items e =
 pub resolved_names : (committer : Sender) (known : List KnownProposal) (es : List ProposalOrRef) (items : List ListItem)
     → resolved committer known es ≡ Some items → HasNames es items
 resolved_names committer known es items e = record { leaf_named = leaf_known known; are = names_resolved committer known es items e }
+
+-- pending Adds are from KeyPackages
+package_of : (p : Proposal) (x : LeafNode) → is_from_package p ≡ true → leaf_of_add p ≡ Some x → is_from_key_package x.source ≡ true
+package_of (proposals.Add k) x e at = subst (λ (y : LeafNode). is_from_key_package y.source ≡ true) (same_Some k.leaf_node x at) e
+package_of (proposals.Update n) x e at = absurd (none-some x at)
+package_of (proposals.Remove n) x e at = absurd (none-some x at)
+package_of (proposals.ContextExtensions n) x e at = absurd (none-some x at)
+package_of (proposals.PreSharedKey n) x e at = absurd (none-some x at)
+package_of (proposals.ReInit n) x e at = absurd (none-some x at)
+package_of (proposals.ExternalInit n) x e at = absurd (none-some x at)
+
+package_found : (y : KnownProposal) (o : Option KnownProposal) (x : LeafNode) → is_from_package y.proposal ≡ true
+    → (option_and_then (λ (z : ListItem). leaf_of_add z.proposal) (option_map item_of o) ≡ Some x → is_from_key_package x.source ≡ true)
+    → (b : Bool) → option_and_then (λ (z : ListItem). leaf_of_add z.proposal) (option_map item_of (if b then Some y else o)) ≡ Some x → is_from_key_package x.source ≡ true
+package_found y o x own later true e = package_of y.proposal x own e
+package_found y o x own later false e = later e
+
+packages_known : (known : List KnownProposal) → are_from_packages known ≡ true → (r : List ℕ) (x : LeafNode) → leaf_known known r ≡ Some x → is_from_key_package x.source ≡ true
+packages_known [] all r x e = absurd (none-some x e)
+packages_known (y ∷ ys) all r x e =
+    package_found y (find_known ys r) x (and-left (is_from_package y.proposal) (are_from_packages ys) all)
+    (λ f. packages_known ys (and-right (is_from_package y.proposal) (are_from_packages ys) all) r x f) (bytes_eq y.reference r) e
+
+pub resolved_packages : (committer : Sender) (known : List KnownProposal) (es : List ProposalOrRef) (items : List ListItem)
+    → resolved committer known es ≡ Some items → are_from_packages known ≡ true → HasPackageNames es items
+resolved_packages committer known es items e all =
+    record { leaf_named = leaf_known known; are = names_resolved committer known es items e; packages = packages_known known all }
+
+-- if only the fresh leaves are listed
+pub if_fresh : (which : NewLeaves) (P Q : Type 0) → (P → Q) → IfFresh which P → IfFresh which Q
+if_fresh All P Q f h = tt
+if_fresh Fresh P Q f h = f h
+
+pub named_packages : (es : List ProposalOrRef) (items : List ListItem) (xs : List AddedLeaf) → (h : HasPackageNames es items) → AreNamedBy h.leaf_named xs → every.All IsPackageIfNamed xs
+named_packages es items [] h n = All-nil IsPackageIfNamed
+named_packages es items (x ∷ xs) h n =
+    All-cons IsPackageIfNamed x xs (λ r e. h.packages r x.leaf.now (n.0 r e)) (named_packages es items xs h n.1)
 
 -- ---- Adds by value
 
@@ -413,7 +457,7 @@ module _ (suite : ℕ) (group_id : List ℕ) where
       ap (λ ws. of_leaf x ++ ws) (added_signatures-more xs y) ∙ sym (append_assoc (of_leaf x) (added_signatures suite group_id xs) (of_leaf y))
 
   -- the signature of a leaf node from a KeyPackage doesn't depend on the leaf index
-  no_index : (x : LeafNode) (i j : ℕ) → is_from_key_package x.source ≡ true → leaf_signatures suite group_id i x ≡ leaf_signatures suite group_id j x
+  pub no_index : (x : LeafNode) (i j : ℕ) → is_from_key_package x.source ≡ true → leaf_signatures suite group_id i x ≡ leaf_signatures suite group_id j x
   unfolding leaf_tbs tbs_suffix
   no_index x i j e =
       ap (λ p. labeled_signatures suite x.signature_key (codes "MLS 1.0 LeafNodeTBS") (unsigned_leaf x ⊕ p) x.signature) (go x.source e)
@@ -490,13 +534,12 @@ module _ (suite : ℕ) (group_id : List ℕ) where
       → AppendsSignatures old (added_signatures suite group_id (take i xs)) list → length xs ≤ i → AppendsSignatures old (added_signatures suite group_id xs) list
   added-all old xs i list known past = subst (λ ys. AppendsSignatures old (added_signatures suite group_id ys) list) (take_all i xs past) known
 
-  -- those of the replaced leaves, of the added ones, and others
-  pub all_extends : (t : Tree) (js : List ℕ) (xs : List AddedLeaf) → AreAdded t xs → (old first next new rest : List SignatureToVerify)
-      → AppendsSignatures old (signatures_at suite group_id t js) first → AppendsSignatures first (added_signatures suite group_id xs) next → AppendsSignatures next rest new
-      → AppendsSignatures old (signatures_at suite group_id t (js ++ indices xs) ++ rest) new
-  all_extends t js xs added old first next new rest e f g =
+  -- those of the replaced leaves and of the added ones
+  pub all_extends : (t : Tree) (js : List ℕ) (xs : List AddedLeaf) → AreAdded t xs → (old first new : List SignatureToVerify)
+      → AppendsSignatures old (signatures_at suite group_id t js) first → AppendsSignatures first (added_signatures suite group_id xs) new
+      → AppendsSignatures old (signatures_at suite group_id t (js ++ indices xs)) new
+  all_extends t js xs added old first new e f =
       let replaced = signatures_at suite group_id t js in
-      let both = extends-more old replaced first e (added_signatures suite group_id xs) next f in
-      subst (λ ws. AppendsSignatures old (ws ++ rest) new)
+      subst (λ ws. AppendsSignatures old ws new)
       (ap (λ ws. replaced ++ ws) (added-are t xs added) ∙ sym (signatures_at-both t js (indices xs)))
-      (extends-more old (replaced ++ added_signatures suite group_id xs) next both rest new g)
+      (extends-more old replaced first e (added_signatures suite group_id xs) new f)

@@ -10,3 +10,8 @@ pub mod AddedLeaves
 pub mod ExternalKeys
 pub mod DistinctStarts
 pub mod SupportedContexts
+pub mod ListedIndices
+pub mod FreshLeaves
+pub mod RemovedLeaves
+pub mod AcceptedSignatures
+pub mod FreshSignatures

@@ -1,5 +1,5 @@
 -- The leaves that the Adds of a commit's list add, as the implementation holds them. Internal: no public contract uses this.
-use Rattle.std.specs.Prelude.{◌≡◌, ℕ, zero, suc, ⊤, true, List, [], ◌∷◌, ◌++◌, map, Option, Some, None, IfSome, option_map, slice_get, ◌<◌}
+use Rattle.std.specs.Prelude.{◌≡◌, ℕ, zero, suc, ⊤, Bool, true, not, List, [], ◌∷◌, ◌++◌, map, filter, Option, Some, None, IfSome, option_map, slice_get, ◌<◌}
 use Rattle.std.specs.Borrow.{Bor}
 use Rattle.std.specs.BTreeMap.{BTreeMap, get}
 use Rattle.std.specs.Ordering.{nat_cmp}
@@ -14,8 +14,10 @@ use Rattle.mls_msgs.specs.declared.proposal.ProposalOrRef.TheVariants as entries
 use Rattle.mls_apply.specs.declared.list_item.ListItem.{ListItem}
 use Rattle.mls_apply.specs.Outline.{IsApart}
 use Rattle.mls_apply.specs.ProposalRules.{is_from_key_package}
-use Rattle.mls_signatures.specs.SignaturesToVerify.{leaf_signatures, entries_signatures, deduplicated}
+use Rattle.mls_signatures.specs.SignaturesToVerify.{ListedLeaves, leaf_signatures, entries_signatures, deduplicated, new_leaves, fresh_leaves}
 use Rattle.mls_signatures.specs.declared.added_leaves.AddedLeaf.{AddedLeaf}
+use Rattle.mls_signatures.specs.declared.added_leaves.NewLeaves.{NewLeaves}
+use Rattle.mls_signatures.specs.declared.added_leaves.NewLeaves.TheVariants.{All, Fresh}
 use Rattle.mls_signatures.specs.declared.signature_to_verify.SignatureToVerify.{SignatureToVerify}
 
 -- ---- the references of a list
@@ -60,6 +62,19 @@ pub record HasNames (es : List ProposalOrRef) (items : List ListItem) : Type 0 w
   pub leaf_named : List ℕ → Option LeafNode
   pub are : NamesAre leaf_named es items
 
+-- ---- pending Adds from KeyPackages
+
+-- `IfFresh which P`: if only the fresh leaves are listed, `P` holds.
+abbrev pub IfFresh : NewLeaves → Type 0 → Type 0
+IfFresh All P = ⊤
+IfFresh Fresh P = P
+
+-- `HasPackageNames es items`: in a list with these entries, one reference stands for one leaf node, which is from a KeyPackage.
+pub record HasPackageNames (es : List ProposalOrRef) (items : List ListItem) : Type 0 where
+  pub leaf_named : List ℕ → Option LeafNode
+  pub are : NamesAre leaf_named es items
+  pub packages : (r : List ℕ) (x : LeafNode) → leaf_named r ≡ Some x → is_from_key_package x.source ≡ true
+
 -- ---- the added leaves
 
 -- `indices xs` is the leaf indices of added leaves.
@@ -73,6 +88,10 @@ leaf_nodes xs = map (λ (x : AddedLeaf). x.leaf.now) xs
 -- `name_of x` is the reference by which the list names an Add, if it does.
 abbrev pub name_of : AddedLeaf → Option (List ℕ)
 name_of x = option_map (λ r. r.now) x.reference
+
+-- `IsPackageIfNamed x`: if the list names the Add of the leaf by a reference, the leaf node is from a KeyPackage.
+abbrev pub IsPackageIfNamed : AddedLeaf → Type 0
+IsPackageIfNamed x = (r : List ℕ) → name_of x ≡ Some r → is_from_key_package x.leaf.now.source ≡ true
 
 -- `AreAdded t xs`: these are leaves of the tree.
 abbrev pub AreAdded : Tree → List AddedLeaf → Type 0
@@ -112,6 +131,21 @@ pub record IsMapOf (t u : Tree) (m : BTreeMap ℕ (Bor LeafNode)) : Type 0 where
 abbrev pub added_signatures : ℕ → List ℕ → List AddedLeaf → List SignatureToVerify
 added_signatures suite group_id [] = []
 added_signatures suite group_id (x ∷ xs) = leaf_signatures suite group_id x.index x.leaf.now ++ added_signatures suite group_id xs
+
+-- ---- which leaves are listed
+
+-- `leaves_of which` is the leaf indices that are listed.
+abbrev pub leaves_of : NewLeaves → ListedLeaves
+leaves_of All = new_leaves
+leaves_of Fresh = fresh_leaves
+
+-- `is_other x`: the leaf node is not from a KeyPackage.
+abbrev pub is_other : AddedLeaf → Bool
+is_other x = not (is_from_key_package x.leaf.now.source)
+
+-- `other_leaves xs` is those of the leaves `xs` whose leaf node is not from a KeyPackage.
+abbrev pub other_leaves : List AddedLeaf → List AddedLeaf
+other_leaves xs = filter is_other xs
 
 -- ---- repeats
 

@@ -5,3 +5,4 @@ pub mod DistinctStarts
 pub mod Marks
 pub mod ShortenedSignatures
 pub mod AddedLeaves
+pub mod AcceptedSignatures

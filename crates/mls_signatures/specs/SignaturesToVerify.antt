@@ -2,7 +2,8 @@
 -- rule), and those of a message of a group (5.1.2, 6.1, 7.2, 10.1, 12.1.8). No checker is an argument, so they depend on no
 -- verification. Some may be listed that no rule checks, as if another rule refuses the message before.
 -- Used by contracts. `suite` and `group_id`: those of the group's context.
-use Rattle.std.specs.Prelude.{ℕ, ◌+◌, ◌==◌, ◌&&◌, not, if◌then◌else◌, Bool, List, [], ◌∷◌, ◌++◌, filter, Option, Some, None, codes}
+use Rattle.std.specs.Prelude.{ℕ, ◌+◌, ◌==◌, ◌&&◌, not, if◌then◌else◌, Bool, false, List, [], ◌∷◌, ◌++◌, filter, Option, Some, None, codes}
+use Rattle.std.specs.List.{list_any}
 use Rattle.std.specs.Str.{bytes_eq}
 use Rattle.mls_nodes.specs.declared.context.GroupContext.{GroupContext}
 use Rattle.mls_nodes.specs.declared.leaf.LeafNode.{LeafNode}
@@ -35,6 +36,7 @@ use Rattle.mls_apply.specs.declared.list_item.ListItem.{ListItem}
 use Rattle.mls_apply.specs.ResolvedList.{resolved}
 use Rattle.mls_apply.specs.JoinRules.{is_join_list, join_items}
 use Rattle.mls_apply.specs.ListRules.{replaced_leaf}
+use Rattle.mls_apply.specs.ProposalRules.{is_from_key_package}
 use Rattle.mls_apply.specs.AppliedList.{AppliedTree, outcome}
 use Rattle.mls_apply.specs.Senders.{member_index}
 use Rattle.mls_signatures.specs.SigningKeys.{signed_context, signing_key, outside_key, may_propose}
@@ -228,6 +230,27 @@ replaced_leaves (x ∷ xs) =
 abbrev pub new_leaves : List ListItem → AppliedTree → List ℕ
 new_leaves items g = replaced_leaves items ++ g.added
 
+-- `depends_on_index x`: what the leaf node signs has its leaf index. It has none if the leaf node is from a KeyPackage
+-- (RFC 9420, 7.2), or if the leaf is blank.
+abbrev pub depends_on_index : Option LeafNode → Bool
+depends_on_index None = false
+depends_on_index (Some x) = not (is_from_key_package x.source)
+
+-- `is_fresh_leaf added t j`: an Add put the leaf node of leaf j of the tree `t` there, and the leaf node signs its leaf index.
+-- `added` is the added leaf indices.
+abbrev pub is_fresh_leaf : List ℕ → Tree → ℕ → Bool
+is_fresh_leaf added t j = list_any (λ k. k == j) added && depends_on_index (leaf_at 0 t j)
+
+-- `fresh_leaves items g` is those of the new leaves whose signature is not one of a proposal of the list. These are only leaves
+-- of Adds that are not from a KeyPackage, which no rule accepts (RFC 9420, 10.1): an Update's leaf node signs the leaf index
+-- that its sender has.
+abbrev pub fresh_leaves : List ListItem → AppliedTree → List ℕ
+fresh_leaves items g = filter (is_fresh_leaf g.added g.tree) (new_leaves items g)
+
+-- Which of the leaf indices that a list replaces or adds are listed: `new_leaves` or `fresh_leaves`.
+abbrev pub ListedLeaves : Type 0
+ListedLeaves = List ListItem → AppliedTree → List ℕ
+
 -- `path_signatures context i path` is the signature of the leaf node of an UpdatePath of member i (RFC 9420, 7.6). Empty without
 -- a path.
 abbrev pub path_signatures : GroupContext → ℕ → Option UpdatePath → List SignatureToVerify
@@ -235,42 +258,57 @@ path_signatures context i None = []
 path_signatures context i (Some path) =
     leaf_signatures context.cipher_suite context.group_id i path.leaf_node
 
--- `applied_list_signatures context i path items g` is the signatures of the leaves that a list replaces or adds, as they are in
+-- `applied_list_signatures leaves context i path items g` is the signatures of the leaves at `leaves items g`, as they are in
 -- the tree after the list, then that of the path's leaf node. Empty if there is no such tree.
-abbrev pub applied_list_signatures : GroupContext → ℕ → Option UpdatePath → List ListItem → Option AppliedTree
-    → List SignatureToVerify
-applied_list_signatures context i path items None = []
-applied_list_signatures context i path items (Some g) =
-    signatures_at context.cipher_suite context.group_id g.tree (new_leaves items g) ++
+abbrev pub applied_list_signatures : ListedLeaves → GroupContext → ℕ → Option UpdatePath → List ListItem
+    → Option AppliedTree → List SignatureToVerify
+applied_list_signatures leaves context i path items None = []
+applied_list_signatures leaves context i path items (Some g) =
+    signatures_at context.cipher_suite context.group_id g.tree (leaves items g) ++
     path_signatures context i path
 
 -- ---- the signatures of a message, for a context, pending proposals and a tree
 
--- `commit_signatures context t i c items` is the signatures of a Commit of member i with the proposal list `items`. They are
--- those of its proposals by value, then those of the leaves that it replaces or adds. Empty if a reference is unknown.
-abbrev pub commit_signatures : GroupContext → Tree → ℕ → Commit → Option (List ListItem)
+-- The signatures of a Commit of a member, for a context, a tree, the leaf index of the member, the Commit, and its proposal
+-- list: `commit_signatures` or `fresh_commit_signatures`.
+abbrev pub CommitSignatures : Type 0
+CommitSignatures = GroupContext → Tree → ℕ → Commit → Option (List ListItem) → List SignatureToVerify
+
+-- `list_signatures leaves context t i c items` is the signatures of a Commit of member i with the proposal list `items`. They are
+-- those of its proposals by value, then those of the leaves at `leaves items`, then that of its path. Empty if a reference is
+-- unknown.
+abbrev pub list_signatures : ListedLeaves → GroupContext → Tree → ℕ → Commit → Option (List ListItem)
     → List SignatureToVerify
-commit_signatures context t i c None = []
-commit_signatures context t i c (Some items) =
+list_signatures leaves context t i c None = []
+list_signatures leaves context t i c (Some items) =
     entries_signatures context (senders.Member i) c.proposals ++
-    applied_list_signatures context i c.path items (outcome items t)
+    applied_list_signatures leaves context i c.path items (outcome items t)
 
--- `content_signatures context known t a i x content` is the signatures of what member i, whose leaf is `x`, has sent. They are
--- that of the message, then those of the proposal or the Commit. Application data has none.
-abbrev pub content_signatures : GroupContext → List KnownProposal → Tree → AuthenticatedParts → ℕ → LeafNode
+-- `commit_signatures context t i c items` is those of its proposals by value, then those of all leaves that it replaces or adds.
+abbrev pub commit_signatures : CommitSignatures
+commit_signatures = list_signatures new_leaves
+
+-- `fresh_commit_signatures context t i c items` is those of its proposals by value, then that of its path. Of the leaves that
+-- it replaces or adds only those are listed whose signature is not one of a proposal.
+abbrev pub fresh_commit_signatures : CommitSignatures
+fresh_commit_signatures = list_signatures fresh_leaves
+
+-- `content_signatures commits context known t a i x content` is the signatures of what member i, whose leaf is `x`, has sent.
+-- They are that of the message, then those of the proposal or the Commit. Application data has none.
+abbrev pub content_signatures : CommitSignatures → GroupContext → List KnownProposal → Tree → AuthenticatedParts → ℕ → LeafNode
     → Content → List SignatureToVerify
-content_signatures context known t a i x (contents.Application _) = []
-content_signatures context known t a i x (contents.Proposal p) =
+content_signatures commits context known t a i x (contents.Application _) = []
+content_signatures commits context known t a i x (contents.Proposal p) =
     framed_content_signatures context x.signature_key a ++ proposal_signatures context (senders.Member i) p
-content_signatures context known t a i x (contents.Commit c) =
+content_signatures commits context known t a i x (contents.Commit c) =
     framed_content_signatures context x.signature_key a
-    ++ commit_signatures context t i c (resolved (senders.Member i) known c.proposals)
+    ++ commits context t i c (resolved (senders.Member i) known c.proposals)
 
--- `member_signatures context known t a i x` is the signatures of what member i has sent. Empty if its leaf `x` is blank.
-abbrev pub member_signatures : GroupContext → List KnownProposal → Tree → AuthenticatedParts → ℕ
+-- `member_signatures commits context known t a i x` is the signatures of what member i has sent. Empty if its leaf `x` is blank.
+abbrev pub member_signatures : CommitSignatures → GroupContext → List KnownProposal → Tree → AuthenticatedParts → ℕ
     → Option LeafNode → List SignatureToVerify
-member_signatures context known t a i None = []
-member_signatures context known t a i (Some x) = content_signatures context known t a i x a.content.content
+member_signatures commits context known t a i None = []
+member_signatures commits context known t a i (Some x) = content_signatures commits context known t a i x a.content.content
 
 -- `outside_proposal_signatures context a sender key p` is the signatures of a proposal of a sender outside the group: that of
 -- the message under the sender's key, then those of the proposal. Empty if the sender may not send it (RFC 9420, 12.1.8).
@@ -329,39 +367,47 @@ abbrev pub in_full : Profile → List SignatureToVerify → List SignatureToVeri
 in_full Members qs = []
 in_full Full qs = qs
 
--- `sender_signatures profile context known t a sender` is the signatures of what a sender has sent (RFC 9420, 6).
-abbrev pub sender_signatures : Profile → GroupContext → List KnownProposal → Tree → AuthenticatedParts → Sender
-    → List SignatureToVerify
-sender_signatures profile context known t a (senders.Member i) = member_signatures context known t a i (leaf_at 0 t i)
-sender_signatures profile context known t a (senders.External k) =
+-- `sender_signatures commits profile context known t a sender` is the signatures of what a sender has sent (RFC 9420, 6).
+abbrev pub sender_signatures : CommitSignatures → Profile → GroupContext → List KnownProposal → Tree → AuthenticatedParts
+    → Sender → List SignatureToVerify
+sender_signatures commits profile context known t a (senders.Member i) =
+    member_signatures commits context known t a i (leaf_at 0 t i)
+sender_signatures commits profile context known t a (senders.External k) =
     in_full profile (outside_signatures context a (senders.External k)
     (outside_key context (senders.External k) a.content.content))
-sender_signatures profile context known t a senders.NewMemberProposal =
+sender_signatures commits profile context known t a senders.NewMemberProposal =
     in_full profile (outside_signatures context a senders.NewMemberProposal
     (outside_key context senders.NewMemberProposal a.content.content))
-sender_signatures profile context known t a senders.NewMemberCommit =
+sender_signatures commits profile context known t a senders.NewMemberCommit =
     in_full profile (join_content_signatures context t a a.content.content)
 
--- `authenticated_signatures profile context known t a` is the signatures of an AuthenticatedContent. Empty if it is of another
--- group or epoch (RFC 9420, 6.1).
-abbrev pub authenticated_signatures : Profile → GroupContext → List KnownProposal → Tree → AuthenticatedParts
-    → List SignatureToVerify
-authenticated_signatures profile context known t a =
+-- `authenticated_signatures commits profile context known t a` is the signatures of an AuthenticatedContent. Empty if it is of
+-- another group or epoch (RFC 9420, 6.1).
+abbrev pub authenticated_signatures : CommitSignatures → Profile → GroupContext → List KnownProposal → Tree
+    → AuthenticatedParts → List SignatureToVerify
+authenticated_signatures commits profile context known t a =
     if bytes_eq a.content.group_id context.group_id && a.content.epoch == context.epoch
-    then sender_signatures profile context known t a a.content.sender
+    then sender_signatures commits profile context known t a a.content.sender
     else []
 
--- `all_message_signatures profile context known t m` is the signatures of a message. Empty if it is no PublicMessage (RFC 9420,
--- 6.2).
-abbrev pub all_message_signatures : Profile → GroupContext → List KnownProposal → Tree → Message
+-- `all_message_signatures commits profile context known t m` is the signatures of a message. Empty if it is no PublicMessage
+-- (RFC 9420, 6.2).
+abbrev pub all_message_signatures : CommitSignatures → Profile → GroupContext → List KnownProposal → Tree → Message
     → List SignatureToVerify
-all_message_signatures profile context known t (messages.Public m) =
-    authenticated_signatures profile context known t m.auth
-all_message_signatures profile context known t (messages.Unread _ _) = []
-all_message_signatures profile context known t (messages.GroupInfo _) = []
-all_message_signatures profile context known t (messages.KeyPackage _) = []
+all_message_signatures commits profile context known t (messages.Public m) =
+    authenticated_signatures commits profile context known t m.auth
+all_message_signatures commits profile context known t (messages.Unread _ _) = []
+all_message_signatures commits profile context known t (messages.GroupInfo _) = []
+all_message_signatures commits profile context known t (messages.KeyPackage _) = []
 
 -- `message_signatures profile context known t m` is the signatures of a message, without duplicates.
 abbrev pub message_signatures : Profile → GroupContext → List KnownProposal → Tree → Message
     → List SignatureToVerify
-message_signatures profile context known t m = deduplicated (all_message_signatures profile context known t m)
+message_signatures profile context known t m =
+    deduplicated (all_message_signatures commit_signatures profile context known t m)
+
+-- `fresh_message_signatures profile context known t m` is those of a message which no pending proposal has, without duplicates.
+abbrev pub fresh_message_signatures : Profile → GroupContext → List KnownProposal → Tree → Message
+    → List SignatureToVerify
+fresh_message_signatures profile context known t m =
+    deduplicated (all_message_signatures fresh_commit_signatures profile context known t m)

@@ -26,6 +26,15 @@ pub(crate) struct AddedLeaf<'a> {
     pub(crate) reference: Option<&'a [u8]>,
 }
 
+/// Which of the leaves that a list replaces or adds have their signatures listed.
+#[derive(Clone, Copy)]
+pub(crate) enum NewLeaves {
+    /// All of them.
+    All,
+    /// Those whose signature is not one of a proposal of the list.
+    Fresh,
+}
+
 /// Returns the reference in an entry of a proposal list, if there is one.
 fn reference_of_entry(entry: &ProposalOrRef) -> Option<&[u8]>
     ensures { option_map (λ r. r.now) result ≡ reference_of_entry entry.now }

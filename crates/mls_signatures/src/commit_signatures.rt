@@ -1,16 +1,18 @@
 //! The signatures of a member's commit after the message's own (RFC 9420, 12.4), appended to a list.
 
-ghost use Rattle.std.specs.Prelude.{◌≡◌, ◌++◌, ◌∷◌, [], Some, IfOk, OnOk, option_map};
+ghost use Rattle.std.specs.Prelude.{◌≡◌, ◌++◌, ◌∷◌, [], All, Some, IfOk, OnOk, filter, option_map, true};
 ghost use Rattle.mls_msgs.specs.declared.framed_content.Sender.TheVariants.{Member};
 ghost use Rattle.mls_tree.specs.Tree.{Tree};
 ghost use Rattle.mls_apply.specs.Senders.{member_index};
 ghost use Rattle.mls_apply.specs.ResolvedList.{resolved};
-ghost use Rattle.mls_apply.specs.AppliedList.{outcome};
+ghost use Rattle.mls_apply.specs.AppliedList.{applied_tree, outcome};
 ghost use Rattle.mls_apply.specs.Staged.{IsSettled};
-ghost use Rattle.mls_signatures.specs.AddedLeaves.{AreNamedAlike, AreOfValues, AppendsSignatures, HasNames, IsAfter, IsListed, ListValues, ValuesAre, indices};
-ghost use Rattle.mls_signatures.specs.SignaturesToVerify.{signatures_at, entry_signatures, entries_signatures, index_before, replaced_leaves, path_signatures, applied_list_signatures, commit_signatures};
+ghost use Rattle.mls_signatures.specs.AcceptedSignatures.{are_from_packages};
+ghost use Rattle.mls_signatures.specs.AddedLeaves.{AreNamedAlike, AreOfValues, AppendsSignatures, HasNames, HasPackageNames, IfFresh, IsAfter, IsListed, IsPackageIfNamed, ListValues, ValuesAre, indices, leaves_of};
+ghost use Rattle.mls_signatures.specs.SignaturesToVerify.{signatures_at, entry_signatures, entries_signatures, index_before, replaced_leaves, is_fresh_leaf, path_signatures, applied_list_signatures, list_signatures};
 
-use crate::added_leaves::{AddedLeaf, added_leaves, leaves_by_index};
+use crate::added_leaves::{AddedLeaf, NewLeaves, added_leaves, leaves_by_index};
+use crate::fresh_leaf_signatures::{other_indices, push_contained, push_other_leaf_signatures};
 use crate::new_leaf_signatures::{
     TreeAfter, push_added_leaf_signatures, push_replaced_leaf_signatures,
 };
@@ -23,12 +25,13 @@ use mls_nodes::GroupContext;
 use mls_tree::PublicTree;
 use std::alloc::Global;
 
-/// A commit of a member, and the context of its group.
+/// A commit of a member, the context of its group, and which of the leaves that its list replaces or adds are listed.
 #[derive(Clone, Copy)]
 pub(crate) struct MemberCommit<'a> {
     pub(crate) context: &'a GroupContext,
     pub(crate) committer: u32,
     pub(crate) commit: &'a Commit,
+    pub(crate) leaves: NewLeaves,
 }
 
 /// Appends the signatures of an entry of a proposal list, if the entry is a proposal by value.
@@ -128,22 +131,19 @@ struct Outline<'s, 'a> {
     leaves: &'s [AddedLeaf<'a>],
 }
 
-/// Appends the signatures of the leaves that the Updates of a list replace, in the tree after it.
-fn push_update_leaf_signatures(
+/// Appends the signatures of the leaves at these leaf indices, in the tree after a list.
+fn push_signatures_at(
     alloc: Global,
     context: &GroupContext,
-    items: &[ListItem],
     outline: &Outline<'_, '_>,
+    places: &[u32],
     list: &mut SignatureList,
 ) -> Result<(), OutOfMemory>
     ensures { let suite = context.now.cipher_suite in
         (t : Tree) → IsAfter t outline.now.tree.now.tree outline.now.leaves.now
-        → OnOk result (AppendsSignatures list.old
-        (signatures_at suite context.now.group_id t (replaced_leaves items.now)) list.new) }
+        → OnOk result (AppendsSignatures list.old (signatures_at suite context.now.group_id t places.now) list.new) }
 {
-    let mut replaced = Vec::new(alloc);
-    push_replaced_leaves(items, &mut replaced)?;
-    if replaced.is_empty() {
+    if places.is_empty() {
         return Ok(());
     }
     let added = leaves_by_index(alloc, outline.leaves)?;
@@ -151,12 +151,80 @@ fn push_update_leaf_signatures(
         tree: outline.tree,
         added: &added,
     };
-    let answer = push_replaced_leaf_signatures(alloc, context, &after, replaced.as_slice(), list);
+    let answer = push_replaced_leaf_signatures(alloc, context, &after, places, list);
     drop(added);
     answer
 }
 
-/// Appends the signatures of the leaves that a list replaces or adds, in the tree after it, then that of the leaf of the path.
+/// Appends the signatures of all leaves that a list replaces or adds, in the tree after it.
+fn push_all_leaf_signatures(
+    alloc: Global,
+    context: &GroupContext,
+    items: &[ListItem],
+    outline: &Outline<'_, '_>,
+    list: &mut SignatureList,
+) -> Result<(), OutOfMemory>
+    requires named { AreNamedAlike outline.now.leaves.now }
+    requires listed { AreOfValues (IsListed context.now list.old) outline.now.leaves.now }
+    ensures { let suite = context.now.cipher_suite in
+        (t : Tree) → IsAfter t outline.now.tree.now.tree outline.now.leaves.now
+        → OnOk result (AppendsSignatures list.old (signatures_at suite context.now.group_id t
+        (replaced_leaves items.now ++ indices outline.now.leaves.now)) list.new) }
+{
+    let mut replaced = Vec::new(alloc);
+    push_replaced_leaves(items, &mut replaced)?;
+    push_signatures_at(alloc, context, outline, replaced.as_slice(), list)?;
+    push_added_leaf_signatures(alloc, context, outline.leaves, list)
+}
+
+/// Appends the signatures of those leaves that a list replaces or adds whose signature is not one of a proposal of the list.
+/// The leaf nodes of the others are neither copied nor hashed.
+fn push_fresh_leaf_signatures(
+    alloc: Global,
+    context: &GroupContext,
+    items: &[ListItem],
+    outline: &Outline<'_, '_>,
+    list: &mut SignatureList,
+) -> Result<(), OutOfMemory>
+    requires { All IsPackageIfNamed outline.now.leaves.now }
+    ensures { let suite = context.now.cipher_suite in
+        (t : Tree) → IsAfter t outline.now.tree.now.tree outline.now.leaves.now
+        → OnOk result (AppendsSignatures list.old (signatures_at suite context.now.group_id t
+        (filter (is_fresh_leaf (indices outline.now.leaves.now) t)
+        (replaced_leaves items.now ++ indices outline.now.leaves.now))) list.new) }
+{
+    let others = other_indices(alloc, outline.leaves)?;
+    let mut replaced = Vec::new(alloc);
+    push_replaced_leaves(items, &mut replaced)?;
+    let mut kept = Vec::new(alloc);
+    push_contained(&others, replaced.as_slice(), &mut kept)?;
+    push_signatures_at(alloc, context, outline, kept.as_slice(), list)?;
+    push_other_leaf_signatures(alloc, context, outline.leaves, list)
+}
+
+/// Appends the signatures of the leaves that are listed of those that a list replaces or adds, in the tree after it.
+fn push_listed_leaf_signatures(
+    alloc: Global,
+    commit: &MemberCommit<'_>,
+    items: &[ListItem],
+    outline: &Outline<'_, '_>,
+    list: &mut SignatureList,
+) -> Result<(), OutOfMemory>
+    requires named { AreNamedAlike outline.now.leaves.now }
+    requires listed { AreOfValues (IsListed commit.now.context.now list.old) outline.now.leaves.now }
+    requires packages { IfFresh commit.now.leaves (All IsPackageIfNamed outline.now.leaves.now) }
+    ensures { let context = commit.now.context.now in
+        (t : Tree) → IsAfter t outline.now.tree.now.tree outline.now.leaves.now
+        → OnOk result (AppendsSignatures list.old (signatures_at context.cipher_suite context.group_id t
+        (leaves_of commit.now.leaves items.now (applied_tree t (indices outline.now.leaves.now)))) list.new) }
+{
+    match commit.leaves {
+        NewLeaves::All => push_all_leaf_signatures(alloc, commit.context, items, outline, list),
+        NewLeaves::Fresh => push_fresh_leaf_signatures(alloc, commit.context, items, outline, list),
+    }
+}
+
+/// Appends the signatures of the leaves that are listed, then that of the leaf of the path.
 fn push_new_leaf_signatures(
     alloc: Global,
     commit: &MemberCommit<'_>,
@@ -166,14 +234,15 @@ fn push_new_leaf_signatures(
 ) -> Result<(), OutOfMemory>
     requires named { AreNamedAlike outline.now.leaves.now }
     requires listed { AreOfValues (IsListed commit.now.context.now list.old) outline.now.leaves.now }
+    requires packages { IfFresh commit.now.leaves (All IsPackageIfNamed outline.now.leaves.now) }
     ensures { let context = commit.now.context.now in
         (t : Tree) → IsAfter t outline.now.tree.now.tree outline.now.leaves.now
         → OnOk result (AppendsSignatures list.old
-        (signatures_at context.cipher_suite context.group_id t (replaced_leaves items.now ++ indices outline.now.leaves.now)
+        (signatures_at context.cipher_suite context.group_id t
+        (leaves_of commit.now.leaves items.now (applied_tree t (indices outline.now.leaves.now)))
         ++ path_signatures context commit.now.committer commit.now.commit.now.path) list.new) }
 {
-    push_update_leaf_signatures(alloc, commit.context, items, outline, list)?;
-    push_added_leaf_signatures(alloc, commit.context, outline.leaves, list)?;
+    push_listed_leaf_signatures(alloc, commit, items, outline, list)?;
     push_path_signature(
         alloc,
         commit.context,
@@ -183,8 +252,9 @@ fn push_new_leaf_signatures(
     )
 }
 
-/// Applies a list to the tree, except for the leaf nodes of its Adds, and appends the signatures of the leaves that it adds or
-/// replaces, and of the path's leaf, if the list can be applied. A part of the list may have been applied, whatever is returned.
+/// Applies a list to the tree, except for the leaf nodes of its Adds, and appends the signatures of the leaves that are listed of
+/// those that it adds or replaces, and of the path's leaf, if the list can be applied. A part of the list may have been applied,
+/// whatever is returned.
 fn apply_and_push_signatures(
     alloc: Global,
     commit: &MemberCommit<'_>,
@@ -193,10 +263,11 @@ fn apply_and_push_signatures(
     list: &mut SignatureList,
 ) -> Result<(), OutOfMemory>
     requires named { HasNames commit.now.commit.now.proposals items.now }
+    requires packages { IfFresh commit.now.leaves (HasPackageNames commit.now.commit.now.proposals items.now) }
     requires listed { ValuesAre (IsListed commit.now.context.now list.old) commit.now.commit.now.proposals items.now }
     ensures signatures { let context = commit.now.context.now in
         OnOk result (AppendsSignatures list.old
-        (applied_list_signatures context commit.now.committer commit.now.commit.now.path items.now
+        (applied_list_signatures (leaves_of commit.now.leaves) context commit.now.committer commit.now.commit.now.path items.now
         (outcome items.now tree.old.tree)) list.new) }
     ensures base { tree.new.base ≡ tree.old.base }
 {
@@ -219,8 +290,8 @@ fn apply_and_push_signatures(
     answer
 }
 
-/// Appends the signatures of the leaves that a proposal list adds or replaces, and of the path's leaf, if the list can be
-/// applied. The list is applied to the tree, and undone.
+/// Appends the signatures of the leaves that are listed of those that a proposal list adds or replaces, and of the path's leaf,
+/// if the list can be applied. The list is applied to the tree, and undone.
 fn push_applied_list_signatures(
     alloc: Global,
     commit: &MemberCommit<'_>,
@@ -229,11 +300,12 @@ fn push_applied_list_signatures(
     list: &mut SignatureList,
 ) -> Result<(), OutOfMemory>
     requires named { HasNames commit.now.commit.now.proposals items.now }
+    requires packages { IfFresh commit.now.leaves (HasPackageNames commit.now.commit.now.proposals items.now) }
     requires listed { ValuesAre (IsListed commit.now.context.now list.old) commit.now.commit.now.proposals items.now }
     requires settled { IsSettled tree.old }
     ensures signatures { let context = commit.now.context.now in
         OnOk result (AppendsSignatures list.old
-        (applied_list_signatures context commit.now.committer commit.now.commit.now.path items.now
+        (applied_list_signatures (leaves_of commit.now.leaves) context commit.now.committer commit.now.commit.now.path items.now
         (outcome items.now tree.old.tree)) list.new) }
     ensures base { tree.new.base ≡ tree.old.base }
     ensures tree { tree.new.tree ≡ tree.old.tree }
@@ -244,7 +316,8 @@ fn push_applied_list_signatures(
     answer
 }
 
-/// Appends the signatures of the proposals by value of a commit, then those of the leaves that it adds or replaces.
+/// Appends the signatures of the proposals by value of a commit, then those of the leaves that are listed of those that it adds or
+/// replaces, then that of its path's leaf.
 fn push_list_signatures(
     alloc: Global,
     commit: &MemberCommit<'_>,
@@ -253,11 +326,12 @@ fn push_list_signatures(
     list: &mut SignatureList,
 ) -> Result<(), OutOfMemory>
     requires named { HasNames commit.now.commit.now.proposals items.now }
+    requires packages { IfFresh commit.now.leaves (HasPackageNames commit.now.commit.now.proposals items.now) }
     requires values { ListValues commit.now.context.now (Member commit.now.committer)
         commit.now.commit.now.proposals items.now }
     requires settled { IsSettled tree.old }
     ensures signatures { OnOk result (AppendsSignatures list.old
-        (commit_signatures commit.now.context.now tree.old.tree commit.now.committer
+        (list_signatures (leaves_of commit.now.leaves) commit.now.context.now tree.old.tree commit.now.committer
         commit.now.commit.now (Some items.now)) list.new) }
     ensures base { tree.new.base ≡ tree.old.base }
     ensures tree { tree.new.tree ≡ tree.old.tree }
@@ -296,9 +370,10 @@ pub(crate) fn push_commit_signatures(
     tree: &mut StagedTree,
     list: &mut SignatureList,
 ) -> Result<(), OutOfMemory>
-    requires { IsSettled tree.old }
+    requires settled { IsSettled tree.old }
+    requires packages { IfFresh commit.now.leaves (are_from_packages known.now ≡ true) }
     ensures signatures { OnOk result (AppendsSignatures list.old
-        (commit_signatures commit.now.context.now tree.old.tree commit.now.committer
+        (list_signatures (leaves_of commit.now.leaves) commit.now.context.now tree.old.tree commit.now.committer
         commit.now.commit.now
         (resolved (Member commit.now.committer) known.now commit.now.commit.now.proposals)) list.new) }
     ensures base { tree.new.base ≡ tree.old.base }

@@ -1,5 +1,6 @@
 //! Theorems about the definitions of this crate, which no call of a caller's needs to run.
 
+ghost use Rattle.mls_signatures.specs.AcceptedSignatures.{FreshSignaturesSuffice};
 ghost use Rattle.mls_signatures.specs.Agreement.{DuplicatesAreIrrelevant};
 ghost use Rattle.mls_signatures.specs.DistinctStarts.{StartSignaturesAreDistinct};
 
@@ -12,4 +13,11 @@ pub fn duplicates_are_irrelevant()
 /// at a time need not look for duplicates.
 pub fn start_signatures_are_distinct()
     ensures distinct { StartSignaturesAreDistinct }
+{}
+
+/// If a verification function accepts the signatures of the pending proposals, those of a message that it does not accept are
+/// those among the ones that no pending proposal has, in the same order. So a follower, which has verified its pending
+/// proposals, need not list theirs again.
+pub fn fresh_signatures_suffice()
+    ensures fresh { FreshSignaturesSuffice }
 {}

@@ -1,14 +1,16 @@
 //! The signatures of a start and of a message, without duplicates.
 
-ghost use Rattle.std.specs.Prelude.{◌≡◌, IfOk, OnOk};
+ghost use Rattle.std.specs.Prelude.{◌≡◌, IfOk, OnOk, true};
 ghost use Rattle.std.specs.Option.{option_to_list};
 ghost use Rattle.mls_nodes.specs.ExternalSenders.{senders_by};
 ghost use Rattle.mls_tree.specs.Tree.{leaf_at};
 ghost use Rattle.mls_apply.specs.Staged.{IsSettled};
-ghost use Rattle.mls_signatures.specs.AddedLeaves.{AppendsSignatures};
-ghost use Rattle.mls_signatures.specs.SignaturesToVerify.{all_message_signatures, authenticated_signatures, info_signatures, join_content_signatures, key_package_signatures, member_signatures, message_signatures, non_blank_leaf_signatures, outside_content_signatures, outside_proposal_signatures, outside_signatures, sender_signatures, start_signatures};
+ghost use Rattle.mls_signatures.specs.AcceptedSignatures.{are_from_packages};
+ghost use Rattle.mls_signatures.specs.AddedLeaves.{AppendsSignatures, IfFresh, leaves_of};
+ghost use Rattle.mls_signatures.specs.SignaturesToVerify.{all_message_signatures, authenticated_signatures, deduplicated, fresh_message_signatures, info_signatures, join_content_signatures, key_package_signatures, list_signatures, member_signatures, message_signatures, non_blank_leaf_signatures, outside_content_signatures, outside_proposal_signatures, outside_signatures, sender_signatures, start_signatures};
 ghost use Rattle.mls_signatures.specs.SigningKeys.{outside_key};
 
+use crate::added_leaves::NewLeaves;
 use crate::commit_signatures::{MemberCommit, push_commit_signatures};
 use crate::external_commit_signatures::{ExternalCommit, push_external_commit_signature};
 use crate::push_signatures::{
@@ -143,6 +145,14 @@ pub struct GroupEpoch<'a> {
     pub senders: &'a Option<ExternalSenders>,
 }
 
+/// What the signatures of a message depend on besides the tree, and which of the leaves that a commit replaces or adds are
+/// listed.
+#[derive(Clone, Copy)]
+struct Listing<'a> {
+    epoch: &'a GroupEpoch<'a>,
+    leaves: NewLeaves,
+}
+
 /// What a member has sent.
 #[derive(Clone, Copy)]
 struct Sent<'a> {
@@ -153,20 +163,22 @@ struct Sent<'a> {
 /// Appends the signatures of what a member has sent, if its leaf is non-blank.
 fn push_member_signatures(
     alloc: Global,
-    epoch: &GroupEpoch<'_>,
+    listing: &Listing<'_>,
     tree: &mut StagedTree,
     sent: &Sent<'_>,
     list: &mut SignatureList,
 ) -> Result<(), OutOfMemory>
-    requires { IsSettled tree.old }
-    ensures signatures { OnOk result (AppendsSignatures list.old
-        (member_signatures epoch.now.context.now epoch.now.known.now tree.old.tree sent.now.auth.now
-        sent.now.sender (leaf_at 0 tree.old.tree sent.now.sender)) list.new) }
+    requires settled { IsSettled tree.old }
+    requires packages { IfFresh listing.now.leaves (are_from_packages listing.now.epoch.now.known.now ≡ true) }
+    ensures signatures { let epoch = listing.now.epoch.now in
+        OnOk result (AppendsSignatures list.old
+        (member_signatures (list_signatures (leaves_of listing.now.leaves)) epoch.context.now epoch.known.now tree.old.tree
+        sent.now.auth.now sent.now.sender (leaf_at 0 tree.old.tree sent.now.sender)) list.new) }
     ensures base { tree.new.base ≡ tree.old.base }
     ensures tree { tree.new.tree ≡ tree.old.tree }
     ensures settled { IsSettled tree.new }
 {
-    let context = epoch.context;
+    let context = listing.epoch.context;
     let sender = sent.sender;
     let auth = sent.auth;
     let Some(leaf) = tree.tree().leaf(sender) else {
@@ -185,8 +197,9 @@ fn push_member_signatures(
                 context,
                 committer: sender,
                 commit,
+                leaves: listing.leaves,
             };
-            push_commit_signatures(alloc, &commit, epoch.known, tree, list)
+            push_commit_signatures(alloc, &commit, listing.epoch.known, tree, list)
         }
     }
 }
@@ -292,24 +305,27 @@ fn push_join_signatures(
 /// Appends the signatures of what a sender has sent. In the members' profile there are none of a sender outside the group.
 fn push_sender_signatures(
     alloc: Global,
-    epoch: &GroupEpoch<'_>,
+    listing: &Listing<'_>,
     tree: &mut StagedTree,
     auth: &Authenticated,
     list: &mut SignatureList,
 ) -> Result<(), OutOfMemory>
     requires settled { IsSettled tree.old }
-    requires senders { epoch.now.senders.now ≡ senders_by epoch.now.context.now.extensions }
-    ensures signatures { OnOk result (AppendsSignatures list.old
-        (sender_signatures epoch.now.profile epoch.now.context.now epoch.now.known.now tree.old.tree auth.now
-        auth.now.content.sender) list.new) }
+    requires senders { listing.now.epoch.now.senders.now ≡ senders_by listing.now.epoch.now.context.now.extensions }
+    requires packages { IfFresh listing.now.leaves (are_from_packages listing.now.epoch.now.known.now ≡ true) }
+    ensures signatures { let epoch = listing.now.epoch.now in
+        OnOk result (AppendsSignatures list.old
+        (sender_signatures (list_signatures (leaves_of listing.now.leaves)) epoch.profile epoch.context.now epoch.known.now
+        tree.old.tree auth.now auth.now.content.sender) list.new) }
     ensures base { tree.new.base ≡ tree.old.base }
     ensures tree { tree.new.tree ≡ tree.old.tree }
     ensures settled { IsSettled tree.new }
 {
+    let epoch = listing.epoch;
     match (auth.content().sender, epoch.profile) {
         (Sender::Member(sender), _) => {
             let sent = Sent { sender, auth };
-            push_member_signatures(alloc, epoch, tree, &sent, list)
+            push_member_signatures(alloc, listing, tree, &sent, list)
         }
         (Sender::External(_), Profile::Full) => {
             push_outside_signatures(alloc, epoch, auth, list)
@@ -327,52 +343,85 @@ fn push_sender_signatures(
 /// Appends the signatures of an AuthenticatedContent, if it is of the group and its epoch.
 fn push_authenticated_signatures(
     alloc: Global,
-    epoch: &GroupEpoch<'_>,
+    listing: &Listing<'_>,
     tree: &mut StagedTree,
     auth: &Authenticated,
     list: &mut SignatureList,
 ) -> Result<(), OutOfMemory>
     requires settled { IsSettled tree.old }
-    requires senders { epoch.now.senders.now ≡ senders_by epoch.now.context.now.extensions }
-    ensures signatures { OnOk result (AppendsSignatures list.old
-        (authenticated_signatures epoch.now.profile epoch.now.context.now epoch.now.known.now tree.old.tree
-        auth.now) list.new) }
+    requires senders { listing.now.epoch.now.senders.now ≡ senders_by listing.now.epoch.now.context.now.extensions }
+    requires packages { IfFresh listing.now.leaves (are_from_packages listing.now.epoch.now.known.now ≡ true) }
+    ensures signatures { let epoch = listing.now.epoch.now in
+        OnOk result (AppendsSignatures list.old
+        (authenticated_signatures (list_signatures (leaves_of listing.now.leaves)) epoch.profile epoch.context.now
+        epoch.known.now tree.old.tree auth.now) list.new) }
     ensures base { tree.new.base ≡ tree.old.base }
     ensures tree { tree.new.tree ≡ tree.old.tree }
     ensures settled { IsSettled tree.new }
 {
     let content = auth.content();
-    if content.group_id.as_slice() != epoch.context.group_id.as_slice() {
+    let context = listing.epoch.context;
+    if content.group_id.as_slice() != context.group_id.as_slice() {
         return Ok(());
     }
-    if content.epoch != epoch.context.epoch {
+    if content.epoch != context.epoch {
         return Ok(());
     }
-    push_sender_signatures(alloc, epoch, tree, auth, list)
+    push_sender_signatures(alloc, listing, tree, auth, list)
 }
 
 /// Appends the signatures of a message, if it is a PublicMessage.
 fn push_message_signatures(
     alloc: Global,
-    epoch: &GroupEpoch<'_>,
+    listing: &Listing<'_>,
     tree: &mut StagedTree,
     message: &Message,
     list: &mut SignatureList,
 ) -> Result<(), OutOfMemory>
     requires settled { IsSettled tree.old }
-    requires senders { epoch.now.senders.now ≡ senders_by epoch.now.context.now.extensions }
-    ensures signatures { OnOk result (AppendsSignatures list.old
-        (all_message_signatures epoch.now.profile epoch.now.context.now epoch.now.known.now tree.old.tree
-        message.now) list.new) }
+    requires senders { listing.now.epoch.now.senders.now ≡ senders_by listing.now.epoch.now.context.now.extensions }
+    requires packages { IfFresh listing.now.leaves (are_from_packages listing.now.epoch.now.known.now ≡ true) }
+    ensures signatures { let epoch = listing.now.epoch.now in
+        OnOk result (AppendsSignatures list.old
+        (all_message_signatures (list_signatures (leaves_of listing.now.leaves)) epoch.profile epoch.context.now
+        epoch.known.now tree.old.tree message.now) list.new) }
     ensures base { tree.new.base ≡ tree.old.base }
     ensures tree { tree.new.tree ≡ tree.old.tree }
     ensures settled { IsSettled tree.new }
 {
     match message {
         Message::Public(public) => {
-            push_authenticated_signatures(alloc, epoch, tree, public.auth(), list)
+            push_authenticated_signatures(alloc, listing, tree, public.auth(), list)
         }
         _ => Ok(()),
+    }
+}
+
+/// Returns the signatures of a message, of which those of a commit's leaves are listed that are to be, without duplicates.
+fn listed_signatures(
+    alloc: Global,
+    listing: &Listing<'_>,
+    tree: &mut StagedTree,
+    message: &Message,
+) -> Result<SignatureList, OutOfMemory>
+    requires settled { IsSettled tree.old }
+    requires senders { listing.now.epoch.now.senders.now ≡ senders_by listing.now.epoch.now.context.now.extensions }
+    requires packages { IfFresh listing.now.leaves (are_from_packages listing.now.epoch.now.known.now ≡ true) }
+    ensures signatures { let epoch = listing.now.epoch.now in
+        IfOk result (λ list. list ≡ deduplicated
+        (all_message_signatures (list_signatures (leaves_of listing.now.leaves)) epoch.profile epoch.context.now
+        epoch.known.now tree.old.tree message.now)) }
+    ensures base { tree.new.base ≡ tree.old.base }
+    ensures tree { tree.new.tree ≡ tree.old.tree }
+    ensures settled { IsSettled tree.new }
+{
+    let mut list = SignatureList::of_group(alloc, &listing.epoch.context.group_id)?;
+    match push_message_signatures(alloc, listing, tree, message, &mut list) {
+        Ok(()) => list.deduplicated(alloc),
+        Err(memory) => {
+            drop(list);
+            Err(memory)
+        }
     }
 }
 
@@ -405,12 +454,43 @@ pub fn message_signatures(
     ensures tree { tree.new.tree ≡ tree.old.tree }
     ensures settled { IsSettled tree.new }
 {
-    let mut list = SignatureList::of_group(alloc, &epoch.context.group_id)?;
-    match push_message_signatures(alloc, epoch, tree, message, &mut list) {
-        Ok(()) => list.deduplicated(alloc),
-        Err(memory) => {
-            drop(list);
-            Err(memory)
-        }
-    }
+    let listing = Listing {
+        epoch,
+        leaves: NewLeaves::All,
+    };
+    listed_signatures(alloc, &listing, tree, message)
+}
+
+/// Returns those signatures of a message of a group in this epoch, with this tree, that no pending proposal has, without
+/// duplicates (RFC 9420, 6): those of [`message_signatures`], except that of the leaves that a commit adds or replaces only those
+/// are returned whose signature is not one of a proposal of its list. A checker that accepts the signatures of the pending
+/// proposals accepts all others ([`laws::fresh_signatures_suffice`](crate::laws::fresh_signatures_suffice)).
+///
+/// The leaf node of each pending Add must be from a KeyPackage, as in each Add that a follower accepts (RFC 9420, 10.1). The
+/// proposals that a commit names by reference are neither read nor copied nor hashed. The list is applied to the tree and undone, so
+/// the tree must have no staged change. Its changes are undone whatever is returned.
+///
+/// # Errors
+///
+/// [`OutOfMemory`].
+pub fn fresh_message_signatures(
+    alloc: Global,
+    epoch: &GroupEpoch<'_>,
+    tree: &mut StagedTree,
+    message: &Message,
+) -> Result<SignatureList, OutOfMemory>
+    requires settled { IsSettled tree.old }
+    requires senders { epoch.now.senders.now ≡ senders_by epoch.now.context.now.extensions }
+    requires packages { are_from_packages epoch.now.known.now ≡ true }
+    ensures signatures { IfOk result (λ list. list
+        ≡ fresh_message_signatures epoch.now.profile epoch.now.context.now epoch.now.known.now tree.old.tree message.now) }
+    ensures base { tree.new.base ≡ tree.old.base }
+    ensures tree { tree.new.tree ≡ tree.old.tree }
+    ensures settled { IsSettled tree.new }
+{
+    let listing = Listing {
+        epoch,
+        leaves: NewLeaves::Fresh,
+    };
+    listed_signatures(alloc, &listing, tree, message)
 }

@@ -104,7 +104,7 @@ some_tree_finding asked G context_bytes tree_bytes =
       | inr none ↦ (ContextUnreadable some_fault, none)
     ]
 
--- ---- a group info, and a tree where one is handed in
+-- ---- a group info, and a tree where one is passed
 
 message_within : (profile : Profile) (m : Message) (bytes : List ℕ) → EncodesMessage profile m bytes → message_in profile m ≡ Some bytes
 unfolding message_in
@@ -122,7 +122,7 @@ message_or_not profile bytes = go (message_or_none profile bytes) (fits_or_not b
         let h = encoded_in profile m.0 bytes m.1 in
         inl (m.0, record { encoded = h.1; allowed = h.0; bounded = le })
 
--- the tree that is handed in can be read, or not
+-- the tree that is passed can be read, or not
 supplied_or_not : (bytes : Option (List ℕ)) → ((t : Option RatchetTree) × IsSupplied bytes t) ⊎ IsSuppliedUnread bytes
 supplied_or_not None = inl (None, tt)
 supplied_or_not (Some bytes) = elim (tree_or_not bytes) [ inl t ↦ inl (Some t.0, t.1) | inr none ↦ inr none ]

@@ -3,7 +3,7 @@
 use mls_check::SignatureCheck;
 
 /// What the messages to a follower are judged by, in addition to the rules of its group: a check of their signatures, and a
-/// time, if one is handed in.
+/// time, if one is passed.
 #[derive(Drop)]
 pub struct Judge<C: SignatureCheck> {
     /// The check of signatures.

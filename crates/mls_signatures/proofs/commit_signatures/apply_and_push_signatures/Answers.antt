@@ -1,9 +1,9 @@
 use Rattle.std.proofs.Common.{◌≡◌, ◌∙◌, ◌++◌, ap, refl, subst, sym}
-use Rattle.std.specs.Prelude.{OnOk}
-use Rattle.mls_signatures.specs.AddedLeaves.{AreOfValues, AppendsSignatures, IsAfter, IsListed, ValuesAre, indices, leaf_nodes}
-use Rattle.mls_apply.specs.AppliedList.{new_members}
-use Rattle.mls_signatures.specs.SignaturesToVerify.{path_signatures, replaced_leaves, signatures_at}
-use Rattle.mls_signatures.proofs.AddedLeaves.{outline_after, outline_count}
+use Rattle.std.specs.Prelude.{All, OnOk}
+use Rattle.mls_signatures.specs.AddedLeaves.{AreOfValues, AppendsSignatures, HasPackageNames, IsAfter, IsListed, IsPackageIfNamed, NamesAre, ValuesAre, indices, leaf_nodes, leaves_of}
+use Rattle.mls_apply.specs.AppliedList.{applied_tree, new_members}
+use Rattle.mls_signatures.specs.SignaturesToVerify.{path_signatures, signatures_at}
+use Rattle.mls_signatures.proofs.AddedLeaves.{if_fresh, named_packages, outline_after, outline_count}
 use Rattle.mls_signatures.proofs.LeafLists.{outcome_none}
 use Rattle.mls_signatures.proofs.Repeats.{extends-none}
 use Rattle.mls_signatures.proofs.commit_signatures.apply_and_push_signatures.Goals as goal
@@ -40,7 +40,7 @@ returns-clause-signatures c =
     (λ js.
     OnOk c.push_new_leaf_signatures-answer.result
     (AppendsSignatures c.args.list.now
-    (signatures_at context.cipher_suite context.group_id o.tree (replaced_leaves items ++ js) ++ path_signatures context commit.committer commit.commit.now.path)
+    (signatures_at context.cipher_suite context.group_id o.tree (leaves_of commit.leaves items (applied_tree o.tree js)) ++ path_signatures context commit.committer commit.commit.now.path)
     c.push_new_leaf_signatures-answer.new.list))
     node_indices (c.push_new_leaf_signatures-answer.ensures o.tree after))
 
@@ -51,3 +51,15 @@ push_new_leaf_signatures-answer-requires-clause-listed c =
     let list = c.args.list.now in
     subst (λ xs. AreOfValues (IsListed context list) xs) (sym c.as_slice-2.ensures.value)
     (c.in_ok-leaves.ensures.by_value context list (subst (λ es. ValuesAre (IsListed context list) es c.args.items.now) (sym c.as_slice-entries.ensures) c.requires.listed))
+
+pub push_new_leaf_signatures-answer-requires-clause-packages : goal.push_new_leaf_signatures-answer-requires-clause-packages
+push_new_leaf_signatures-answer-requires-clause-packages c =
+    let commit = c.args.commit.now in
+    let entries = commit.commit.now.proposals in
+    let items = c.args.items.now in
+    if_fresh commit.leaves (HasPackageNames entries items) (All IsPackageIfNamed c.as_slice-2.result.now)
+    (λ (h : HasPackageNames entries items).
+    subst (λ xs. All IsPackageIfNamed xs) (sym c.as_slice-2.ensures.value)
+    (named_packages entries items c.in_ok-leaves.leaves.items h
+    (c.in_ok-leaves.ensures.named h.leaf_named (subst (λ es. NamesAre h.leaf_named es items) (sym c.as_slice-entries.ensures) h.are))))
+    c.requires.packages

@@ -1,9 +1,12 @@
-use Rattle.std.proofs.Common.{sym, subst}
+use Rattle.std.proofs.Common.{◌≡◌, ◌∙◌, ap, sym, subst}
 use Rattle.std.specs.Prelude.{option_map}
 use Rattle.mls_tree.specs.PublicTreeModel.{plain}
 use Rattle.mls_msgs.specs.declared.rules.Rules.{Rules}
 use Rattle.mls_follow.specs.CommitTree.{initial_state_of_tree}
-use Rattle.mls_follow.specs.FollowerInvariant.{HasUniqueKeysAndValidLeaves}
+use Rattle.mls_follow.specs.FollowerInvariant.{HasAcceptedPending, HasUniqueKeysAndValidLeaves}
+use Rattle.mls_follow.specs.GroupModel.{group_state}
+use Rattle.mls_follow.specs.State.{State}
+use Rattle.mls_follow.proofs.AcceptedPending.{start_pending}
 use Rattle.mls_follow.proofs.InvariantLemmas.{start_checked}
 use Rattle.mls_follow.proofs.Starting.{version_followed, suite_followed}
 use Rattle.mls_follow.proofs.follower.Follower.start_by.Goals as goal
@@ -22,9 +25,11 @@ invariant_of-result g c =
     let G = g.C.SignatureCheck.meaning c.args.checker in
     let found = c.in-Ok-check_start.checked in
     let tree = c.in-Ok-check_start.tree.tree in
-    let started = start_checked c.args.asked c.args.profile G c.args.info (option_map plain c.args.tree) (initial_state_of_tree c.args.asked c.args.profile c.args.info tree found.interim)
-    (c.in-Ok-check_start.ensures.started c.args.profile) in
+    let begun = c.in-Ok-check_start.ensures.started c.args.profile in
+    let first : State = initial_state_of_tree c.args.asked c.args.profile c.args.info tree found.interim in
+    let same : group_state c.initial_group.result ≡ first =
+    c.initial_group.ensures ∙ ap (λ (asked : Rules). initial_state_of_tree asked c.args.profile c.args.info tree found.interim) c.in-Ok-check_start.ensures.asked in
     record {
-      checked = subst (HasUniqueKeysAndValidLeaves G) (sym c.initial_group.ensures)
-          (subst (λ (asked : Rules). HasUniqueKeysAndValidLeaves G (initial_state_of_tree asked c.args.profile c.args.info tree found.interim)) (sym c.in-Ok-check_start.ensures.asked) started);
+      checked = subst (HasUniqueKeysAndValidLeaves G) (sym same) (start_checked c.args.asked c.args.profile G c.args.info (option_map plain c.args.tree) first begun);
+      accepted = subst (HasAcceptedPending G) (sym same) (start_pending G c.args.asked c.args.profile c.args.info (option_map plain c.args.tree) first begun);
     }

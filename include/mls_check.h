@@ -32,7 +32,7 @@
  *
  * A call with an output buffer writes the value to the front of the buffer and its length to `*needed`. If the buffer is
  * shorter than the value, the call returns MLS_BUFFER_TOO_SMALL, `*needed` is the length of the value, and the buffer is
- * unchanged. With any other number `*needed` is 0.
+ * unchanged. With any other number `*needed` is 0. A call with two output buffers writes to both or to neither.
  *
  * RECEIPTS
  *
@@ -64,7 +64,9 @@ enum mls_number {
     MLS_TREE_UNREADABLE = 108,      /* the tree is no ratchet_tree: inner is an mls_decode_fault, place the offset or index */
     MLS_CONTEXT_UNREADABLE = 109,   /* the context is no GroupContext: inner is an mls_decode_fault, place the offset */
     MLS_OTHER_PROFILE = 110,        /* the state is of another profile */
-    MLS_UNSUPPORTED_RULES = 114     /* the strict rules have a bit above bit 12 */
+    MLS_UNSUPPORTED_RULES = 114,    /* the strict rules have a bit above bit 12 */
+    MLS_NO_MEMBER = 115,            /* no member is at the leaf index: the leaf is blank, or the tree has no such leaf */
+    MLS_NO_PROPOSAL = 116           /* no more proposals are pending than the number */
 };
 
 /* Profiles: in which handshakes a group is followed. */
@@ -221,6 +223,30 @@ enum mls_kind {
     MLS_COMMIT = 2
 };
 
+/* Wire formats of messages (RFC 9420, 6). */
+enum mls_wire_format {
+    MLS_PUBLIC_MESSAGE = 1,
+    MLS_PRIVATE_MESSAGE = 2,
+    MLS_WELCOME = 3,
+    MLS_GROUP_INFO = 4,
+    MLS_KEY_PACKAGE = 5
+};
+
+/* Content types of messages (RFC 9420, 6). */
+enum mls_content_type {
+    MLS_CONTENT_APPLICATION = 1,
+    MLS_CONTENT_PROPOSAL = 2,
+    MLS_CONTENT_COMMIT = 3
+};
+
+/* Types of senders (RFC 9420, 6). */
+enum mls_sender_type {
+    MLS_SENDER_MEMBER = 1,
+    MLS_SENDER_EXTERNAL = 2,
+    MLS_SENDER_NEW_MEMBER_PROPOSAL = 3,
+    MLS_SENDER_NEW_MEMBER_COMMIT = 4
+};
+
 /* A handle: a follower of a group, or none. */
 typedef struct {
     void *at;
@@ -244,6 +270,25 @@ typedef struct {
     uint32_t leaf;   /* if number is 25, the leaf index, otherwise 0 */
     uint64_t epoch;  /* if a commit is accepted, the epoch that it begins, otherwise 0 */
 } mls_judgement;
+
+/* What a message says of itself, without a group. A fact that the message does not have is 0. */
+typedef struct {
+    uint32_t wire_format;       /* an mls_wire_format */
+    uint32_t content_type;      /* an mls_content_type: of a PublicMessage and a PrivateMessage */
+    uint32_t sender_type;       /* an mls_sender_type: of a PublicMessage */
+    uint32_t sender_index;      /* of a member the leaf index, of an external sender its index (12.1.8.1), otherwise 0 */
+    uint32_t has_group;         /* 1 if there are a group ID and an epoch: of a PublicMessage, a PrivateMessage, a GroupInfo */
+    uint32_t has_signature_key; /* 1 if there is a signature key: of a KeyPackage, and of a sender that joins (6.1) */
+    uint64_t epoch;
+    uint64_t adds;              /* how many proposals of each type a PublicMessage has (12.1): as a proposal, or by value in */
+    uint64_t updates;           /* the list of a commit (12.4) */
+    uint64_t removes;
+    uint64_t psks;
+    uint64_t reinits;
+    uint64_t external_inits;
+    uint64_t group_context_extensions;
+    uint64_t references;        /* how many references to proposals the list of a commit has */
+} mls_facts;
 
 /* The two arguments for no bytes: no tree, no receipts, no buffer. */
 static const unsigned char mls_no_bytes[1] = {0};
@@ -277,6 +322,22 @@ mls_verdict mls_validate_tree(const uint8_t *context, size_t context_len, const 
 mls_verdict mls_validate_tree_strict(const uint8_t *context, size_t context_len, const uint8_t *tree, size_t tree_len,
                                      const uint8_t *receipts, size_t receipts_len, uint16_t rules, uint8_t *tree_hash,
                                      size_t tree_hash_len, size_t *needed);
+
+/*
+ * Writes the facts of a message (RFC 9420, 6, 6.1, 12.1, 12.4) that do not depend on a group. The buffer `group_id` takes its
+ * group ID. The buffer `signature_key` takes the signature key of a KeyPackage, of the Add of a new_member_proposal, or of the
+ * path of a new_member_commit. A value that the message does not have has length 0. The message is decoded in the full
+ * profile.
+ *
+ * Nothing is checked: each fact is what the message says of itself. The body of a Welcome is not read, and that of a
+ * PrivateMessage that cannot be read has neither a group ID, an epoch nor a content type.
+ *
+ * Returns 0, or 1 if the bytes are no message, or MLS_BUFFER_TOO_SMALL, MLS_OUT_OF_MEMORY. If a buffer is too small, the facts
+ * and both lengths are written, and neither buffer is. So a caller that needs the facts alone passes two buffers of length 0.
+ */
+uint32_t mls_message_facts(const uint8_t *message, size_t message_len, mls_facts *facts, uint8_t *group_id,
+                           size_t group_id_len, size_t *group_id_needed, uint8_t *signature_key, size_t signature_key_len,
+                           size_t *signature_key_needed);
 
 /*
  * Lists the signatures of a start (RFC 9420, 12.4.3.1) that have no receipt: that of the GroupInfo and of each leaf node.
@@ -390,6 +451,44 @@ uint32_t mls_follower_tree_hash(mls_follower *follower, uint8_t *tree_hash, size
 /* Writes the confirmed transcript hash (RFC 9420, 8.2). Returns 0, MLS_NO_FOLLOWER or MLS_BUFFER_TOO_SMALL. */
 uint32_t mls_follower_confirmed_hash(mls_follower *follower, uint8_t *confirmed_hash, size_t confirmed_hash_len,
                                      size_t *needed);
+
+/* Writes the group ID (RFC 9420, 8.1). Returns 0, MLS_NO_FOLLOWER or MLS_BUFFER_TOO_SMALL. */
+uint32_t mls_follower_group_id(mls_follower *follower, uint8_t *group_id, size_t group_id_len, size_t *needed);
+
+/*
+ * Writes the encoded GroupContext (RFC 9420, 8.1). Returns 0, or MLS_NO_FOLLOWER, MLS_TOO_LONG, MLS_BUFFER_TOO_SMALL,
+ * MLS_OUT_OF_MEMORY.
+ */
+uint32_t mls_follower_context(mls_follower *follower, uint8_t *context, size_t context_len, size_t *needed);
+
+/*
+ * Writes the encoded ratchet tree: the body of a ratchet_tree extension (RFC 9420, 12.4.3.3). Returns 0, or MLS_NO_FOLLOWER,
+ * MLS_TOO_LONG, MLS_BUFFER_TOO_SMALL, MLS_OUT_OF_MEMORY.
+ */
+uint32_t mls_follower_tree(mls_follower *follower, uint8_t *tree, size_t tree_len, size_t *needed);
+
+/*
+ * Writes the encoded credential (RFC 9420, 5.3) and the signature key (7.2) of the member at the leaf index `leaf`. The members
+ * are at leaf indices from 0 on, some of which may be blank. Once as many were found as mls_follower_members says, there are no
+ * more.
+ *
+ * Returns 0, or MLS_NO_FOLLOWER, MLS_NO_MEMBER, MLS_BUFFER_TOO_SMALL. If a buffer is too small, both lengths are written, and
+ * neither buffer is.
+ */
+uint32_t mls_follower_member(mls_follower *follower, uint32_t leaf, uint8_t *credential, size_t credential_len,
+                             size_t *credential_needed, uint8_t *signature_key, size_t signature_key_len,
+                             size_t *signature_key_needed);
+
+/* Writes how many proposals are pending (RFC 9420, 12.4): were accepted in this epoch. Returns 0 or MLS_NO_FOLLOWER. */
+uint32_t mls_follower_pending(mls_follower *follower, size_t *count);
+
+/*
+ * Writes the reference (RFC 9420, 5.2) of the pending proposal with the number `k`, from 0 on, in the order in which they were
+ * accepted. Returns 0, or MLS_NO_FOLLOWER, MLS_NO_PROPOSAL, MLS_BUFFER_TOO_SMALL. A buffer of MLS_REFERENCE_SIZE bytes is
+ * large enough.
+ */
+uint32_t mls_follower_pending_at(mls_follower *follower, size_t k, uint8_t *reference, size_t reference_len,
+                                 size_t *needed);
 
 /*
  * Lists the signatures of a message (RFC 9420, 6, 7.2, 10.1) that have no receipt yet, as records (mls_start_query). If each

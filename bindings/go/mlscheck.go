@@ -100,6 +100,30 @@ func filled(call func(buffer []byte, needed *C.size_t) uint32) ([]byte, error) {
 	}
 }
 
+// filledPair returns what call writes into two buffers. It is called again with longer ones if one is too small.
+func filledPair(call func(one []byte, oneNeeded *C.size_t, two []byte, twoNeeded *C.size_t) uint32) (a, b []byte, err error) {
+	one, two := make([]byte, 256), make([]byte, 256)
+	for {
+		var oneNeeded, twoNeeded C.size_t
+		switch number := call(one, &oneNeeded, two, &twoNeeded); number {
+		case 0:
+			return one[:oneNeeded], two[:twoNeeded], nil
+		case C.MLS_BUFFER_TOO_SMALL:
+			one, two = longer(one, oneNeeded), longer(two, twoNeeded)
+		default:
+			return nil, nil, Fault(number)
+		}
+	}
+}
+
+// longer returns a buffer that has as many bytes as are needed.
+func longer(buffer []byte, needed C.size_t) []byte {
+	if C.size_t(len(buffer)) < needed {
+		return make([]byte, needed)
+	}
+	return buffer
+}
+
 func refused(verdict C.mls_verdict) error {
 	if verdict.number == 0 {
 		return nil
@@ -200,6 +224,60 @@ func ResumeQuery(state []byte, receipts [][32]byte) ([]Signature, error) {
 		return C.mls_resume_query(at(state), size(state), at(good), size(good), at(buffer), size(buffer), needed)
 	})
 	return signatures(records), err
+}
+
+// Counts says how many proposals of each type a message has, and how many references to proposals (12.1, 12.4).
+type Counts struct {
+	Adds, Updates, Removes, PSKs, ReInits, ExternalInits, GroupContextExtensions, References uint64
+}
+
+// Facts is what a message says of itself, without a group. The numbers are those of mls_check.h (6). A number that the message
+// does not have is 0, and bytes that it does not have are nil.
+type Facts struct {
+	// WireFormat is 1 of a PublicMessage, 2 of a PrivateMessage, 3 of a Welcome, 4 of a GroupInfo, 5 of a KeyPackage.
+	WireFormat uint32
+	// GroupID and Epoch are those of a PublicMessage, a PrivateMessage and a GroupInfo.
+	GroupID []byte
+	Epoch   uint64
+	// ContentType is 1 of application data, 2 of a proposal, 3 of a commit, in a PublicMessage or a PrivateMessage.
+	ContentType uint32
+	// SenderType is 1 of a member, 2 of an external sender, 3 of a new_member_proposal, 4 of a new_member_commit, in a
+	// PublicMessage. SenderIndex is the leaf index of a member, or the index of an external sender.
+	SenderType, SenderIndex uint32
+	// Proposals are those of a PublicMessage.
+	Proposals Counts
+	// SignatureKey is that of a KeyPackage, or of a sender that joins (6.1).
+	SignatureKey []byte
+}
+
+// MessageFacts returns the facts of a message that do not depend on a group (6, 6.1, 12.1, 12.4). Nothing is checked: each fact
+// is what the message says of itself. If the bytes are no message, the error is the Refusal 1.
+func MessageFacts(message []byte) (Facts, error) {
+	var found C.mls_facts
+	id, key, err := filledPair(func(id []byte, idNeeded *C.size_t, key []byte, keyNeeded *C.size_t) uint32 {
+		return uint32(C.mls_message_facts(at(message), size(message), &found, at(id), size(id), idNeeded, at(key), size(key),
+			keyNeeded))
+	})
+	if errors.Is(err, Fault(C.MLS_REFUSED_MALFORMED)) {
+		return Facts{}, Refusal{Number: C.MLS_REFUSED_MALFORMED}
+	}
+	if err != nil {
+		return Facts{}, err
+	}
+	if found.has_group == 0 {
+		id = nil
+	}
+	if found.has_signature_key == 0 {
+		key = nil
+	}
+	return Facts{
+		WireFormat: uint32(found.wire_format), GroupID: id, Epoch: uint64(found.epoch), ContentType: uint32(found.content_type),
+		SenderType: uint32(found.sender_type), SenderIndex: uint32(found.sender_index),
+		Proposals: Counts{uint64(found.adds), uint64(found.updates), uint64(found.removes), uint64(found.psks),
+			uint64(found.reinits), uint64(found.external_inits), uint64(found.group_context_extensions),
+			uint64(found.references)},
+		SignatureKey: key,
+	}, nil
 }
 
 // A Profile says in which handshakes a group is followed.
@@ -305,6 +383,80 @@ func (f *Follower) ConfirmedHash() ([]byte, error) {
 	return filled(func(hash []byte, needed *C.size_t) uint32 {
 		return uint32(C.mls_follower_confirmed_hash(&f.handle, at(hash), size(hash), needed))
 	})
+}
+
+// GroupID returns the group ID (8.1).
+func (f *Follower) GroupID() ([]byte, error) {
+	return filled(func(id []byte, needed *C.size_t) uint32 {
+		return uint32(C.mls_follower_group_id(&f.handle, at(id), size(id), needed))
+	})
+}
+
+// Context returns the encoded GroupContext (8.1).
+func (f *Follower) Context() ([]byte, error) {
+	return filled(func(context []byte, needed *C.size_t) uint32 {
+		return uint32(C.mls_follower_context(&f.handle, at(context), size(context), needed))
+	})
+}
+
+// Tree returns the encoded ratchet tree (12.4.3.3).
+func (f *Follower) Tree() ([]byte, error) {
+	return filled(func(tree []byte, needed *C.size_t) uint32 {
+		return uint32(C.mls_follower_tree(&f.handle, at(tree), size(tree), needed))
+	})
+}
+
+// A Member has its leaf index, its encoded credential (5.3) and its signature key (7.2).
+type Member struct {
+	Leaf                     uint32
+	Credential, SignatureKey []byte
+}
+
+// Member returns the member at a leaf index. The second result is false if the leaf is blank, or the tree has no such leaf.
+func (f *Follower) Member(leaf uint32) (Member, bool, error) {
+	credential, key, err := filledPair(func(one []byte, oneNeeded *C.size_t, two []byte, twoNeeded *C.size_t) uint32 {
+		return uint32(C.mls_follower_member(&f.handle, C.uint32_t(leaf), at(one), size(one), oneNeeded, at(two), size(two),
+			twoNeeded))
+	})
+	if errors.Is(err, Fault(C.MLS_NO_MEMBER)) {
+		return Member{}, false, nil
+	}
+	return Member{leaf, credential, key}, err == nil, err
+}
+
+// EachMember calls visit for each member, by its leaf index, until visit returns false. The visit may process no message.
+func (f *Follower) EachMember(visit func(Member) bool) error {
+	left := f.Members()
+	for leaf := uint32(0); left > 0; leaf++ {
+		member, found, err := f.Member(leaf)
+		if err != nil {
+			return err
+		}
+		if found {
+			left--
+			if !visit(member) {
+				return nil
+			}
+		}
+	}
+	return nil
+}
+
+// Pending returns the references of the pending proposals (5.2, 12.4), in the order in which they were accepted.
+func (f *Follower) Pending() ([][]byte, error) {
+	var count C.size_t
+	C.mls_follower_pending(&f.handle, &count)
+	var references [][]byte
+	for k := C.size_t(0); k < count; k++ {
+		reference, err := filled(func(reference []byte, needed *C.size_t) uint32 {
+			return uint32(C.mls_follower_pending_at(&f.handle, k, at(reference), size(reference), needed))
+		})
+		if err != nil {
+			return nil, err
+		}
+		references = append(references, reference)
+	}
+	return references, nil
 }
 
 // State returns the state as a file, from which Resume resumes. It has the strict rules, and no receipts.

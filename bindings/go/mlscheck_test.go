@@ -322,3 +322,145 @@ func TestTimes(t *testing.T) {
 		t.Fatal(adds, group.Epoch(), group.Members())
 	}
 }
+
+// groupID is the id of the group in examples/real.
+const groupID = "2465531c40cda7923c62292d3a824c84d15fae2af10cb7a5015875f18a1d2a1a"
+
+// bytesOf returns the bytes of hexadecimal digits, with spaces between some.
+func bytesOf(t *testing.T, digits string) []byte {
+	data, err := hex.DecodeString(strings.ReplaceAll(digits, " ", ""))
+	if err != nil {
+		t.Fatal(err)
+	}
+	return data
+}
+
+// factsOf returns the facts of a message as text: the wire format, the group id, the epoch, the content type, the sender, the
+// counts of proposals, the signature key, and whether there is no group id.
+func factsOf(t *testing.T, message []byte) string {
+	f, err := MessageFacts(message)
+	if err != nil {
+		t.Fatal(err)
+	}
+	return fmt.Sprintf("%d %x %d %d %d %d %v %x %t", f.WireFormat, f.GroupID, f.Epoch, f.ContentType, f.SenderType,
+		f.SenderIndex, f.Proposals, f.SignatureKey, f.GroupID == nil)
+}
+
+func TestFactsOfMessages(t *testing.T) {
+	expected := []string{
+		"1 " + groupID + " 1 3 1 1 {1 0 0 0 0 0 0 0}  false",
+		"1 " + groupID + " 2 3 1 2 {0 0 1 0 0 0 0 0}  false",
+		"1 " + groupID + " 3 3 1 0 {1 0 0 0 0 0 0 0}  false",
+		"1 " + groupID + " 4 2 1 1 {0 0 1 0 0 0 0 0}  false",
+		"1 " + groupID + " 4 3 1 0 {1 0 0 0 0 0 0 1}  false",
+		"1 " + groupID + " 5 2 1 2 {0 0 1 0 0 0 0 0}  false",
+		"1 " + groupID + " 5 3 1 1 {0 0 0 0 0 0 0 1}  false",
+		"1 " + groupID + " 6 2 1 0 {0 0 1 0 0 0 0 0}  false",
+		"1 " + groupID + " 6 3 1 1 {0 0 0 0 0 0 0 0}  false",
+		"1 " + groupID + " 7 3 1 1 {1 0 0 0 0 0 0 0}  false",
+	}
+	for i, message := range messages(t) {
+		if got := factsOf(t, message); got != expected[i] {
+			t.Error(got)
+		}
+	}
+	const leaf = "01b1 0001 0141 020001 020001 00 00 020001"
+	others := [][2]string{
+		// a new_member_commit with an ExternalInit
+		{"0001 0001 0147 0000000000000000 04 00 03 05 01 0006 01aa 01 0181 " + leaf +
+			" 03 00 00 01c1 07 01d1 04 01aa 01bb 01c6 01e1", "1 47 0 3 4 0 {0 0 0 0 0 1 0 0} b1 false"},
+		// a KeyPackage
+		{"0001 0005 0001 0001 01f1 01a1 " + leaf + " 01 0000000000000000 ffffffffffffffff 00 01c1 00 01c9",
+			"5  0 0 0 0 {0 0 0 0 0 0 0 0} b1 true"},
+		// PrivateMessages, of which the last has no body that can be read
+		{"0001 0002 0147 0000000000000005 03 00 01da 01db", "2 47 5 3 0 0 {0 0 0 0 0 0 0 0}  false"},
+		{"0001 0002 00 ffffffffffffffff 01 00 00 00", "2  18446744073709551615 1 0 0 {0 0 0 0 0 0 0 0}  false"},
+		{"0001 0002", "2  0 0 0 0 {0 0 0 0 0 0 0 0}  true"},
+		// a Welcome
+		{"0001 0003 0001 00 00", "3  0 0 0 0 {0 0 0 0 0 0 0 0}  true"},
+	}
+	for _, other := range others {
+		if got := factsOf(t, bytesOf(t, other[0])); got != other[1] {
+			t.Error(got)
+		}
+	}
+	if got := factsOf(t, file(t, "real/epoch-1.info")); got != "4 "+groupID+" 1 0 0 0 {0 0 0 0 0 0 0 0}  false" {
+		t.Error(got)
+	}
+	if _, err := MessageFacts(nil); err != (Refusal{Number: 1}) {
+		t.Error(err)
+	}
+	// a group id that is longer than the first buffer
+	long := append(bytesOf(t, "0001 0002 412c"), make([]byte, 300)...)
+	long = append(long, bytesOf(t, "0000000000000005 03 00 00 00")...)
+	if f, err := MessageFacts(long); err != nil || !bytes.Equal(f.GroupID, make([]byte, 300)) {
+		t.Error(f, err)
+	}
+}
+
+// part returns a part of a group.
+func part(t *testing.T, of func() ([]byte, error)) string {
+	data, err := of()
+	if err != nil {
+		t.Fatal(err)
+	}
+	return string(data)
+}
+
+func TestPartsOfAGroup(t *testing.T) {
+	info := file(t, "real/epoch-1.info")
+	wanted, err := StartQuery(info, nil, nil)
+	expect(t, err, nil)
+	group, err := Start(info, nil, trusted(wanted))
+	expect(t, err, nil)
+	defer group.Close()
+	proposals := []string{"3de57220", "39a97df5", "af353f8d"}
+	for _, message := range append([][]byte{nil}, messages(t)...) {
+		pending := 0
+		if message != nil {
+			if err := trusting(t, group, message); err != nil {
+				t.Fatal(err)
+			}
+			if f, _ := MessageFacts(message); f.ContentType == 2 {
+				pending = 1
+			}
+		}
+		if id := part(t, group.GroupID); id != string(bytesOf(t, groupID)) {
+			t.Errorf("%x", id)
+		}
+		references, err := group.Pending()
+		if err != nil || len(references) != pending {
+			t.Fatal(references, err)
+		}
+		if pending == 1 {
+			if got := hex.EncodeToString(references[0][:4]); got != proposals[0] {
+				t.Error(got)
+			}
+			proposals = proposals[1:]
+		}
+		if epoch := group.Epoch(); epoch == 1 || epoch == 4 && pending == 0 || epoch == 8 {
+			if part(t, group.Context) != string(file(t, fmt.Sprintf("real/epoch-%d.context", epoch))) {
+				t.Error("the GroupContext differs")
+			}
+			if part(t, group.Tree) != string(file(t, fmt.Sprintf("real/epoch-%d.tree", epoch))) {
+				t.Error("the tree differs")
+			}
+		}
+	}
+	var members []string
+	if err := group.EachMember(func(m Member) bool {
+		members = append(members, fmt.Sprintf("%d %x %x %d", m.Leaf, m.Credential, m.SignatureKey[:4], len(m.SignatureKey)))
+		return true
+	}); err != nil {
+		t.Fatal(err)
+	}
+	if got := strings.Join(members, ", "); got !=
+		"0 00010467332d30 6634f895 32, 1 00010467332d33 4420bff9 32, 2 00010467332d35 5ca4aa35 32" {
+		t.Error(got)
+	}
+	for _, leaf := range []uint32{3, 4, math.MaxUint32} {
+		if _, found, err := group.Member(leaf); found || err != nil {
+			t.Error(leaf, err)
+		}
+	}
+}

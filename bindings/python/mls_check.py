@@ -17,6 +17,7 @@ REFERENCE_SIZE = 64
 BUFFER_TOO_SMALL = 101
 PROFILE_MEMBERS = 1
 PROFILE_FULL = 2
+NO_MEMBER = 115
 MALFORMED = 1
 
 # Sets of strict rules (docs/FORMATS.md): rule n, from 40 to 52, is bit n - 40. RULES_STRICT & ~rule(47) is all but 47.
@@ -42,6 +43,20 @@ Accepted = namedtuple("Accepted", "reference epoch")
 
 # Why a message is refused. `inner` and `leaf` are those of 25, otherwise 0.
 Refusal = namedtuple("Refusal", "number name inner leaf")
+
+# How many proposals of each type a message has, and how many references to proposals (12.1, 12.4).
+Counts = namedtuple("Counts", "adds updates removes psks reinits external_inits group_context_extensions references")
+
+# What a message says of itself, without a group. A fact that it does not have is None.
+#
+# `wire_format` is 1 of a PublicMessage, 2 of a PrivateMessage, 3 of a Welcome, 4 of a GroupInfo, 5 of a KeyPackage (6).
+# `content_type` is 1 of application data, 2 of a proposal, 3 of a commit. `sender` is a pair: 1 and the leaf index of a member,
+# 2 and the index of an external sender, 3 and None of a new_member_proposal, 4 and None of a new_member_commit.
+# `signature_key` is that of a KeyPackage, and of a sender that joins (6.1).
+Facts = namedtuple("Facts", "wire_format group_id epoch content_type sender proposals signature_key")
+
+# A member: its leaf index, its encoded credential (5.3) and its signature key (7.2).
+Member = namedtuple("Member", "leaf credential signature_key")
 
 
 def rule(number):
@@ -102,6 +117,18 @@ class _Judgement(ctypes.Structure):
     ]
 
 
+class _Facts(ctypes.Structure):
+    _fields_ = [
+        ("wire_format", ctypes.c_uint32),
+        ("content_type", ctypes.c_uint32),
+        ("sender_type", ctypes.c_uint32),
+        ("sender_index", ctypes.c_uint32),
+        ("has_group", ctypes.c_uint32),
+        ("has_signature_key", ctypes.c_uint32),
+        ("epoch", ctypes.c_uint64),
+    ] + [(name, ctypes.c_uint64) for name in Counts._fields]
+
+
 def _load():
     here = os.path.dirname(os.path.abspath(__file__))
     library = ctypes.CDLL(os.environ.get("MLS_CHECK_LIB", os.path.join(here, "../../build/libmls_check.so")))
@@ -111,6 +138,7 @@ def _load():
     for name, result, words in (
         ("mls_validate_tree", _Verdict, sized * 4 + [size]),
         ("mls_validate_tree_strict", _Verdict, sized * 3 + [rules] + sized + [size]),
+        ("mls_message_facts", number, sized + [ctypes.POINTER(_Facts)] + (sized + [size]) * 2),
         ("mls_start_query", _Verdict, sized * 4 + [size]),
         ("mls_resume_query", _Verdict, sized * 3 + [size]),
         ("mls_follower_start", _Verdict, sized * 3 + [number, handle]),
@@ -124,6 +152,12 @@ def _load():
         ("mls_follower_make_strict", _Verdict, [handle, rules]),
         ("mls_follower_tree_hash", number, [handle] + sized + [size]),
         ("mls_follower_confirmed_hash", number, [handle] + sized + [size]),
+        ("mls_follower_group_id", number, [handle] + sized + [size]),
+        ("mls_follower_context", number, [handle] + sized + [size]),
+        ("mls_follower_tree", number, [handle] + sized + [size]),
+        ("mls_follower_member", number, [handle, number] + (sized + [size]) * 2),
+        ("mls_follower_pending", number, [handle, size]),
+        ("mls_follower_pending_at", number, [handle, ctypes.c_size_t] + sized + [size]),
         ("mls_follower_query", number, [handle] + sized * 2 + [size]),
         ("mls_follower_learn", number, [handle] + sized),
         ("mls_follower_judge", _Judgement, [handle] + sized * 2),
@@ -149,6 +183,18 @@ def _filled(call):
         if number != BUFFER_TOO_SMALL:
             raise Fault(number)
         length = needed.value
+
+
+def _filled_pair(call):
+    """The number of `call`, and what it writes into two buffers. It is called again with longer ones if one is too small."""
+    lengths = [256, 256]
+    while True:
+        buffers = [ctypes.create_string_buffer(length) for length in lengths]
+        needed = [ctypes.c_size_t(), ctypes.c_size_t()]
+        number = call(buffers[0], lengths[0], ctypes.byref(needed[0]), buffers[1], lengths[1], ctypes.byref(needed[1]))
+        if number != BUFFER_TOO_SMALL:
+            return number, [buffer.raw[: n.value] for buffer, n in zip(buffers, needed)]
+        lengths = [max(length, n.value) for length, n in zip(lengths, needed)]
 
 
 def _check(verdict, *others):
@@ -194,6 +240,30 @@ def validate_tree_strict(context, tree, receipts=(), rules=RULES_STRICT):
     good = b"".join(receipts)
     words = (context, len(context), tree, len(tree), good, len(good), _bits(rules))
     return _filled_or_refused(_library.mls_validate_tree_strict, *words)
+
+
+def message_facts(message):
+    """The facts of a message that do not depend on a group (6, 6.1, 12.1, 12.4): Facts. None if the bytes are no message.
+
+    Nothing is checked: each fact is what the message says of itself.
+    """
+    found = _Facts()
+    words = (message, len(message), ctypes.byref(found))
+    number, (group_id, key) = _filled_pair(lambda *buffers: _library.mls_message_facts(*words, *buffers))
+    if number == MALFORMED:
+        return None
+    if number:
+        raise Fault(number)
+    index = found.sender_index if found.sender_type in (1, 2) else None
+    return Facts(
+        found.wire_format,
+        group_id if found.has_group else None,
+        found.epoch if found.has_group else None,
+        found.content_type or None,
+        (found.sender_type, index) if found.sender_type else None,
+        Counts(*(getattr(found, name) for name in Counts._fields)),
+        key if found.has_signature_key else None,
+    )
 
 
 def start_query(info, tree=b"", receipts=()):
@@ -297,6 +367,46 @@ class Follower:
     @property
     def confirmed_hash(self):
         return self._bytes(_library.mls_follower_confirmed_hash)
+
+    @property
+    def group_id(self):
+        return self._bytes(_library.mls_follower_group_id)
+
+    @property
+    def context(self):
+        """The encoded GroupContext (8.1)."""
+        return self._bytes(_library.mls_follower_context)
+
+    @property
+    def tree(self):
+        """The encoded ratchet tree (12.4.3.3)."""
+        return self._bytes(_library.mls_follower_tree)
+
+    def member(self, leaf):
+        """The Member at a leaf index. None if the leaf is blank, or the tree has no such leaf."""
+        words = (ctypes.byref(self._handle), leaf)
+        number, (credential, key) = _filled_pair(lambda *buffers: _library.mls_follower_member(*words, *buffers))
+        if number == NO_MEMBER:
+            return None
+        if number:
+            raise Fault(number)
+        return Member(leaf, credential, key)
+
+    def each_member(self):
+        """Each Member, by its leaf index. Process no message before the last one."""
+        leaf, left = 0, self.members
+        while left:
+            member = self.member(leaf)
+            leaf += 1
+            if member is not None:
+                left -= 1
+                yield member
+
+    @property
+    def pending(self):
+        """The references of the pending proposals (5.2, 12.4), in the order in which they were accepted."""
+        count = self._number(_library.mls_follower_pending, ctypes.c_size_t)
+        return [self._bytes(_library.mls_follower_pending_at, k) for k in range(count)]
 
     @property
     def state(self):

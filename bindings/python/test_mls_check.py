@@ -53,6 +53,47 @@ def forged(group, message):
     return message.replace(own, own[:-1] + bytes([own[-1] ^ 1]))
 
 
+GROUP_ID = bytes.fromhex("2465531c40cda7923c62292d3a824c84d15fae2af10cb7a5015875f18a1d2a1a")
+
+# The epoch, the content type and the leaf index of the sender of each message, and its numbers of Adds, Removes and references.
+MESSAGE_FACTS = [
+    (1, 3, 1, 1, 0, 0),
+    (2, 3, 2, 0, 1, 0),
+    (3, 3, 0, 1, 0, 0),
+    (4, 2, 1, 0, 1, 0),
+    (4, 3, 0, 1, 0, 1),
+    (5, 2, 2, 0, 1, 0),
+    (5, 3, 1, 0, 0, 1),
+    (6, 2, 0, 0, 1, 0),
+    (6, 3, 1, 0, 0, 0),
+    (7, 3, 1, 1, 0, 0),
+]
+
+# The members in epoch 8: the leaf index, the encoded credential, and the first bytes of the signature key.
+MEMBERS = [(0, "00010467332d30", "6634f895"), (1, "00010467332d33", "4420bff9"), (2, "00010467332d35", "5ca4aa35")]
+
+# The keys and capabilities of a leaf node, without its encryption key.
+LEAF = "01b1 0001 0141 020001 020001 00 00 020001"
+
+# Other messages, and their facts: a new_member_commit with an ExternalInit, a KeyPackage, two PrivateMessages, one whose body
+# cannot be read, and a Welcome.
+NO_PROPOSALS = mls_check.Counts(0, 0, 0, 0, 0, 0, 0, 0)
+OTHER_FACTS = [
+    (
+        "0001 0001 0147 0000000000000000 04 00 03 05 01 0006 01aa "
+        f"01 0181 {LEAF} 03 00 00 01c1 07 01d1 04 01aa 01bb 01c6 01e1",
+        mls_check.Facts(1, b"\x47", 0, 3, (4, None), NO_PROPOSALS._replace(external_inits=1), b"\xb1"),
+    ),
+    (
+        f"0001 0005 0001 0001 01f1 01a1 {LEAF} 01 0000000000000000 ffffffffffffffff 00 01c1 00 01c9",
+        mls_check.Facts(5, None, None, None, None, NO_PROPOSALS, b"\xb1"),
+    ),
+    ("0001 0002 0147 0000000000000005 03 00 01da 01db", mls_check.Facts(2, b"\x47", 5, 3, None, NO_PROPOSALS, None)),
+    ("0001 0002 00 ffffffffffffffff 01 00 00 00", mls_check.Facts(2, b"", 2**64 - 1, 1, None, NO_PROPOSALS, None)),
+    ("0001 0002", mls_check.Facts(2, None, None, None, None, NO_PROPOSALS, None)),
+    ("0001 0003 0001 00 00", mls_check.Facts(3, None, None, None, None, NO_PROPOSALS, None)),
+]
+
 # An extensions list with a type twice, which no leaf node of the group supports.
 REPEATED = bytes.fromhex("06f00000f00000")
 NO_NODE = 2**64 - 1
@@ -190,6 +231,43 @@ class RealGroup(unittest.TestCase):
         self.assertEqual(mls_check.validate_tree(context, tree, RECEIPTS).hex()[:8], "72763a49")
         with self.assertRaises(mls_check.Refused):
             mls_check.validate_tree(context, tree)
+
+    def test_facts_of_messages(self):
+        for message, expected in zip(MESSAGES, MESSAGE_FACTS):
+            epoch, content_type, leaf, adds, removes, references = expected
+            proposals = NO_PROPOSALS._replace(adds=adds, removes=removes, references=references)
+            facts = mls_check.Facts(1, GROUP_ID, epoch, content_type, (1, leaf), proposals, None)
+            self.assertEqual(mls_check.message_facts(message), facts)
+        self.assertEqual(mls_check.message_facts(INFO), (4, GROUP_ID, 1, None, None, NO_PROPOSALS, None))
+        for message, facts in OTHER_FACTS:
+            self.assertEqual(mls_check.message_facts(bytes.fromhex(message)), facts)
+        for message in (b"", MESSAGES[0][:-1], MESSAGES[0] + b"\0"):
+            self.assertIsNone(mls_check.message_facts(message))
+        # A group ID that is longer than the first buffer.
+        long = bytes.fromhex("00010002 412c") + bytes(300) + bytes.fromhex("0000000000000005 03 00 00 00")
+        self.assertEqual(mls_check.message_facts(long).group_id, bytes(300))
+
+    def test_parts_of_a_group(self):
+        group = mls_check.Follower(INFO, receipts=RECEIPTS)
+        pending = []
+        for message, line in zip([None, *MESSAGES], EXPECTED):
+            if message is not None:
+                group.judge(message)
+                pending = [bytes.fromhex(line.split()[2])] if line.startswith("accepted proposal") else []
+            self.assertEqual((group.group_id, group.pending), (GROUP_ID, pending))
+            if group.epoch in (1, 8) or (group.epoch == 4 and not pending):
+                self.assertEqual(group.context, file(f"real/epoch-{group.epoch}.context"))
+                self.assertEqual(group.tree, file(f"real/epoch-{group.epoch}.tree"))
+        members = list(group.each_member())
+        self.assertEqual([(m.leaf, m.credential.hex(), m.signature_key[:4].hex()) for m in members], MEMBERS)
+        self.assertEqual([len(m.signature_key) for m in members], [32, 32, 32])
+        self.assertEqual([group.member(leaf) for leaf in (3, 4, 2**32 - 1)], [None, None, None])
+        group.close()
+        for part in ("group_id", "context", "tree", "pending"):
+            with self.assertRaises(mls_check.Fault):
+                getattr(group, part)
+        with self.assertRaises(mls_check.Fault):
+            group.member(0)
 
     def test_sets_of_rules(self):
         self.assertEqual(mls_check.RULES_STRICT & ~mls_check.rule(47), 0x1F7F)

@@ -115,7 +115,7 @@ static void expect_no_follower(mls_follower *group) {
     uint64_t epoch = 7;
     uint32_t members = 7, ended = 7;
     uint16_t found = 7;
-    size_t needed = 7;
+    size_t needed = 7, other = 7, pending = 7;
     EXPECT(mls_follower_rules(group, &found) == MLS_NO_FOLLOWER && found == 7);
     EXPECT(is(mls_follower_make_strict(group, MLS_RULES_STRICT), MLS_NO_FOLLOWER, 0, 0));
     EXPECT(is(mls_follower_make_strict(group, 0x2000), MLS_UNSUPPORTED_RULES, 0, 0));
@@ -125,6 +125,18 @@ static void expect_no_follower(mls_follower *group) {
     EXPECT(mls_follower_tree_hash(group, out, sizeof out, &needed) == MLS_NO_FOLLOWER && needed == 0);
     needed = 7;
     EXPECT(mls_follower_confirmed_hash(group, out, sizeof out, &needed) == MLS_NO_FOLLOWER && needed == 0);
+    needed = 7;
+    EXPECT(mls_follower_group_id(group, out, sizeof out, &needed) == MLS_NO_FOLLOWER && needed == 0);
+    needed = 7;
+    EXPECT(mls_follower_context(group, out, sizeof out, &needed) == MLS_NO_FOLLOWER && needed == 0);
+    needed = 7;
+    EXPECT(mls_follower_tree(group, out, sizeof out, &needed) == MLS_NO_FOLLOWER && needed == 0);
+    needed = 7;
+    EXPECT(mls_follower_member(group, 0, out, 32, &needed, out + 32, 32, &other) == MLS_NO_FOLLOWER);
+    EXPECT(needed == 0 && other == 0);
+    EXPECT(mls_follower_pending(group, &pending) == MLS_NO_FOLLOWER && pending == 7);
+    needed = 7;
+    EXPECT(mls_follower_pending_at(group, 0, out, sizeof out, &needed) == MLS_NO_FOLLOWER && needed == 0);
     EXPECT(mls_follower_query(group, info.at, info.len, out, sizeof out, &needed) == MLS_NO_FOLLOWER);
     EXPECT(mls_follower_learn(group, receipts.at, receipts.len) == MLS_NO_FOLLOWER);
     EXPECT(is_judged(mls_follower_judge(group, info.at, info.len, out, sizeof out), MLS_NO_FOLLOWER));
@@ -319,6 +331,160 @@ static void odd_messages(void) {
     }
     free(copy.at);
     EXPECT(mls_follower_judge(&group, message.at, message.len, reference, sizeof reference).number == MLS_OK);
+    mls_follower_free(&group);
+}
+
+/* ---- the facts of a message */
+
+static int are_facts(mls_facts found, uint32_t wire_format, uint64_t epoch, uint32_t content_type, uint32_t sender_index) {
+    return found.wire_format == wire_format && found.epoch == epoch && found.content_type == content_type &&
+           found.sender_index == sender_index;
+}
+
+/* Has the facts of bytes that are no message read: nothing is written. */
+static void no_facts(struct bytes message) {
+    mls_facts found, before;
+    uint8_t id[64], key[64], others[64];
+    size_t id_len = 7, key_len = 7;
+    memset(&found, 0xaa, sizeof found);
+    memset(&before, 0xaa, sizeof before);
+    memset(id, 0xaa, sizeof id);
+    memset(key, 0xaa, sizeof key);
+    memset(others, 0xaa, sizeof others);
+    EXPECT(mls_message_facts(message.at, message.len, &found, id, sizeof id, &id_len, key, sizeof key, &key_len) ==
+           MLS_REFUSED_MALFORMED);
+    EXPECT(id_len == 0 && key_len == 0 && memcmp(&found, &before, sizeof found) == 0);
+    EXPECT(memcmp(id, others, sizeof id) == 0 && memcmp(key, others, sizeof key) == 0);
+}
+
+static void facts_of_messages(void) {
+    static uint8_t package[] = {0, 1, 0, 5, 0, 1, 0, 1, 1, 0xf1, 1, 0xa1, 2, 0xb1, 0xb2, 0, 1, 1, 0x41, 2, 0, 1, 2, 0, 1,
+                                0, 0, 2, 0, 1, 2, 0, 1, 0xc1, 0, 1, 0xc9};
+    static uint8_t unread[] = {0, 1, 0, 2, 0};
+    static const uint32_t types[] = {3, 3, 3, 2, 3, 2, 3, 2, 3, 3}, senders[] = {1, 2, 0, 1, 0, 2, 1, 0, 1, 1},
+                          epochs[] = {1, 2, 3, 4, 4, 5, 5, 6, 6, 7};
+    mls_facts found;
+    uint8_t id[64], key[64];
+    size_t id_len, key_len, huge = (size_t)1 << 32, i = 0;
+    uint8_t *zeros = mmap(NULL, huge, PROT_READ | PROT_WRITE, MAP_PRIVATE | MAP_ANONYMOUS | MAP_NORESERVE, -1, 0);
+    struct bytes rest = log_bytes, message, part;
+    EXPECT(zeros != MAP_FAILED);
+    no_facts(nothing);
+    no_facts((struct bytes){zeros, huge});
+    no_facts((struct bytes){zeros, 4});
+    munmap(zeros, huge);
+    while (rest.len > 0) {
+        message = take_vector(&rest);
+        /* each buffer alone is a byte too small: the facts are written, and neither buffer */
+        memset(id, 0xaa, sizeof id);
+        EXPECT(mls_message_facts(message.at, message.len, &found, id, 31, &id_len, key, 0, &key_len) ==
+               MLS_BUFFER_TOO_SMALL);
+        EXPECT(id_len == 32 && key_len == 0 && id[0] == 0xaa && are_facts(found, 1, epochs[i], types[i], senders[i]));
+        EXPECT(mls_message_facts(message.at, message.len, &found, id, 32, &id_len, key, 0, &key_len) == MLS_OK);
+        EXPECT(id_len == 32 && key_len == 0 && memcmp(id, context.at + 5, 32) == 0 && id[32] == 0xaa);
+        EXPECT(are_facts(found, 1, epochs[i], types[i], senders[i]) && found.has_group == 1);
+        EXPECT(found.sender_type == MLS_SENDER_MEMBER && found.has_signature_key == 0);
+        for (part = message; part.len > 0;) {
+            part.len--;
+            no_facts(part);
+        }
+        i++;
+    }
+    EXPECT(i == 10);
+    EXPECT(mls_message_facts(info.at, info.len, &found, id, sizeof id, &id_len, key, sizeof key, &key_len) == MLS_OK);
+    EXPECT(are_facts(found, MLS_GROUP_INFO, 1, 0, 0) && found.has_group == 1 && id_len == 32 && key_len == 0);
+    memset(key, 0xaa, sizeof key);
+    EXPECT(mls_message_facts(package, sizeof package, &found, id, 0, &id_len, key, 1, &key_len) == MLS_BUFFER_TOO_SMALL);
+    EXPECT(id_len == 0 && key_len == 2 && key[0] == 0xaa && found.has_signature_key == 1 && found.has_group == 0);
+    EXPECT(mls_message_facts(package, sizeof package, &found, id, 0, &id_len, key, 2, &key_len) == MLS_OK);
+    EXPECT(are_facts(found, MLS_KEY_PACKAGE, 0, 0, 0) && key_len == 2 && key[0] == 0xb1 && key[1] == 0xb2);
+    EXPECT(key[2] == 0xaa);
+    /* a PrivateMessage whose body cannot be read */
+    EXPECT(mls_message_facts(unread, sizeof unread, &found, id, 0, &id_len, key, 0, &key_len) == MLS_OK);
+    EXPECT(are_facts(found, MLS_PRIVATE_MESSAGE, 0, 0, 0) && found.has_group == 0 && id_len == 0 && key_len == 0);
+}
+
+/* ---- the parts of a group */
+
+/* A call that puts a part of a group into a buffer. */
+typedef uint32_t part_call(mls_follower *, uint8_t *, size_t, size_t *);
+
+/* The part of a group, which is put into a buffer that is first a byte too small. */
+static struct bytes part_of(mls_follower *group, part_call *call) {
+    struct bytes part = {allocate(1), 0};
+    size_t needed;
+    EXPECT(call(group, part.at, 0, &part.len) == MLS_BUFFER_TOO_SMALL && part.len > 0);
+    free(part.at);
+    part.at = allocate(part.len + 1);
+    part.at[0] = part.at[part.len] = 0xaa;
+    EXPECT(call(group, part.at, part.len - 1, &needed) == MLS_BUFFER_TOO_SMALL && needed == part.len);
+    EXPECT(part.at[0] == 0xaa);
+    EXPECT(call(group, part.at, part.len + 1, &needed) == MLS_OK && needed == part.len && part.at[part.len] == 0xaa);
+    return part;
+}
+
+static void expect_part(mls_follower *group, part_call *call, struct bytes expected) {
+    struct bytes part = part_of(group, call);
+    EXPECT(part.len == expected.len && memcmp(part.at, expected.at, part.len) == 0);
+    free(part.at);
+}
+
+/* Expects a member whose encoded credential has 7 bytes, as the group's have, with this last byte. */
+static void expect_member(mls_follower *group, uint32_t leaf, uint8_t last) {
+    uint8_t credential[8], key[33];
+    size_t credential_len, key_len;
+    memset(credential, 0xaa, sizeof credential);
+    memset(key, 0xaa, sizeof key);
+    EXPECT(mls_follower_member(group, leaf, credential, 6, &credential_len, key, 32, &key_len) == MLS_BUFFER_TOO_SMALL);
+    EXPECT(credential_len == 7 && key_len == 32 && credential[0] == 0xaa && key[0] == 0xaa && key[31] == 0xaa);
+    EXPECT(mls_follower_member(group, leaf, credential, 7, &credential_len, key, 31, &key_len) == MLS_BUFFER_TOO_SMALL);
+    EXPECT(credential_len == 7 && key_len == 32 && credential[0] == 0xaa && key[0] == 0xaa);
+    EXPECT(mls_follower_member(group, leaf, credential, 7, &credential_len, key, 32, &key_len) == MLS_OK);
+    EXPECT(credential_len == 7 && key_len == 32 && memcmp(credential, "\0\1\4g3-", 6) == 0 && credential[6] == last);
+    EXPECT(credential[7] == 0xaa && key[32] == 0xaa);
+}
+
+static void group_parts(void) {
+    static const uint32_t absent[] = {3, 4, 0x7fffffff, 0x80000000, UINT32_MAX};
+    mls_follower group = MLS_NO_FOLLOWER_YET;
+    uint8_t reference[MLS_REFERENCE_SIZE], found[MLS_REFERENCE_SIZE];
+    size_t pending, needed, other;
+    struct bytes rest = log_bytes, id = {context.at + 5, 32};
+    EXPECT(is(start(&group, receipts), MLS_OK, 0, 0));
+    while (rest.len > 0) {
+        struct bytes message = take_vector(&rest), part;
+        mls_judgement judgement;
+        memset(reference, 0xaa, sizeof reference);
+        memset(found, 0xaa, sizeof found);
+        judgement = mls_follower_judge(&group, message.at, message.len, reference, sizeof reference);
+        EXPECT(judgement.number == MLS_OK);
+        expect_part(&group, mls_follower_group_id, id);
+        part = part_of(&group, mls_follower_context);
+        EXPECT(memcmp(part.at + 4, context.at + 4, 33) == 0);
+        free(part.at);
+        part = part_of(&group, mls_follower_tree);
+        free(part.at);
+        EXPECT(mls_follower_pending(&group, &pending) == MLS_OK && pending == (judgement.kind == MLS_PROPOSAL));
+        if (pending == 1) {
+            EXPECT(mls_follower_pending_at(&group, 0, found, 31, &needed) == MLS_BUFFER_TOO_SMALL && needed == 32);
+            EXPECT(found[0] == 0xaa);
+            EXPECT(mls_follower_pending_at(&group, 0, found, 32, &needed) == MLS_OK && needed == 32);
+            EXPECT(memcmp(found, reference, sizeof found) == 0);
+        }
+        needed = 7;
+        EXPECT(mls_follower_pending_at(&group, pending, found, sizeof found, &needed) == MLS_NO_PROPOSAL && needed == 0);
+        EXPECT(mls_follower_pending_at(&group, SIZE_MAX, found, sizeof found, &needed) == MLS_NO_PROPOSAL);
+    }
+    expect_part(&group, mls_follower_context, context);
+    expect_part(&group, mls_follower_tree, tree);
+    expect_member(&group, 0, '0');
+    expect_member(&group, 1, '3');
+    expect_member(&group, 2, '5');
+    for (size_t i = 0; i < sizeof absent / sizeof absent[0]; i++) {
+        needed = other = 7;
+        EXPECT(mls_follower_member(&group, absent[i], found, 32, &needed, found + 32, 32, &other) == MLS_NO_MEMBER);
+        EXPECT(needed == 0 && other == 0 && found[0] == 0xaa && found[63] == 0xaa);
+    }
     mls_follower_free(&group);
 }
 
@@ -755,6 +921,44 @@ static void refused_memory(void) {
             total++;
         }
         for (long n = 1; refused = 0, until_refused = n, 1; n++) {
+            mls_facts found = {0};
+            long before = blocks;
+            uint32_t number = mls_message_facts(message.at, message.len, &found, buffer, 64, &needed, buffer + 64, 64,
+                                                &wanted);
+            until_refused = 0;
+            EXPECT(blocks == before);
+            if (!refused) {
+                EXPECT(number == MLS_OK && needed == 32);
+                break;
+            }
+            total++;
+            EXPECT(number == MLS_OUT_OF_MEMORY && needed == 0 && wanted == 0 && found.wire_format == 0);
+        }
+        for (long n = 1; refused = 0, until_refused = n, 1; n++) {
+            long before = blocks;
+            uint32_t number = mls_follower_context(&group, buffer, 1 << 16, &needed);
+            until_refused = 0;
+            EXPECT(blocks == before);
+            if (!refused) {
+                EXPECT(number == MLS_OK);
+                break;
+            }
+            total++;
+            EXPECT(number == MLS_OUT_OF_MEMORY && needed == 0);
+        }
+        for (long n = 1; refused = 0, until_refused = n, 1; n++) {
+            long before = blocks;
+            uint32_t number = mls_follower_tree(&group, buffer, 1 << 16, &needed);
+            until_refused = 0;
+            EXPECT(blocks == before);
+            if (!refused) {
+                EXPECT(number == MLS_OK);
+                break;
+            }
+            total++;
+            EXPECT(number == MLS_OUT_OF_MEMORY && needed == 0);
+        }
+        for (long n = 1; refused = 0, until_refused = n, 1; n++) {
             uint32_t number = mls_follower_state(&group, buffer, 1 << 16, &needed);
             until_refused = 0;
             if (!refused) {
@@ -870,6 +1074,8 @@ static void try_all(void) {
     short_buffers();
     unknown_signatures();
     odd_messages();
+    facts_of_messages();
+    group_parts();
     stored_states();
     queried_states();
     trees();

@@ -38,6 +38,62 @@ pub enum Accepted {
     Commit(u64),
 }
 
+/// How many proposals of each type a message has, and how many references to proposals (RFC 9420, 12.1 and 12.4).
+#[derive(Clone, Copy, Debug, Default, PartialEq, Eq)]
+pub struct Counts {
+    pub adds: u64,
+    pub updates: u64,
+    pub removes: u64,
+    pub psks: u64,
+    pub reinits: u64,
+    pub external_inits: u64,
+    pub group_context_extensions: u64,
+    pub references: u64,
+}
+
+/// The sender of a PublicMessage (RFC 9420, 6).
+#[derive(Clone, Copy, Debug, PartialEq, Eq)]
+pub enum Sender {
+    /// The member with this leaf index.
+    Member(u32),
+    /// The external sender with this index in the `external_senders` extension.
+    External(u32),
+    /// A client that proposes its own Add.
+    NewMemberProposal,
+    /// A client that joins by an external commit.
+    NewMemberCommit,
+}
+
+/// What a message says of itself, without a group. A fact that it does not have is `None`.
+#[derive(Clone, Debug, PartialEq, Eq)]
+pub struct Facts {
+    /// 1 of a PublicMessage, 2 of a PrivateMessage, 3 of a Welcome, 4 of a GroupInfo, 5 of a KeyPackage (RFC 9420, 6).
+    pub wire_format: u32,
+    /// The group ID of a PublicMessage, a PrivateMessage or a GroupInfo.
+    pub group_id: Option<Vec<u8>>,
+    /// The epoch of a PublicMessage, a PrivateMessage or a GroupInfo.
+    pub epoch: Option<u64>,
+    /// 1 of application data, 2 of a proposal, 3 of a commit, in a PublicMessage or a PrivateMessage.
+    pub content_type: Option<u32>,
+    /// The sender of a PublicMessage.
+    pub sender: Option<Sender>,
+    /// The proposals of a PublicMessage.
+    pub proposals: Counts,
+    /// The signature key of a KeyPackage, or of a sender that joins (RFC 9420, 6.1).
+    pub signature_key: Option<Vec<u8>>,
+}
+
+/// A member of a group.
+#[derive(Clone, Debug, PartialEq, Eq)]
+pub struct Member {
+    /// The leaf index.
+    pub leaf: u32,
+    /// The encoded credential (RFC 9420, 5.3).
+    pub credential: Vec<u8>,
+    /// The signature key (RFC 9420, 7.2).
+    pub signature_key: Vec<u8>,
+}
+
 /// A set of strict rules: forms, lengths and lists that anyone can see, which a follower checks after the rules of its
 /// profile. The set has a rule by its number, from 40 to 52 (docs/FORMATS.md).
 #[derive(Clone, Copy, Debug, PartialEq, Eq)]
@@ -164,7 +220,32 @@ mod sys {
         pub epoch: u64,
     }
 
+    #[repr(C)]
+    #[derive(Default)]
+    pub struct Facts {
+        pub wire_format: u32,
+        pub content_type: u32,
+        pub sender_type: u32,
+        pub sender_index: u32,
+        pub has_group: u32,
+        pub has_signature_key: u32,
+        pub epoch: u64,
+        pub adds: u64,
+        pub updates: u64,
+        pub removes: u64,
+        pub psks: u64,
+        pub reinits: u64,
+        pub external_inits: u64,
+        pub group_context_extensions: u64,
+        pub references: u64,
+    }
+
     extern "C" {
+        pub fn mls_message_facts(
+            message: *const u8, message_len: usize, facts: *mut Facts, group_id: *mut u8, group_id_len: usize,
+            group_id_needed: *mut usize, signature_key: *mut u8, signature_key_len: usize,
+            signature_key_needed: *mut usize,
+        ) -> u32;
         pub fn mls_validate_tree(
             context: *const u8, context_len: usize, tree: *const u8, tree_len: usize, receipts: *const u8,
             receipts_len: usize, hash: *mut u8, hash_len: usize, needed: *mut usize,
@@ -201,6 +282,17 @@ mod sys {
         pub fn mls_follower_make_strict(follower: *mut Handle, rules: u16) -> Verdict;
         pub fn mls_follower_tree_hash(follower: *mut Handle, hash: *mut u8, len: usize, needed: *mut usize) -> u32;
         pub fn mls_follower_confirmed_hash(follower: *mut Handle, hash: *mut u8, len: usize, needed: *mut usize) -> u32;
+        pub fn mls_follower_group_id(follower: *mut Handle, group_id: *mut u8, len: usize, needed: *mut usize) -> u32;
+        pub fn mls_follower_context(follower: *mut Handle, context: *mut u8, len: usize, needed: *mut usize) -> u32;
+        pub fn mls_follower_tree(follower: *mut Handle, tree: *mut u8, len: usize, needed: *mut usize) -> u32;
+        pub fn mls_follower_member(
+            follower: *mut Handle, leaf: u32, credential: *mut u8, credential_len: usize, credential_needed: *mut usize,
+            signature_key: *mut u8, signature_key_len: usize, signature_key_needed: *mut usize,
+        ) -> u32;
+        pub fn mls_follower_pending(follower: *mut Handle, count: *mut usize) -> u32;
+        pub fn mls_follower_pending_at(
+            follower: *mut Handle, k: usize, reference: *mut u8, reference_len: usize, needed: *mut usize,
+        ) -> u32;
         pub fn mls_follower_query(
             follower: *mut Handle, message: *const u8, message_len: usize, records: *mut u8, records_len: usize,
             needed: *mut usize,
@@ -218,6 +310,7 @@ mod sys {
 }
 
 const BUFFER_TOO_SMALL: u32 = 101;
+const NO_MEMBER: u32 = 115;
 
 /// In which handshakes a group is followed.
 #[derive(Clone, Copy, Debug, PartialEq, Eq)]
@@ -239,6 +332,28 @@ fn filled(mut call: impl FnMut(&mut [u8], &mut usize) -> u32) -> Result<Vec<u8>,
                 return Ok(buffer);
             }
             BUFFER_TOO_SMALL => buffer.resize(needed, 0),
+            number => return Err(number),
+        }
+    }
+}
+
+/// Calls `call` with two buffers, and again with longer ones if one is too small.
+fn filled_pair(
+    mut call: impl FnMut(&mut [u8], &mut usize, &mut [u8], &mut usize) -> u32,
+) -> Result<(Vec<u8>, Vec<u8>), u32> {
+    let (mut one, mut two) = (vec![0; 256], vec![0; 256]);
+    loop {
+        let (mut one_needed, mut two_needed) = (0, 0);
+        match call(&mut one, &mut one_needed, &mut two, &mut two_needed) {
+            0 => {
+                one.truncate(one_needed);
+                two.truncate(two_needed);
+                return Ok((one, two));
+            }
+            BUFFER_TOO_SMALL => {
+                one.resize(one_needed.max(one.len()), 0);
+                two.resize(two_needed.max(two.len()), 0);
+            }
             number => return Err(number),
         }
     }
@@ -314,6 +429,53 @@ pub fn validate_tree_strict(
             rules.bits, hash.as_mut_ptr(), hash.len(), needed,
         )
     })
+}
+
+/// Returns the sender of these numbers, if there is one.
+fn sender_in(found: &sys::Facts) -> Option<Sender> {
+    match found.sender_type {
+        1 => Some(Sender::Member(found.sender_index)),
+        2 => Some(Sender::External(found.sender_index)),
+        3 => Some(Sender::NewMemberProposal),
+        4 => Some(Sender::NewMemberCommit),
+        _ => None,
+    }
+}
+
+/// Returns the facts of a message that do not depend on a group (RFC 9420, 6, 6.1, 12.1 and 12.4), or `None` if the bytes are
+/// no message. Nothing is checked: each fact is what the message says of itself.
+pub fn message_facts(message: &[u8]) -> Result<Option<Facts>, Fault> {
+    let mut found = sys::Facts::default();
+    let filled = filled_pair(|id, id_needed, key, key_needed| unsafe {
+        sys::mls_message_facts(
+            message.as_ptr(), message.len(), &mut found, id.as_mut_ptr(), id.len(), id_needed, key.as_mut_ptr(),
+            key.len(), key_needed,
+        )
+    });
+    let (group_id, signature_key) = match filled {
+        Ok(both) => both,
+        Err(1) => return Ok(None),
+        Err(number) => return Err(Fault { number }),
+    };
+    let has_group = found.has_group == 1;
+    Ok(Some(Facts {
+        wire_format: found.wire_format,
+        group_id: has_group.then_some(group_id),
+        epoch: has_group.then_some(found.epoch),
+        content_type: (found.content_type != 0).then_some(found.content_type),
+        sender: sender_in(&found),
+        proposals: Counts {
+            adds: found.adds,
+            updates: found.updates,
+            removes: found.removes,
+            psks: found.psks,
+            reinits: found.reinits,
+            external_inits: found.external_inits,
+            group_context_extensions: found.group_context_extensions,
+            references: found.references,
+        },
+        signature_key: (found.has_signature_key == 1).then_some(signature_key),
+    }))
 }
 
 /// Returns the signatures of a start that have no receipt. With no tree, the tree is the one in the GroupInfo. Strict rules
@@ -466,6 +628,63 @@ impl Follower {
             sys::mls_follower_confirmed_hash(handle, hash.as_mut_ptr(), hash.len(), needed)
         })
         .unwrap()
+    }
+
+    /// Returns the group ID (RFC 9420, 8.1).
+    pub fn group_id(&mut self) -> Vec<u8> {
+        let handle = &mut self.handle;
+        filled(|id, needed| unsafe { sys::mls_follower_group_id(handle, id.as_mut_ptr(), id.len(), needed) }).unwrap()
+    }
+
+    /// Returns the encoded GroupContext (RFC 9420, 8.1).
+    pub fn context(&mut self) -> Result<Vec<u8>, Fault> {
+        let handle = &mut self.handle;
+        filled(|context, needed| unsafe {
+            sys::mls_follower_context(handle, context.as_mut_ptr(), context.len(), needed)
+        })
+        .map_err(|number| Fault { number })
+    }
+
+    /// Returns the encoded ratchet tree (RFC 9420, 12.4.3.3).
+    pub fn tree(&mut self) -> Result<Vec<u8>, Fault> {
+        let handle = &mut self.handle;
+        filled(|tree, needed| unsafe { sys::mls_follower_tree(handle, tree.as_mut_ptr(), tree.len(), needed) })
+            .map_err(|number| Fault { number })
+    }
+
+    /// Returns the member at a leaf index, or `None` if the leaf is blank or the tree has no such leaf.
+    pub fn member(&mut self, leaf: u32) -> Option<Member> {
+        let handle = &mut self.handle;
+        let both = filled_pair(|credential, credential_needed, key, key_needed| unsafe {
+            sys::mls_follower_member(
+                handle, leaf, credential.as_mut_ptr(), credential.len(), credential_needed, key.as_mut_ptr(), key.len(),
+                key_needed,
+            )
+        });
+        match both {
+            Ok((credential, signature_key)) => Some(Member { leaf, credential, signature_key }),
+            Err(NO_MEMBER) => None,
+            Err(number) => unreachable!("a follower has a member or none: {number}"),
+        }
+    }
+
+    /// Returns each member, by its leaf index, one at a time.
+    pub fn each_member(&mut self) -> impl Iterator<Item = Member> + '_ {
+        let count = self.members() as usize;
+        (0..).filter_map(move |leaf| self.member(leaf)).take(count)
+    }
+
+    /// Returns the references of the pending proposals (RFC 9420, 5.2 and 12.4), in the order in which they were accepted.
+    pub fn pending(&mut self) -> Vec<Vec<u8>> {
+        let handle = &mut self.handle;
+        let mut count = 0;
+        unsafe { sys::mls_follower_pending(handle, &mut count) };
+        let mut reference_at = |k| {
+            filled(|reference, needed| unsafe {
+                sys::mls_follower_pending_at(handle, k, reference.as_mut_ptr(), reference.len(), needed)
+            })
+        };
+        (0..count).map(|k| reference_at(k).unwrap()).collect()
     }
 
     /// Returns the signatures of a message that have no receipt yet. Bytes that are no message have none.

@@ -1,8 +1,8 @@
 //! Follows the group in examples/real. A signature is good if its receipt is in the group's file of receipts.
 
 use mls_check::{
-    resume_query, start_query, validate_tree, validate_tree_strict, Accepted, Follower, Profile, Receipt, Refused, Rules,
-    Signature,
+    message_facts, resume_query, start_query, validate_tree, validate_tree_strict, Accepted, Counts, Facts, Follower,
+    Profile, Receipt, Refused, Rules, Sender, Signature,
 };
 use std::fs;
 
@@ -312,4 +312,129 @@ fn checks_lifetimes_at_a_time() {
     assert_eq!(judged_with_trust(&mut group, &with_short_tag(&message)), "refused 40 TagLength");
     assert_eq!(group.judge_at(0, &with_short_tag(&message)).unwrap().unwrap_err().number, 40);
     assert_eq!(group.judge_at(0, &message).unwrap().unwrap_err().number, 53);
+}
+
+/// The id of the group.
+const GROUP_ID: &str = "2465531c40cda7923c62292d3a824c84d15fae2af10cb7a5015875f18a1d2a1a";
+
+/// The epoch, the content type and the leaf index of the sender of each message, and how many Adds, Removes and references it
+/// has.
+const MESSAGE_FACTS: [(u64, u32, u32, u64, u64, u64); 10] = [
+    (1, 3, 1, 1, 0, 0),
+    (2, 3, 2, 0, 1, 0),
+    (3, 3, 0, 1, 0, 0),
+    (4, 2, 1, 0, 1, 0),
+    (4, 3, 0, 1, 0, 1),
+    (5, 2, 2, 0, 1, 0),
+    (5, 3, 1, 0, 0, 1),
+    (6, 2, 0, 0, 1, 0),
+    (6, 3, 1, 0, 0, 0),
+    (7, 3, 1, 1, 0, 0),
+];
+
+/// The bytes of hexadecimal digits, with spaces between some.
+fn bytes_of(digits: &str) -> Vec<u8> {
+    let digits = digits.replace(' ', "");
+    (0..digits.len() / 2).map(|i| u8::from_str_radix(&digits[2 * i..2 * i + 2], 16).unwrap()).collect()
+}
+
+/// The facts of a message that has no other than its wire format.
+fn no_facts(wire_format: u32) -> Facts {
+    Facts {
+        wire_format,
+        group_id: None,
+        epoch: None,
+        content_type: None,
+        sender: None,
+        proposals: Counts::default(),
+        signature_key: None,
+    }
+}
+
+#[test]
+fn reads_the_facts_of_messages() {
+    for (message, expected) in messages().iter().zip(MESSAGE_FACTS) {
+        let (epoch, content_type, leaf, adds, removes, references) = expected;
+        let facts = Facts {
+            group_id: Some(bytes_of(GROUP_ID)),
+            epoch: Some(epoch),
+            content_type: Some(content_type),
+            sender: Some(Sender::Member(leaf)),
+            proposals: Counts { adds, removes, references, ..Counts::default() },
+            ..no_facts(1)
+        };
+        assert_eq!(message_facts(message).unwrap(), Some(facts));
+        assert_eq!(message_facts(&message[1..]).unwrap(), None);
+    }
+    let info = Facts { group_id: Some(bytes_of(GROUP_ID)), epoch: Some(1), ..no_facts(4) };
+    assert_eq!(message_facts(&file("real/epoch-1.info")).unwrap(), Some(info));
+    assert_eq!(message_facts(&[]).unwrap(), None);
+}
+
+#[test]
+fn reads_the_facts_of_other_messages() {
+    let leaf = "01b1 0001 0141 020001 020001 00 00 020001";
+    let joins = format!(
+        "0001 0001 0147 0000000000000000 04 00 03 05 01 0006 01aa \
+        01 0181 {leaf} 03 00 00 01c1 07 01d1 04 01aa 01bb 01c6 01e1"
+    );
+    let join = Facts {
+        group_id: Some(vec![0x47]),
+        epoch: Some(0),
+        content_type: Some(3),
+        sender: Some(Sender::NewMemberCommit),
+        proposals: Counts { external_inits: 1, ..Counts::default() },
+        signature_key: Some(vec![0xb1]),
+        ..no_facts(1)
+    };
+    assert_eq!(message_facts(&bytes_of(&joins)).unwrap(), Some(join));
+    let package = format!("0001 0005 0001 0001 01f1 01a1 {leaf} 01 0000000000000000 ffffffffffffffff 00 01c1 00 01c9");
+    let facts = Facts { signature_key: Some(vec![0xb1]), ..no_facts(5) };
+    assert_eq!(message_facts(&bytes_of(&package)).unwrap(), Some(facts));
+    // PrivateMessages: with a group id that is longer than the first buffer, without bytes in it, and with no body that can be
+    // read.
+    let mut long = bytes_of("0001 0002 412c");
+    long.resize(long.len() + 300, 0);
+    long.extend(bytes_of("0000000000000005 03 00 01da 01db"));
+    let facts = Facts { group_id: Some(vec![0; 300]), epoch: Some(5), content_type: Some(3), ..no_facts(2) };
+    assert_eq!(message_facts(&long).unwrap(), Some(facts));
+    let facts = Facts { group_id: Some(vec![]), epoch: Some(u64::MAX), content_type: Some(1), ..no_facts(2) };
+    assert_eq!(message_facts(&bytes_of("0001 0002 00 ffffffffffffffff 01 00 00 00")).unwrap(), Some(facts));
+    assert_eq!(message_facts(&bytes_of("0001 0002")).unwrap(), Some(no_facts(2)));
+    // A Welcome.
+    assert_eq!(message_facts(&bytes_of("0001 0003 0001 00 00")).unwrap(), Some(no_facts(3)));
+}
+
+/// Checks the context and the tree of a group in an epoch of which there are files.
+fn check_parts(group: &mut Follower) {
+    let epoch = group.epoch();
+    assert_eq!(group.context().unwrap(), file(&format!("real/epoch-{epoch}.context")));
+    assert_eq!(group.tree().unwrap(), file(&format!("real/epoch-{epoch}.tree")));
+}
+
+#[test]
+fn reads_the_parts_of_a_group() {
+    let mut group = Follower::start(&file("real/epoch-1.info"), None, &receipts()).unwrap();
+    check_parts(&mut group);
+    for message in messages() {
+        let pending = match group.judge(&message).unwrap().unwrap() {
+            Accepted::Proposal(reference) => vec![reference],
+            Accepted::Commit(epoch) => {
+                if epoch == 4 || epoch == 8 {
+                    check_parts(&mut group);
+                }
+                vec![]
+            }
+        };
+        assert_eq!(group.pending(), pending);
+        assert_eq!(group.group_id(), bytes_of(GROUP_ID));
+    }
+    let members: Vec<String> = group
+        .each_member()
+        .map(|member| format!("{} {} {}", member.leaf, hex(&member.credential), hex(&member.signature_key[..4])))
+        .collect();
+    assert_eq!(members, ["0 00010467332d30 6634f895", "1 00010467332d33 4420bff9", "2 00010467332d35 5ca4aa35"]);
+    for leaf in [3, 4, u32::MAX] {
+        assert_eq!(group.member(leaf), None);
+    }
 }

@@ -2,3 +2,5 @@ mod HandleValues
 mod Moving
 mod Judging
 mod AddingRules
+mod UnacceptedRecords
+mod PuttingParts

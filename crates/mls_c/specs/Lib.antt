@@ -6,3 +6,5 @@ pub mod Queries
 pub mod Starts
 pub mod Messages
 pub mod AddedRules
+pub mod GroupParts
+pub mod MessageFacts

@@ -63,7 +63,7 @@ put_reference (Ok (Proposal reference)) old = put reference old
 put_reference (Ok (Commit epoch)) old = old
 put_reference (Err e) old = old
 
--- `ProcessesMessage now f g message answer`: the follower processed the message at the time `now`, if one is handed in, with
+-- `ProcessesMessage now f g message answer`: the follower processed the message at the time `now`, if one is passed, with
 -- this result (`Follower::take_at`). Bytes that are too long or have no header of a message, and messages that are not read,
 -- are refused even without memory.
 pub record ProcessesMessage (now : Option ℕ) (f g : GroupFollower) (message : List ℕ) (answer : Result Taken Refusal)
@@ -74,7 +74,7 @@ pub record ProcessesMessage (now : Option ℕ) (f g : GroupFollower) (message : 
   pub header : HasNoHeader message → answer ≡ Err refusals.Malformed
   pub unread : IsUnreadMessage message → answer ≡ Err refusals.NotPublic
 
--- `Judges now f g message old new j`: the follower processed the message at the time `now`, if one is handed in, and the
+-- `Judges now f g message old new j`: the follower processed the message at the time `now`, if one is passed, and the
 -- judgement is its answer. If the buffer is too small for a reference, the message was not processed.
 pub data Judges (now : Option ℕ) (f g : GroupFollower) (message old new : List ℕ) (j : Judgement) : Type 0 where
   too_small : length old < reference_size → j ≡ not_judged buffer_too_small → g ≡ f → new ≡ old

@@ -84,6 +84,14 @@ other_profile = 110
 abbrev pub unsupported_rules : ℕ
 unsupported_rules = 114
 
+-- no leaf node is at the leaf index: the leaf is blank, or the tree has no such leaf
+abbrev pub no_member : ℕ
+no_member = 115
+
+-- there are no more pending proposals than the number
+abbrev pub no_proposal : ℕ
+no_proposal = 116
+
 -- `one_if b` is 1 if `b` is true, else 0.
 abbrev pub one_if : Bool → ℕ
 one_if false = 0

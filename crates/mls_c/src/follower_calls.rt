@@ -26,7 +26,7 @@ use std::alloc::Global;
 const REFERENCE_SIZE: usize = 64;
 
 /// The number of a message that cannot be read.
-const MALFORMED: u32 = 1;
+pub(crate) const MALFORMED: u32 = 1;
 
 /// Puts the reference of a proposal that was accepted into a buffer.
 fn put_reference(answer: &Result<Taken, Refusal>, reference: &mut [u8])
@@ -38,7 +38,8 @@ fn put_reference(answer: &Result<Taken, Refusal>, reference: &mut [u8])
 }
 
 impl GroupFollower {
-    /// Puts the records of the signatures of a message that are not known to be good into a buffer. Returns 0 or why not.
+    /// Puts the records of the signatures of a message that are not known to be good into a buffer. Returns 0 or why not. Those
+    /// of the pending proposals are known to be good, so they are not made.
     pub(crate) fn query(
         &mut self,
         alloc: Global,
@@ -51,7 +52,7 @@ impl GroupFollower {
         ensures meaning { meaning_in self.new ≡ meaning_in self.old }
     {
         *needed = 0;
-        let list = match self.follower.signatures_to_verify(message) {
+        let list = match self.follower.fresh_signatures(message) {
             Ok(list) => list,
             Err(SignatureListFault::Malformed) => return MALFORMED,
             Err(SignatureListFault::OutOfMemory) => return OUT_OF_MEMORY,
@@ -86,7 +87,7 @@ impl GroupFollower {
         }
     }
 
-    /// Processes a message at the time `now`, if one is handed in, and puts the reference of a proposal that is accepted into a
+    /// Processes a message at the time `now`, if one is passed, and puts the reference of a proposal that is accepted into a
     /// buffer.
     pub(crate) fn judge(
         &mut self,

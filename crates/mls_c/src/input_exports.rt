@@ -167,7 +167,10 @@ fn put_follower(
             handle.put(follower);
             plain_verdict(0)
         }
-        Err(_) => plain_verdict(OUT_OF_MEMORY),
+        Err(failed) => {
+            drop(failed);
+            plain_verdict(OUT_OF_MEMORY)
+        }
     }
 }
 

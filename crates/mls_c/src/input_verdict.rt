@@ -59,6 +59,12 @@ pub(crate) const OTHER_PROFILE: u32 = 110;
 /// A bit above bit 12 is 1, so the number encodes no set of strict rules.
 pub(crate) const UNSUPPORTED_RULES: u32 = 114;
 
+/// No leaf node is at the leaf index: the leaf is blank, or the tree has no such leaf.
+pub(crate) const NO_MEMBER: u32 = 115;
+
+/// There are no more pending proposals than the number.
+pub(crate) const NO_PROPOSAL: u32 = 116;
+
 /// The place of a strict rule that is not met, and not by a node.
 const NO_PLACE: u64 = u64::MAX;
 

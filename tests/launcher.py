@@ -40,6 +40,11 @@ show tree missing
 show info missing --profile full
 show message missing --profile full
 show message missing --profile other
+show key-package missing
+show members missing
+show state missing --profile full
+show log missing --profile full
+show log missing --profile other
 show --foo
 show --fil x
 show -x tree there
@@ -122,6 +127,28 @@ validate --info there --trust --now 1
 validate-tree --tree there --context there --trust --now 1
 show tree there --now 1
 check tree-math there --now=1
+validate-key-package
+validate-key-package missing
+validate-key-package missing --trust
+validate-key-package there missing --trust
+validate-key-package --trust --receipts good missing
+validate-key-package missing --receipts missing
+validate-key-package - missing - --trust
+validate-key-package missing --trust there -
+validate-key-package --strict --allow 53 missing --trust
+validate-key-package --info there missing --trust
+validate-key-package missing --trust --strict --nope
+signatures --key-package
+signatures --key-package missing there
+signatures --key-package there missing
+signatures --key-package=missing there
+signatures --key-package missing --key-package there
+signatures --key-package - -
+signatures --key-package - --receipts -
+signatures --key-package missing --log there
+signatures --key-package missing --profile full
+signatures --key-package missing --strict --receipts good
+signatures --key-package missing --trust
 signatures --info missing --log there
 signatures --info missing --receipts -
 gate --info - --trust
@@ -136,12 +163,13 @@ gate --info there --help
 gate --info --help
 """.strip("\n").split("\n")
 
-WORDS = ["show", "check", "validate", "validate-tree", "replay", "signatures", "gate", "help", "tree", "info", "message",
-         "tree-math", "transcript", "members", "full", "--info", "--tree", "--state", "--profile", "--log", "--save",
-         "--trust", "--receipts", "--context", "--help", "-h", "-V", "--version", "--inf", "--stat", "--trust=1", "--info=x",
-         "--log=missing", "--profile=full", "-", "--", "-x", "--nope", "there", "missing", "good", "", "sohw", "é",
-         "--strict", "--allow", "--allow=47", "--strict=1", "--stricter", "47", "47,48", "47,47", "39", "53", "4x",
-         "--now", "--now=1", "--now=x"]
+WORDS = ["show", "check", "validate", "validate-tree", "validate-key-package", "--key-package", "--key-package=there",
+         "replay", "signatures", "gate", "help", "tree", "info", "message", "log", "tree-math", "transcript", "members",
+         "full", "--info", "--tree", "--state", "--profile", "--log", "--save", "--trust", "--receipts", "--context",
+         "--help", "-h", "-V", "--version", "--inf", "--stat", "--trust=1", "--info=x", "--log=missing",
+         "--profile=full", "-", "--", "-x", "--nope", "there", "missing", "good", "", "sohw", "é", "--strict",
+         "--allow", "--allow=47", "--strict=1", "--stricter", "47", "47,48", "47,47", "39", "53", "4x", "--now",
+         "--now=1", "--now=x"]
 
 
 def by_chance(number):

@@ -40,13 +40,18 @@ COMMANDS = {
     "show": (["KIND", "FILE"], {"profile": "PROFILE"}, []),
     "validate-tree": ([], {"context": "FILE", "tree": "FILE", **RULES, **CHECKER}, ["context", "tree"]),
     "validate": ([], {**GROUP, **CHECKER}, []),
+    "validate-key-package": (["FILE"], {**RULES, **CHECKER}, []),
     "replay": ([], {**GROUP, "log": "FILE", "save": "FILE", **TIME, **CHECKER}, ["log"]),
-    "signatures": ([], {**GROUP, "log": "FILE", "receipts": "FILE"}, []),
+    "signatures": ([], {**GROUP, "log": "FILE", "key-package": "FILE", "receipts": "FILE"}, []),
     "gate": ([], {**GROUP, **TIME, **CHECKER}, []),
     "check": (["KIND", "FILE"], {}, []),
 }
+# The arguments that take one value or more.
+SEVERAL = {("validate-key-package", "FILE"), ("signatures", "key-package")}
+
 KINDS = {
-    "show": (["tree", "info", "message"], "usage: KIND is tree, info or message\n"),
+    "show": (["tree", "info", "message", "key-package", "members", "state", "log"],
+             "usage: KIND is tree, info, message, key-package, members, state or log\n"),
     "check": (["tree-math", "tree-validation", "tree-operations", "transcript"],
               "usage: KIND is tree-math, tree-validation, tree-operations or transcript\n"),
 }
@@ -60,7 +65,7 @@ SECONDS = re.compile(r"0*([0-9]{1,20})")
 NO_COMMAND = f"Usage: {PROGRAM} <COMMAND>"
 
 # The files that a command reads, in the order in which it opens them. One of them may be standard input.
-INPUTS = ["receipts", "FILE", "context", "info", "tree", "state", "log"]
+INPUTS = ["receipts", "FILE", "key-package", "context", "info", "tree", "state", "log"]
 RECEIPTS = re.compile(rb"(?:[0-9a-fA-F]{64}(?:\n|\Z))*")
 MOST_RECEIPTS = 2**28
 
@@ -125,11 +130,15 @@ class Parser:
         self.given = {}
         self.pending = None
 
+    def is_several(self, name):
+        return (self.name, name) in SEVERAL
+
     def shown(self, name):
+        more = "..." if self.is_several(name) else ""
         if name in self.positionals:
-            return f"<{name}>"
+            return f"<{name}>{more}"
         value = self.options.get(name)
-        return f"--{name} <{value}>" if value else f"--{name}"
+        return f"--{name} <{value}>{more}" if value else f"--{name}"
 
     def usage(self, used):
         """The usage in a refusal: that of help, or if that is clap's own, the options that were used or are required."""
@@ -146,8 +155,10 @@ class Parser:
         if self.pending is None:
             return
         (name, value), self.pending = self.pending, None
-        if value is None:
+        if not value and (value is None or self.is_several(name)):
             raise refusal(f"a value is required for '{self.shown(name)}' but none was supplied")
+        if name in self.positionals and self.is_several(name):
+            value = self.given.pop(name, []) + value
         if self.given.pop(name, None) is not None:
             raise refusal(f"the argument '{self.shown(name)}' cannot be used multiple times", self.usage([]))
         self.given[name] = value
@@ -187,7 +198,10 @@ class Parser:
         if equals and not takes_value:
             raise Unforeseen
         self.resolve()
-        self.pending = (name, value if equals else None if takes_value else "true")
+        if self.is_several(name):
+            self.pending = (name, [value] if equals else [])
+        else:
+            self.pending = (name, value if equals else None if takes_value else "true")
         if equals or not takes_value:
             self.resolve()
 
@@ -203,17 +217,20 @@ class Parser:
             self.unknown_option(word)
         elif self.pending and self.pending[1] is None:
             self.pending = (self.pending[0], word)
+        elif self.pending and self.is_several(self.pending[0]):
+            self.pending[1].append(word)
         else:
             self.positional(word)
 
     def positional(self, word):
         waiting = self.pending[0] if self.pending else None
-        free = [name for name in self.positionals if name not in self.given and name != waiting]
+        free = [name for name in self.positionals
+                if self.is_several(name) or name not in self.given and name != waiting]
         if not free:
             self.resolve_unknown()
             self.unknown(word)
         self.resolve()
-        self.pending = (free[0], word)
+        self.pending = (free[0], [word] if self.is_several(free[0]) else word)
 
     def parse(self, words):
         for word in words:
@@ -250,17 +267,23 @@ def time_fault(given):
     return None
 
 
+def files_of(given, name):
+    """The files that an argument names."""
+    files = given.get(name, [])
+    return files if isinstance(files, list) else [files]
+
+
 def usage_fault(name, given):
     """The text of the first rule for a command's words that clap does not know, if one is broken."""
-    inputs = [file for file in INPUTS if given.get(file) == "-"]
+    inputs = [file for argument in INPUTS for file in files_of(given, argument) if file == "-"]
     if len(inputs) > 1:
         return "usage: standard input can be given for one file\n"
     if name in KINDS:
         kinds, text = KINDS[name]
         if given["KIND"] not in kinds:
             return text
-        if "profile" in given and given["KIND"] != "message":
-            return "usage: --profile is for show message\n"
+        if "profile" in given and given["KIND"] not in ("message", "log"):
+            return "usage: --profile is for show message and show log\n"
         if given.get("profile", "full") not in ("members", "full"):
             return "usage: PROFILE is members or full\n"
         return None
@@ -269,8 +292,10 @@ def usage_fault(name, given):
     chosen = len({"trust", "receipts"} & set(given))
     if name != "signatures" and (chosen == 2 or chosen == 0 and name != "gate"):
         return "usage: give one of --trust and --receipts\n"
+    if "key-package" in given and {"info", "tree", "state", "profile", "log"} & set(given):
+        return "usage: with --key-package give --strict, --allow and --receipts alone\n"
     fault = rules_fault(given)
-    if fault or name == "validate-tree":
+    if fault or name in ("validate-tree", "validate-key-package") or "key-package" in given:
         return fault
     if ("info" in given) == ("state" in given) or "tree" in given and "state" in given:
         return "usage: give --info, with --tree or without it, or --state\n"
@@ -320,9 +345,10 @@ def named_file(words, name):
 
 def check_files(words, given):
     for name in INPUTS:
-        file = given.get(name, "-")
+        # Of several files the first one is opened before anything is printed.
+        file = (files_of(given, name) or ["-"])[0]
         if file == "-":
-            if name == "receipts" and name in given:
+            if name in given and (name == "receipts" or (words[0], name) in SEVERAL):
                 raise Unforeseen
             continue
         why = why_missing(file)

@@ -1,1 +1,2 @@
 mod Saving
+mod Packages

@@ -8,7 +8,7 @@ use Rattle.mls_wire.specs.Devices.{Device, IsWorking, HasFailed, ReadFails}
 use Rattle.mls_check.specs.Signatures.{VerifyFn}
 use Rattle.mls_commands.specs.declared.order.GroupFiles.{GroupFiles}
 use Rattle.mls_commands.specs.declared.order.GroupReport.{GroupReport}
-use Rattle.mls_commands.specs.declared.order.GroupReport.TheVariants.{ValidateTree, Validate, Replay, Signatures, Gate}
+use Rattle.mls_commands.specs.declared.order.GroupReport.TheVariants.{ValidateTree, Validate, ValidatePackages, PackageSignatures, Replay, Signatures, Gate}
 use Rattle.mls_commands.specs.declared.order.Order.{Order}
 use Rattle.mls_commands.specs.declared.order.Order.TheVariants.{Show, Group, Check}
 use Rattle.mls_commands.specs.declared.order.ReplayOptions.{ReplayOptions}
@@ -21,6 +21,7 @@ use Rattle.mls_start.specs.TreeFinding.{IsTreeFinding}
 use Rattle.mls_start.specs.declared.finding.Finding.{Finding}
 use Rattle.mls_gate.specs.GateReport.{Gates, GatesPart}
 use Rattle.mls_report.specs.Finding.{ReportsFinding, ReportsFindingPart}
+use Rattle.mls_report.specs.PackagesReport.{signature_listing, validation}
 use Rattle.mls_report.specs.Replay.{Replays, ReplaysPart}
 use Rattle.mls_report.specs.SignaturesReport.{SignaturesPart, device_bytes, has_failed}
 use Rattle.mls_report.specs.SignaturesReport as signatures
@@ -33,6 +34,7 @@ use Rattle.mls_program.specs.Files.{Opener, IsOpened, CannotOpen, CannotOpenName
 use Rattle.mls_program.specs.ReportResult.{ReportResult}
 use Rattle.mls_program.specs.ShowExecution.{ExecutesShow}
 use Rattle.mls_cli.specs.GroupStarts.{RunsWithStartOrEnds}
+use Rattle.mls_cli.specs.PackagesExecution.{ExecutesPackages}
 use Rattle.mls_cli.specs.ProgramCheckers.{RunsWithCheckerOrEnds}
 
 -- `stdin` is the name of standard input.
@@ -202,6 +204,10 @@ module _ {File : Type 0} (F : Opener File) where
   ExecutesReport G (ValidateTree rules context tree) out0 out1 outcome =
       ExecutesValidateTree G rules context tree out0 out1 outcome
   ExecutesReport G (Validate group) out0 out1 outcome = ExecutesValidate G group out0 out1 outcome
+  ExecutesReport G (ValidatePackages rules files) out0 out1 outcome =
+      ExecutesPackages F G rules validation files.items out0 out1 outcome
+  ExecutesReport G (PackageSignatures rules files) out0 out1 outcome =
+      ExecutesPackages F G rules signature_listing files.items out0 out1 outcome
   ExecutesReport G (Replay options) out0 out1 outcome = ExecutesReplay G options out0 out1 outcome
   ExecutesReport G (Signatures group log) out0 out1 outcome = ExecutesSignatures G group log out0 out1 outcome
   ExecutesReport G (Gate group time) out0 out1 outcome = ExecutesGate time G group out0 out1 outcome

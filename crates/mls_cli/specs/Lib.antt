@@ -1,5 +1,6 @@
 pub mod Execution
 pub mod GroupStarts
+pub mod PackagesExecution
 pub mod ProgramCheckers
 pub mod ProgramCheckersInternal
 pub mod CheckerFaults

@@ -13,6 +13,7 @@ ghost use Rattle.mls_cli.specs.ProgramCheckers.{RunsWithCheckerOrEnds, EndsRefus
 ghost use Rattle.mls_cli.specs.ProgramCheckersInternal.{checker_verify};
 
 use crate::load_checker::load_checker;
+use crate::packages_execution::{execute_package_signatures, execute_packages};
 use crate::program_checker::{CheckerFault, ProgramChecker};
 use crate::read_files::{read_file, read_start};
 use mls_commands::{CheckerChoice, FileName, GroupFiles, GroupReport, Order, ReplayOptions};
@@ -262,6 +263,14 @@ fn report_by<F: Files, K: Sink>(
             tree,
         } => execute_validate_tree(alloc, *rules, context, tree, files, &checker, out),
         GroupReport::Validate(group) => execute_validate(alloc, group, files, checker, out),
+        GroupReport::ValidatePackages {
+            rules,
+            files: names,
+        } => execute_packages(alloc, *rules, names.as_slice(), files, &checker, out),
+        GroupReport::PackageSignatures {
+            rules,
+            files: names,
+        } => execute_package_signatures(alloc, *rules, names.as_slice(), files, &checker, out),
         GroupReport::Replay(options) => execute_replay(alloc, options, files, checker, out),
         GroupReport::Signatures { group, log } => {
             execute_signatures(alloc, group, log, files, &checker, out)
@@ -297,7 +306,8 @@ fn execute_report<F: Files, K: Sink>(
 }
 
 /// Executes a command, and writes its report on `out`. The receipts are read first, if there are any. Then what a group is
-/// followed from is read, then the log is opened, and then the report begins.
+/// followed from is read, then the log is opened, and then the report begins. A KeyPackage is read after the lines of those
+/// before it were written.
 ///
 /// No postcondition says in which order files are opened, or that no other file is, since nothing is known of an opener
 /// except what it may give. The contract says which file is read as which input, that nothing is written if one cannot
@@ -305,12 +315,12 @@ fn execute_report<F: Files, K: Sink>(
 ///
 /// # Errors
 ///
-/// - `Read` if a file cannot be opened, and then nothing is written, or if one fails.
+/// - `Read` if a file cannot be opened, or if one fails. Nothing is written if a file other than a KeyPackage cannot be opened.
 /// - `Write` if the output fails.
 /// - `Memory`.
 ///
-/// A prefix of the report may have been written, except if memory runs out in a report other than `replay`, `signatures`
-/// and `gate`.
+/// A prefix of the report may have been written, except if memory runs out in a report other than `validate-key-package`,
+/// `replay`, `signatures` and `gate`.
 ///
 /// With `--save`, `replay` stores the state after its last whole message once its report is written whole, if a follower
 /// has started. If the state has no file or its file cannot be stored, the fault is `Write` too, after the whole report.

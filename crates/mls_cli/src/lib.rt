@@ -4,6 +4,7 @@
 
 mod execution;
 mod load_checker;
+mod packages_execution;
 mod program;
 mod program_checker;
 mod progress;

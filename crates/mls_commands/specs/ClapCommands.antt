@@ -1,7 +1,9 @@
 -- The subcommands of the program and their arguments, as clap's definitions read them. Used by contracts.
 use Rattle.std.specs.Prelude.{true, codes, Some}
 use Rattle.clap.specs.Words.{App, Rule, Text, new_app, new_rule, with_rule, with_subcommand}
+use Rattle.clap.specs.Lexer.{usize_max}
 use Rattle.clap.specs.Simple.{on_top}
+use Rattle.clap.specs.declared.builder.range.ValueRange.{ValueRange}
 use Rattle.clap.specs.declared.builder.ArgAction.TheVariants.{SetTrue}
 
 -- `word_rule id` is a required positional argument.
@@ -19,6 +21,14 @@ needed_rule name = record (file_rule name) { required = true }
 -- `flag_rule id` is an option without a value.
 abbrev pub flag_rule : Text → Rule
 flag_rule name = record (new_rule name) { long = Some name; action = Some SetTrue }
+
+-- `one_or_more` is how many values an argument takes that names files: at least one.
+abbrev pub one_or_more : ValueRange
+one_or_more = record { start_inclusive = 1; end_inclusive = usize_max }
+
+-- `with_several rule` is the argument with one value or more.
+abbrev pub with_several : Rule → Rule
+with_several r = record r { range = Some one_or_more }
 
 -- `with_checker app` adds the options `--trust` and `--receipts FILE`.
 abbrev pub with_checker : App → App
@@ -60,6 +70,13 @@ with_group a =
 abbrev pub validate_app : App
 validate_app = with_checker (with_group (new_app (codes "validate")))
 
+-- `validate-key-package FILE..`, and one of `--trust` and `--receipts FILE`
+abbrev pub validate_packages_app : App
+validate_packages_app =
+    with_checker (with_rules (with_rule
+    (new_app (codes "validate-key-package"))
+    (with_several (word_rule (codes "FILE")))))
+
 -- `replay --info FILE [--tree FILE] [--profile PROFILE] --log FILE [--save FILE] [--now SECONDS]`, or with `--state FILE` in
 -- place of the first three, and one of `--trust` and `--receipts FILE`
 abbrev pub replay_app : App
@@ -71,12 +88,13 @@ replay_app =
     (file_rule (codes "now")))
 
 -- `signatures --info FILE [--tree FILE] [--profile PROFILE] [--log FILE] [--receipts FILE]`, or with `--state FILE` in place
--- of the first three
+-- of the first three, or `signatures --key-package FILE.. [--receipts FILE]`
 abbrev pub signatures_app : App
 signatures_app =
-    with_rule (with_rule (with_group
+    with_rule (with_rule (with_rule (with_group
     (new_app (codes "signatures")))
     (file_rule (codes "log")))
+    (with_several (file_rule (codes "key-package"))))
     (file_rule (codes "receipts"))
 
 -- `gate --info FILE [--tree FILE] [--profile PROFILE] [--now SECONDS]` or `gate --state FILE [--now SECONDS]`, and at most one
@@ -102,10 +120,11 @@ bare_app =
 abbrev pub mlscheck_app : App
 mlscheck_app =
     with_subcommand (with_subcommand (with_subcommand (with_subcommand
-    (with_subcommand (with_subcommand (with_subcommand bare_app
+    (with_subcommand (with_subcommand (with_subcommand (with_subcommand bare_app
     show_app.top)
     validate_tree_app.top)
     validate_app.top)
+    validate_packages_app.top)
     replay_app.top)
     signatures_app.top)
     gate_app.top)

@@ -1,8 +1,8 @@
 -- The command that a command line gives. Used by contracts.
-use Rattle.std.specs.Prelude.{List, [], ◌∷◌, ℕ, ◌+◌, ◌-◌, ◌*◌, ◌^◌, ◌<◌, ◌≤◌, nat_le, Bool, false, true, not, ◌&&◌, ◌==◌, ◌≡◌, ◌≢◌, ◌⊎◌, Option, Some, None, codes}
+use Rattle.std.specs.Prelude.{List, [], ◌∷◌, count_by, unwrap_or, ℕ, ◌+◌, ◌-◌, ◌*◌, ◌^◌, ◌<◌, ◌≤◌, nat_le, Bool, false, true, not, ◌&&◌, ◌==◌, ◌≡◌, ◌≢◌, ◌⊎◌, Option, Some, None, codes}
 use Rattle.std.specs.Str.{bytes_eq}
 use Rattle.std.specs.Str.Parse.{IsNumeral, digits_value}
-use Rattle.clap.specs.Words.{Text, Row, first_of, fault_of, subcommand_of, IsAmong}
+use Rattle.clap.specs.Words.{Text, Row, all_of, first_of, fault_of, subcommand_of, IsAmong}
 use Rattle.clap.specs.declared.error.kind.ErrorKind.TheVariants.{DisplayHelp, DisplayVersion}
 use Rattle.mls_commands.specs.ClapCommands.{mlscheck_app}
 use Rattle.mls_show.specs.declared.check_kind.CheckKind.{CheckKind}
@@ -30,6 +30,10 @@ abbrev pub kind_text : ShowKind → Text
 kind_text kind.Tree = codes "tree"
 kind_text kind.Info = codes "info"
 kind_text kind.Message = codes "message"
+kind_text kind.KeyPackage = codes "key-package"
+kind_text kind.Members = codes "members"
+kind_text kind.State = codes "state"
+kind_text kind.Log = codes "log"
 
 -- `profile_text profile` is the word that names `profile` on the command line.
 abbrev pub profile_text : Profile → Text
@@ -70,12 +74,16 @@ abbrev pub AreAsked : List Row → Rules → Type 0
 AreAsked rows rules = IsAsked (first_of (codes "strict") rows) (first_of (codes "allow") rows) rules
 
 -- `IsProfile given k profile`: `show` of the kind `k` decodes messages in `profile`, where `given` is the value of
--- `--profile`, if it is there. Without it `profile` is that of the members; only `show message` takes it.
+-- `--profile`, if it is there. Without it `profile` is that of the members; only `show message` and `show log` take it.
 abbrev pub IsProfile : Option Text → ShowKind → Profile → Type 0
 IsProfile None k profile = profile ≡ profiles.Members
 IsProfile (Some text) kind.Message profile = text ≡ profile_text profile
+IsProfile (Some text) kind.Log profile = text ≡ profile_text profile
 IsProfile (Some text) kind.Tree profile = ⊥
 IsProfile (Some text) kind.Info profile = ⊥
+IsProfile (Some text) kind.KeyPackage profile = ⊥
+IsProfile (Some text) kind.Members profile = ⊥
+IsProfile (Some text) kind.State profile = ⊥
 
 -- `IsShow rows profile k file`: the arguments KIND, FILE and `--profile` are these.
 abbrev pub IsShow : List Row → Profile → ShowKind → Text → Type 0
@@ -110,10 +118,19 @@ one_if true = 1
 abbrev pub stdin_at : List Row → Text → ℕ
 stdin_at rows id = one_if (is_stdin (first_of id rows))
 
+-- `is_stdin_name name`: the file of this name is standard input.
+abbrev pub is_stdin_name : Text → Bool
+is_stdin_name name = bytes_eq name (codes "-")
+
+-- `stdin_among rows id` is how many of the files that the argument of this name has are standard input.
+abbrev pub stdin_among : List Row → Text → ℕ
+stdin_among rows id = count_by is_stdin_name (unwrap_or (all_of id rows) [])
+
 -- `stdin_count rows` is how many of the files are standard input.
 unfoldable pub stdin_count : List Row → ℕ
 stdin_count rows =
-    stdin_at rows (codes "FILE") + stdin_at rows (codes "context") + stdin_at rows (codes "info")
+    stdin_among rows (codes "FILE") + stdin_among rows (codes "key-package")
+    + stdin_at rows (codes "context") + stdin_at rows (codes "info")
     + stdin_at rows (codes "tree") + stdin_at rows (codes "state") + stdin_at rows (codes "log")
     + stdin_at rows (codes "receipts")
 
@@ -165,6 +182,16 @@ abbrev pub IsValidate : List Row → GroupFiles → CheckerChoice → Type 0
 IsValidate rows group c =
     IsGroup rows group × IsChecker (first_of (codes "trust") rows) (first_of (codes "receipts") rows) c
 
+-- `NamesFiles rows id files`: these are the files that the argument of this name has, at least one.
+abbrev pub NamesFiles : List Row → Text → List Text → Type 0
+NamesFiles rows id files = (all_of id rows ≡ Some files) × (files ≢ [])
+
+-- `IsValidatePackages rows rules files c`: these are the arguments of `validate-key-package`.
+abbrev pub IsValidatePackages : List Row → Rules → List Text → CheckerChoice → Type 0
+IsValidatePackages rows rules files c =
+    AreAsked rows rules × NamesFiles rows (codes "FILE") files
+    × IsChecker (first_of (codes "trust") rows) (first_of (codes "receipts") rows) c
+
 -- `IsSave given save`: this is the file of `--save`, whose value is `given`. It is not standard input.
 abbrev pub IsSave : Option Text → Option Text → Type 0
 IsSave given save = (given ≡ save) × (is_stdin given ≡ false)
@@ -187,10 +214,24 @@ abbrev pub IsReplay : List Row → ReplayOptions → CheckerChoice → Type 0
 IsReplay rows options c =
     AreReplayOptions rows options × IsChecker (first_of (codes "trust") rows) (first_of (codes "receipts") rows) c
 
--- `IsSignatures rows group log c`: these are the options of `signatures`.
+-- `IsSignatures rows group log c`: these are the options of `signatures` of a group.
 abbrev pub IsSignatures : List Row → GroupFiles → Option Text → CheckerChoice → Type 0
 IsSignatures rows group log c =
-    IsGroup rows group × (first_of (codes "log") rows ≡ log) × SelectsReceipts (first_of (codes "receipts") rows) c
+    (all_of (codes "key-package") rows ≡ None) × IsGroup rows group × (first_of (codes "log") rows ≡ log)
+    × SelectsReceipts (first_of (codes "receipts") rows) c
+
+-- `IsWithoutGroup rows`: nothing of a group is named.
+abbrev pub IsWithoutGroup : List Row → Type 0
+IsWithoutGroup rows =
+    (first_of (codes "info") rows ≡ None) × (first_of (codes "tree") rows ≡ None)
+    × (first_of (codes "state") rows ≡ None) × (first_of (codes "profile") rows ≡ None)
+    × (first_of (codes "log") rows ≡ None)
+
+-- `ArePackageSignatures rows rules files c`: these are the options of `signatures` of KeyPackages.
+abbrev pub ArePackageSignatures : List Row → Rules → List Text → CheckerChoice → Type 0
+ArePackageSignatures rows rules files c =
+    IsWithoutGroup rows × AreAsked rows rules × NamesFiles rows (codes "key-package") files
+    × SelectsReceipts (first_of (codes "receipts") rows) c
 
 -- `IsGate rows group time c`: these are the options of `gate`. No file is standard input, which has the records.
 abbrev pub IsGate : List Row → GroupFiles → Option ℕ → CheckerChoice → Type 0
@@ -210,6 +251,11 @@ IsGroupReport found (report.Replay options) c =
     (rows : List Row) × (found ≡ Some (codes "replay", rows)) × IsReplay rows options c
 IsGroupReport found (report.Signatures group log) c =
     (rows : List Row) × (found ≡ Some (codes "signatures", rows)) × IsSignatures rows group log c
+IsGroupReport found (report.ValidatePackages rules files) c =
+    (rows : List Row) × (found ≡ Some (codes "validate-key-package", rows))
+    × IsValidatePackages rows rules files.items c
+IsGroupReport found (report.PackageSignatures rules files) c =
+    (rows : List Row) × (found ≡ Some (codes "signatures", rows)) × ArePackageSignatures rows rules files.items c
 IsGroupReport found (report.Gate group time) c =
     (rows : List Row) × (found ≡ Some (codes "gate", rows)) × IsGate rows group time c
 

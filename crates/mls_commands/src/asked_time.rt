@@ -1,4 +1,4 @@
-//! The time that the arguments of a subcommand hand in.
+//! The time in the arguments of a subcommand.
 
 ghost use Rattle.std.specs.Prelude.{◌≡◌, ℕ, Option, Some, None, IfOk, IfErr, IfSome, codes};
 ghost use Rattle.clap.specs.Words.{first_of, rows_of, found_of};

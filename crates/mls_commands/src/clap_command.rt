@@ -3,7 +3,7 @@
 ghost use Rattle.std.specs.Prelude.{◌≡◌, IfOk, codes};
 ghost use Rattle.clap.specs.Words.{App, Rule, app_of, new_app, with_rule, with_subcommand};
 ghost use Rattle.mls_commands.specs.ClapCommands as specs;
-ghost use Rattle.mls_commands.specs.ClapCommands.{word_rule, file_rule, needed_rule, flag_rule, show_app, validate_tree_app, validate_app, replay_app, signatures_app, gate_app, check_app, bare_app, mlscheck_app};
+ghost use Rattle.mls_commands.specs.ClapCommands.{word_rule, file_rule, needed_rule, flag_rule, with_several, show_app, validate_tree_app, validate_app, validate_packages_app, replay_app, signatures_app, gate_app, check_app, bare_app, mlscheck_app};
 ghost use Rattle.mls_commands.specs.ClapPartsInternal.{HasRule, HasApp, MakesApp};
 
 use clap::{Arg, ArgAction, Command};
@@ -35,10 +35,15 @@ const KNOWN_SIGNATURES: &str = "Signatures (give one of these, or none)";
 const STRICT_RULES: &str = "Strict rules";
 
 const SHOW_USAGE: &str = "\
-mlscheck show (tree | info) <FILE>
-       mlscheck show message <FILE> [--profile <PROFILE>]";
+mlscheck show (tree | info | key-package | members | state) <FILE>
+       mlscheck show (message | log) <FILE> [--profile <PROFILE>]";
 
 const SHOW_HELP: &str = "\
+key-package is a KeyPackage in its MLSMessage. members are those of a tree, of
+the tree in a GroupInfo, or of a stored state: a line for each, with its leaf
+index, its credential and its signature key. state is a file that replay --save
+has stored. log is a log of messages, with a line for each.
+
 In the members profile a message has proposals to add, update and remove members
 and to change the extensions, in the full profile also those for pre-shared
 keys, ReInit and external joins.
@@ -95,6 +100,34 @@ line, 3 for a fault of reading, writing or memory.
 Example:
   mlscheck validate --info examples/one-leaf.info --trust";
 
+const VALIDATE_PACKAGES_USAGE: &str = "\
+mlscheck validate-key-package <FILE>...
+           [--strict [--allow <NUMBERS>]] (--trust | --receipts <FILE>)";
+
+const VALIDATE_PACKAGES_HELP: &str = "\
+Each FILE is a message with a KeyPackage. Prints a line for each, and how many
+of them are good:
+  N good REFERENCE SUITE NOT-BEFORE NOT-AFTER
+  N unfit NUMBER NAME
+  N unreadable FAULT
+A good KeyPackage can be added to some group of its cipher suite that requires
+nothing (RFC 9420, 7.3 and 10.1). The lifetime is printed and not checked.
+
+--strict also checks forms and lengths of keys, lists of extensions and
+capabilities, the lifetime, points of curves and certificates (RFC 9420, 5.1.1,
+7.2, 13.4). Anyone can see these faults, and real clients fail on them, so a
+service should use it.
+
+A receipt says that a signature is good. mlscheck signatures --key-package
+prints each signature to verify with its receipt; write the receipts of the good
+ones in a file, each in a line (as examples/receipts.py does).
+
+Exit status: 0 if each KeyPackage is good, 1 if not, 2 for a wrong command line,
+3 for a fault of reading, writing or memory.
+
+Example:
+  mlscheck validate-key-package examples/key-package.mls --trust";
+
 const REPLAY_USAGE: &str = "\
 mlscheck replay
            (--info <FILE> [--tree <FILE>] [--profile <PROFILE>] | --state <FILE>)
@@ -131,7 +164,9 @@ Example:
 const SIGNATURES_USAGE: &str = "\
 mlscheck signatures
            (--info <FILE> [--tree <FILE>] [--profile <PROFILE>] | --state <FILE>)
-           [--strict [--allow <NUMBERS>]] [--log <FILE>] [--receipts <FILE>]";
+           [--strict [--allow <NUMBERS>]] [--log <FILE>] [--receipts <FILE>]
+       mlscheck signatures --key-package <FILE>...
+           [--strict [--allow <NUMBERS>]] [--receipts <FILE>]";
 
 const SIGNATURES_HELP: &str = "\
 Prints a line for each signature that has to be verified and has no receipt:
@@ -143,6 +178,8 @@ its profile and its strict rules. The full profile also has pre-shared keys,
 ReInit and external joins. A log is processed as if each signature were good:
 give one whose messages another party has accepted, or remove the messages that
 a first replay refuses.
+Of a KeyPackage, a message in a file of its own, the two signatures are printed
+if nothing else keeps it from being good.
 
 --strict also checks forms and lengths of keys and ciphertexts, lists of
 extensions and capabilities, points of curves and certificates (RFC 9420, 5.1.1,
@@ -234,6 +271,13 @@ fn needed<'a>(alloc: Global, name: &'a str, help: &'a str) -> Arg<'a>
     file(alloc, name, help).required(true)
 }
 
+/// Returns the argument with one value or more.
+fn several<'a>(arg: Arg<'a>) -> Arg<'a>
+    ensures { (rule : Rule) → HasRule rule arg.entry → HasRule (with_several rule) result }
+{
+    arg.num_args(1..)
+}
+
 /// Returns an option without a value.
 fn flag<'a>(alloc: Global, name: &'a str, help: &'a str) -> Arg<'a>
     ensures { HasRule (flag_rule name.entry.now) result }
@@ -303,8 +347,8 @@ fn show_command<'a>(alloc: Global) -> Result<Command<'a>, AllocError>
 {
     let about = "Prints what a file holds";
     let command = Ok(titled(alloc, "show", SHOW_USAGE, about, SHOW_HELP));
-    let command = with_words(alloc, command, "What the file holds: tree, info or message");
-    let help = "The profile of a message: members, which is the default, or full";
+    let command = with_words(alloc, command, "What the file holds");
+    let help = "The profile of messages: members, which is the default, or full";
     with(command, valued(alloc, "profile", "PROFILE", help))
 }
 
@@ -407,6 +451,24 @@ fn validate_command<'a>(alloc: Global) -> Result<Command<'a>, AllocError>
     with_checker(alloc, command, SIGNATURES)
 }
 
+/// `validate-key-package FILE.. [--strict [--allow NUMBERS]]`, and one of `--trust` and `--receipts FILE`.
+fn validate_packages_command<'a>(alloc: Global) -> Result<Command<'a>, AllocError>
+    ensures { MakesApp validate_packages_app result }
+{
+    let about = "Checks KeyPackages, before clients are added by them";
+    let command = Ok(titled(
+        alloc,
+        "validate-key-package",
+        VALIDATE_PACKAGES_USAGE,
+        about,
+        VALIDATE_PACKAGES_HELP,
+    ));
+    let files = several(word(alloc, "FILE", "The paths of the KeyPackages"));
+    let command = with(command, files);
+    let command = with_rules(alloc, command);
+    with_checker(alloc, command, SIGNATURES)
+}
+
 /// `replay --info FILE [--tree FILE] [--profile PROFILE] --log FILE [--save FILE] [--now SECONDS]`, or with `--state FILE` in
 /// place of the first three, the strict rules, and one of `--trust` and `--receipts FILE`.
 fn replay_command<'a>(alloc: Global) -> Result<Command<'a>, AllocError>
@@ -432,11 +494,11 @@ fn replay_command<'a>(alloc: Global) -> Result<Command<'a>, AllocError>
 }
 
 /// `signatures --info FILE [--tree FILE] [--profile PROFILE] [--log FILE] [--receipts FILE]`, or with `--state FILE` in
-/// place of the first three, and the strict rules.
+/// place of the first three, or `signatures --key-package FILE.. [--receipts FILE]`, and the strict rules.
 fn signatures_command<'a>(alloc: Global) -> Result<Command<'a>, AllocError>
     ensures { MakesApp signatures_app result }
 {
-    let about = "Prints the signatures to verify of a group's start and its handshakes";
+    let about = "Prints the signatures to verify of a group or of KeyPackages";
     let command = Ok(titled(
         alloc,
         "signatures",
@@ -451,6 +513,9 @@ fn signatures_command<'a>(alloc: Global) -> Result<Command<'a>, AllocError>
         "The path of the handshakes, each after its length",
     );
     let command = with(command, log);
+    let help = "The paths of KeyPackages, instead of a group";
+    let packages = several(file(alloc, "key-package", help));
+    let command = with(command, packages);
     let receipts = file(alloc, "receipts", "The path of the list of good signatures");
     with(command, receipts)
 }
@@ -520,6 +585,7 @@ pub(crate) fn mlscheck_command<'a>(alloc: Global) -> Result<Command<'a>, AllocEr
     let command = with_command(command, show_command(alloc));
     let command = with_command(command, validate_tree_command(alloc));
     let command = with_command(command, validate_command(alloc));
+    let command = with_command(command, validate_packages_command(alloc));
     let command = with_command(command, replay_command(alloc));
     let command = with_command(command, signatures_command(alloc));
     let command = with_command(command, gate_command(alloc));

@@ -80,6 +80,20 @@ pub enum GroupReport {
         /// The file of the log, if one is named.
         log: Option<FileName>,
     },
+    /// `validate-key-package`: say which KeyPackages are good by themselves, and meet the strict rules that are asked.
+    ValidatePackages {
+        /// The strict rules that are asked.
+        rules: Rules,
+        /// The files of the KeyPackages, at least one.
+        files: Vec<FileName>,
+    },
+    /// `signatures --key-package`: print the signatures to verify of KeyPackages.
+    PackageSignatures {
+        /// The strict rules that are asked.
+        rules: Rules,
+        /// The files of the KeyPackages, at least one.
+        files: Vec<FileName>,
+    },
     /// `gate`: answer the records of standard input, one after the other.
     Gate {
         /// What the group is followed from.
@@ -95,14 +109,14 @@ pub enum GroupReport {
 pub enum Order {
     /// `show KIND FILE`: print what a file holds.
     Show {
-        /// The profile in which a message is decoded; that of the members for another kind.
+        /// The profile in which a message is decoded, also that of a log; that of the members for another kind.
         profile: Profile,
         /// What the file is to be read as.
         kind: ShowKind,
         /// The file.
         file: FileName,
     },
-    /// `validate-tree`, `validate`, `replay`, `signatures` or `gate`.
+    /// `validate-tree`, `validate`, `validate-key-package`, `replay`, `signatures` or `gate`.
     Group {
         /// Which of them, and its files.
         report: GroupReport,

@@ -1,12 +1,12 @@
 //! Parsing a command line.
 
-ghost use Rattle.std.specs.Prelude.{◌≡◌, ◌≢◌, ◌⊎◌, IfOk, IfErr, codes, Some, option_map, map, string_bytes};
+ghost use Rattle.std.specs.Prelude.{◌≡◌, ◌≢◌, ◌≤◌, ◌^◌, ◌↔◌, ◌⊎◌, IsTrue, IfOk, IfErr, codes, Some, None, count_by, length, option_map, map, string_bytes};
 ghost use Rattle.clap.specs.Values.{kind_of};
-ghost use Rattle.clap.specs.Words.{first_of, rows_of, found_of, subcommand_rows_of};
-ghost use Rattle.mls_commands.specs.Orders.{IsProfile, IsNamedProfile, IsChecker, IsGroup, IsSave, AreReplayOptions, IsFirstChecker, SelectsReceipts, IsOrder, IsGiven, IsOrderOf, stdin_count, IsHelp, IsUsage, AsksForHelp, AsksForHelpAlone, RefusesArguments, kind_text, check_kind_text};
+ghost use Rattle.clap.specs.Words.{Text, all_of, first_of, rows_of, found_of, subcommand_rows_of};
+ghost use Rattle.mls_commands.specs.Orders.{IsProfile, IsNamedProfile, IsChecker, IsGroup, IsSave, AreReplayOptions, IsFirstChecker, SelectsReceipts, NamesFiles, IsWithoutGroup, IsOrder, IsGiven, IsOrderOf, is_stdin_name, stdin_count, IsHelp, IsUsage, AsksForHelp, AsksForHelpAlone, RefusesArguments, kind_text, check_kind_text};
 ghost use Rattle.mls_commands.specs.Orders as specs;
 
-use crate::arguments::{is_set, usage, value};
+use crate::arguments::{is_set, usage, value, values};
 use crate::asked_rules::asked_rules;
 use crate::asked_time::asked_time;
 use crate::clap_command::mlscheck_command;
@@ -64,6 +64,31 @@ fn optional_file_of(
     }
 }
 
+/// Returns the file names with these texts.
+fn named_files(alloc: Global, names: &[&str]) -> Result<Vec<FileName>, AllocError>
+    ensures { IfOk result (λ files. files.items ≡ map (λ name. name.now) names.now) }
+{
+    let mut files = Vec::new(alloc);
+    for name in names {
+        files.push(FileName::new(alloc, name)?)?;
+    }
+    Ok(files)
+}
+
+/// Returns the files that an argument names, at least one.
+fn files_of(alloc: Global, matches: &ArgMatches<'_>, id: &str) -> Result<Vec<FileName>, OrderFault>
+    ensures files { IfOk result (λ files.
+        NamesFiles (rows_of (found_of matches.now)) id.now files.items) }
+    ensures refused { IfErr result
+        (RefusesArguments (NamesFiles (rows_of (found_of matches.now)) id.now)) }
+    ensures never_help { IfErr result (λ e. IsHelp e → ⊥) }
+{
+    match values(matches, id) {
+        Some(names) if !names.is_empty() => Ok(named_files(alloc, names)?),
+        _ => Err(usage(alloc, "usage: a file is missing\n")),
+    }
+}
+
 /// Returns the kind of `show`.
 fn show_kind(alloc: Global, matches: &ArgMatches<'_>) -> Result<ShowKind, OrderFault>
     ensures kind { IfOk result
@@ -77,12 +102,19 @@ fn show_kind(alloc: Global, matches: &ArgMatches<'_>) -> Result<ShowKind, OrderF
         Some("tree") => Ok(ShowKind::Tree),
         Some("info") => Ok(ShowKind::Info),
         Some("message") => Ok(ShowKind::Message),
-        _ => Err(usage(alloc, "usage: KIND is tree, info or message\n")),
+        Some("key-package") => Ok(ShowKind::KeyPackage),
+        Some("members") => Ok(ShowKind::Members),
+        Some("state") => Ok(ShowKind::State),
+        Some("log") => Ok(ShowKind::Log),
+        _ => Err(usage(
+            alloc,
+            "usage: KIND is tree, info, message, key-package, members, state or log\n",
+        )),
     }
 }
 
 /// Returns the profile that `show` is given for a kind: the members' profile without `--profile`, which only `message`
-/// takes.
+/// and `log` take.
 fn show_profile(
     alloc: Global,
     matches: &ArgMatches<'_>,
@@ -96,10 +128,12 @@ fn show_profile(
 {
     match (value(matches, "profile"), kind) {
         (None, _) => Ok(Profile::Members),
-        (Some("members"), ShowKind::Message) => Ok(Profile::Members),
-        (Some("full"), ShowKind::Message) => Ok(Profile::Full),
-        (Some(_), ShowKind::Message) => Err(usage(alloc, "usage: PROFILE is members or full\n")),
-        (Some(_), _) => Err(usage(alloc, "usage: --profile is for show message\n")),
+        (Some("members"), ShowKind::Message | ShowKind::Log) => Ok(Profile::Members),
+        (Some("full"), ShowKind::Message | ShowKind::Log) => Ok(Profile::Full),
+        (Some(_), ShowKind::Message | ShowKind::Log) => {
+            Err(usage(alloc, "usage: PROFILE is members or full\n"))
+        }
+        (Some(_), _) => Err(usage(alloc, "usage: --profile is for show message and show log\n")),
     }
 }
 
@@ -226,6 +260,21 @@ fn validate_order(alloc: Global, matches: &ArgMatches<'_>) -> Result<Order, Orde
     Ok(Order::Group { report, checker })
 }
 
+/// Returns the command `validate-key-package`.
+fn validate_packages_order(alloc: Global, matches: &ArgMatches<'_>) -> Result<Order, OrderFault>
+    ensures order { IfOk result
+        (IsOrder (Some (codes "validate-key-package", rows_of (found_of matches.now)))) }
+    ensures refused { IfErr result
+        (RefusesArguments (IsOrder (Some (codes "validate-key-package", rows_of (found_of matches.now))))) }
+    ensures never_help { IfErr result (λ e. IsHelp e → ⊥) }
+{
+    let checker = chosen_checker(alloc, matches)?;
+    let rules = asked_rules(alloc, matches)?;
+    let files = files_of(alloc, matches, "FILE")?;
+    let report = GroupReport::ValidatePackages { rules, files };
+    Ok(Order::Group { report, checker })
+}
+
 /// Returns the file under which a state is stored, if one is named. It is not standard input.
 fn save_of(alloc: Global, matches: &ArgMatches<'_>) -> Result<Option<FileName>, OrderFault>
     ensures save { IfOk result (IsSave (first_of (codes "save") (rows_of (found_of matches.now)))) }
@@ -281,8 +330,9 @@ fn cover(alloc: Global, matches: &ArgMatches<'_>) -> Result<CheckerChoice, Alloc
     }
 }
 
-/// Returns the command `signatures`.
-fn signatures_order(alloc: Global, matches: &ArgMatches<'_>) -> Result<Order, OrderFault>
+/// Returns the command `signatures` of a group.
+fn group_signatures(alloc: Global, matches: &ArgMatches<'_>) -> Result<Order, OrderFault>
+    requires { all_of (codes "key-package") (rows_of (found_of matches.now)) ≡ None }
     ensures order { IfOk result
         (IsOrder (Some (codes "signatures", rows_of (found_of matches.now)))) }
     ensures refused { IfErr result
@@ -294,6 +344,53 @@ fn signatures_order(alloc: Global, matches: &ArgMatches<'_>) -> Result<Order, Or
     let checker = cover(alloc, matches)?;
     let report = GroupReport::Signatures { group, log };
     Ok(Order::Group { report, checker })
+}
+
+/// Returns whether nothing of a group is named.
+fn is_without_group(matches: &ArgMatches<'_>) -> bool
+    ensures { IsTrue result ↔ IsWithoutGroup (rows_of (found_of matches.now)) }
+{
+    value(matches, "info").is_none()
+        && value(matches, "tree").is_none()
+        && value(matches, "state").is_none()
+        && value(matches, "profile").is_none()
+        && value(matches, "log").is_none()
+}
+
+/// Returns the command `signatures` of KeyPackages.
+fn package_signatures(alloc: Global, matches: &ArgMatches<'_>) -> Result<Order, OrderFault>
+    requires { all_of (codes "key-package") (rows_of (found_of matches.now)) ≢ None }
+    ensures order { IfOk result
+        (IsOrder (Some (codes "signatures", rows_of (found_of matches.now)))) }
+    ensures refused { IfErr result
+        (RefusesArguments (IsOrder (Some (codes "signatures", rows_of (found_of matches.now))))) }
+    ensures never_help { IfErr result (λ e. IsHelp e → ⊥) }
+{
+    if !is_without_group(matches) {
+        return Err(usage(
+            alloc,
+            "usage: with --key-package give --strict, --allow and --receipts alone\n",
+        ));
+    }
+    let rules = asked_rules(alloc, matches)?;
+    let files = files_of(alloc, matches, "key-package")?;
+    let checker = cover(alloc, matches)?;
+    let report = GroupReport::PackageSignatures { rules, files };
+    Ok(Order::Group { report, checker })
+}
+
+/// Returns the command `signatures`, of KeyPackages or of a group.
+fn signatures_order(alloc: Global, matches: &ArgMatches<'_>) -> Result<Order, OrderFault>
+    ensures order { IfOk result
+        (IsOrder (Some (codes "signatures", rows_of (found_of matches.now)))) }
+    ensures refused { IfErr result
+        (RefusesArguments (IsOrder (Some (codes "signatures", rows_of (found_of matches.now))))) }
+    ensures never_help { IfErr result (λ e. IsHelp e → ⊥) }
+{
+    match values(matches, "key-package") {
+        Some(_) => package_signatures(alloc, matches),
+        None => group_signatures(alloc, matches),
+    }
 }
 
 /// Returns the checker of `gate`: that of at most one of the two options, else one that accepts none.
@@ -384,6 +481,7 @@ fn named_order(alloc: Global, name: &str, matches: &ArgMatches<'_>) -> Result<Or
         "show" => show_order(alloc, matches),
         "validate-tree" => validate_tree_order(alloc, matches),
         "validate" => validate_order(alloc, matches),
+        "validate-key-package" => validate_packages_order(alloc, matches),
         "replay" => replay_order(alloc, matches),
         "signatures" => signatures_order(alloc, matches),
         "gate" => gate_order(alloc, matches),
@@ -393,8 +491,9 @@ fn named_order(alloc: Global, name: &str, matches: &ArgMatches<'_>) -> Result<Or
 }
 
 /// Returns 1 if an argument names standard input as a file, else 0.
-fn stdin_at(matches: &ArgMatches<'_>, id: &str) -> u32
-    ensures { result ≡ specs.stdin_at (rows_of (found_of matches.now)) id.now }
+fn stdin_at(matches: &ArgMatches<'_>, id: &str) -> usize
+    ensures count { result ≡ specs.stdin_at (rows_of (found_of matches.now)) id.now }
+    ensures bounded { result ≤ 1 }
 {
     match value(matches, id) {
         Some("-") => 1,
@@ -402,19 +501,45 @@ fn stdin_at(matches: &ArgMatches<'_>, id: &str) -> u32
     }
 }
 
+/// Returns how many of the names are that of standard input.
+fn count_stdin(names: &[&str]) -> usize
+    ensures count { result ≡ count_by is_stdin_name (map (λ name. name.now) names.now) }
+    ensures bounded { result ≤ length names.now }
+{
+    let mut count = 0;
+    for name in names {
+        if *name == "-" {
+            count += 1;
+        }
+    }
+    count
+}
+
+/// Returns how many of the files that an argument names are standard input.
+fn stdin_among(matches: &ArgMatches<'_>, id: &str) -> usize
+    ensures count { result ≡ specs.stdin_among (rows_of (found_of matches.now)) id.now }
+    ensures bounded { result ≤ 2 ^ 60 }
+{
+    match values(matches, id) {
+        Some(names) => count_stdin(names),
+        None => 0,
+    }
+}
+
 /// Returns how many of the files are standard input.
 #[tactic(auto, unfolding(crate::specs::Orders::stdin_count))]
-fn stdin_count(matches: &ArgMatches<'_>) -> u32
+fn stdin_count(matches: &ArgMatches<'_>) -> usize
     ensures { result ≡ stdin_count (rows_of (found_of matches.now)) }
 {
-    let file = stdin_at(matches, "FILE");
+    let file = stdin_among(matches, "FILE");
+    let packages = stdin_among(matches, "key-package");
     let context = stdin_at(matches, "context");
     let info = stdin_at(matches, "info");
     let tree = stdin_at(matches, "tree");
     let state = stdin_at(matches, "state");
     let log = stdin_at(matches, "log");
     let receipts = stdin_at(matches, "receipts");
-    file + context + info + tree + state + log + receipts
+    file + packages + context + info + tree + state + log + receipts
 }
 
 /// Returns the command of the subcommand with this name, at most one of whose files is standard input.

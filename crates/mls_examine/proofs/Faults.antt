@@ -90,10 +90,10 @@ module _ (asked : Rules) (k : KeyPackage) (none : package_fault asked k ≡ None
   pub form_kept : AreKept (form_rules k)
   form_kept = both_kept.0
 
-  from_package : is_from_key_package k.leaf_node.source ≡ true
+  pub from_package : is_from_key_package k.leaf_node.source ≡ true
   from_package = (passed (passed (passed both_kept.0).1).1).0
 
-  has_reference : is_some (package_ref k) ≡ true
+  pub has_reference : is_some (package_ref k) ≡ true
   unfolding later_rules encoding_rules
   has_reference = (passed (passed_both (strict_rules (package_refusal asked k.cipher_suite k.version k)) (encoding_rules k) both_kept.1).1).0
 

@@ -5,3 +5,4 @@ pub mod Lone
 pub mod Deciding
 pub mod Checked
 pub mod ValidAdds
+pub mod PackagesFound

@@ -1,5 +1,6 @@
 //! Theorems about the definitions of this crate. No caller needs to run the functions.
 
+ghost use Rattle.mls_examine.specs.PackageFindingLaws.{PackageFindingExists, PackageFindingIsUnique};
 ghost use Rattle.mls_examine.specs.PackageLaws.{CoveredPackagesAreGood, GoodPackagesCanBeAdded, GoodPackagesStay, LoneLeavesAreValid, NoFaultOfGood, PackageFactsAreUnique, PackageFaultIsUnique, PackageOrFault};
 
 /// A KeyPackage is good by itself, or there is a reason why it is not: never both, and no two reasons. So the result is
@@ -32,4 +33,11 @@ pub fn listed_signatures_suffice()
 /// the tree of this one leaf and in a group that requires nothing.
 pub fn lone_leaves_are_valid()
     ensures { LoneLeavesAreValid }
+{}
+
+/// For any bytes there is a finding. It is determined by the bytes, the strict rules that are asked and the verification
+/// function of the signature check, except for which fault is named of undecodable bytes.
+pub fn one_package_finding()
+    ensures some { PackageFindingExists }
+    ensures one { PackageFindingIsUnique }
 {}

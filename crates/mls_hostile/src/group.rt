@@ -525,3 +525,14 @@ pub(crate) const STATE_SIGNATURES: &str = "bd6f8df8dcd01852d1c0a3e53b39dcb3bb86d
     8f110d70000 c6\ne60b8f3c0a227ffc5e084212caecf78d7e2b38f53addb2f55387762615d6872a 1 b1 134d4c532\
     0312e30204c6561664e6f64655442532501a101b1000101410200010200010000020001010000000000000000ffffff\
     ffffffffff00 c1\n2 refused 1\n";
+
+/// What `validate-key-package` writes of the KeyPackage, with its receipts.
+pub(crate) const VALIDATED_PACKAGE: &str = "1 good 2ecb8b18295924eead626e0aeaf767ebefa71136bd7e54db\
+    65cb6132a1b4968a 1 0 18446744073709551615\ngood 1 of 1\n";
+
+/// What `signatures --key-package` writes of the KeyPackage: the signature of its leaf node, then its own.
+pub(crate) const PACKAGE_SIGNATURES: &str = "e60b8f3c0a227ffc5e084212caecf78d7e2b38f53addb2f5538776\
+    2615d6872a 1 b1 134d4c5320312e30204c6561664e6f64655442532501a101b100010141020001020001000002000\
+    1010000000000000000ffffffffffffffff00 c1\n47c350198b187b8db3ec7885f5f8de0799a2ebdd4d7c97610b7b9\
+    4d2af36410e 1 b1 154d4c5320312e30204b65795061636b6167655442532e0001000101f101a101b1000101410200\
+    010200010000020001010000000000000000ffffffffffffffff0001c100 c9\n";

@@ -235,6 +235,16 @@ const REPORTS: &[(&str, Report, &str)] = &[
         Report::ReplayState,
         "no, 200 bytes",
     ),
+    (
+        "validate-key-package of a key package",
+        Report::Packages,
+        "yes, 109 bytes",
+    ),
+    (
+        "signatures of a key package",
+        Report::PackageSignatures,
+        "yes, 402 bytes",
+    ),
 ];
 
 /// Makes a call.

@@ -1,17 +1,22 @@
 //! Reports over devices in memory.
 
 use crate::group::{
-    CHECKED, COMMIT, GATE_RECORDS, GATED, GROUP_INFO, LOG, NEXT_STATE, NOT_STRICT, REPLAYED,
-    RESUMED, SIGNATURES, STATE, STATE_GATED, STATE_NOT_STRICT, STATE_RECORDS, STATE_SIGNATURES,
-    STATE_VALIDATED, TIMED_GATED, TIMED_LOG, TIMED_RECORDS, TIMED_REPLAYED, TREE, TREE_CONTEXT,
-    TREE_NOT_STRICT, VALIDATED, VALIDATED_TREE, VECTORS,
+    CHECKED, COMMIT, GATE_RECORDS, GATED, GROUP_INFO, KEY_PACKAGE, LOG, NEXT_STATE, NOT_STRICT,
+    PACKAGE_RECEIPTS, PACKAGE_SIGNATURES, REPLAYED, RESUMED, SIGNATURES, STATE, STATE_GATED,
+    STATE_NOT_STRICT, STATE_RECORDS, STATE_SIGNATURES, STATE_VALIDATED, TIMED_GATED, TIMED_LOG,
+    TIMED_RECORDS, TIMED_REPLAYED, TREE, TREE_CONTEXT, TREE_NOT_STRICT, VALIDATED,
+    VALIDATED_PACKAGE, VALIDATED_TREE, VECTORS,
 };
 use crate::output::{Output, Stop, have};
-use mls_check::{Receipts, Trusting};
+use mls_check::{OutOfMemory, Receipts, Trusting};
+use mls_examine::{PackageFinding, package_finding};
 use mls_follow::Follower;
 use mls_gate::gate;
 use mls_msgs::{Profile, Rules};
-use mls_report::{Replayed, replay, signatures, validate, validate_tree};
+use mls_report::{
+    Replayed, replay, report_package, report_package_count, report_package_signatures, signatures,
+    validate, validate_tree,
+};
 use mls_show::Verdict;
 use mls_start::{Judge, StartBytes};
 use mls_vectors::{CheckKind, run_check};
@@ -51,6 +56,10 @@ pub(crate) enum Report {
     StrictValidateState,
     /// `replay` from this state, and the state after it.
     ReplayState,
+    /// `validate-key-package` of a KeyPackage, with its receipts.
+    Packages,
+    /// `signatures --key-package` of a KeyPackage, with no receipts.
+    PackageSignatures,
 }
 
 /// How a report ends, and what is written then.
@@ -266,6 +275,47 @@ fn replay_state_ended(alloc: Global) -> Result<Ended, Stop> {
     Ok((outcome, out))
 }
 
+/// Returns what is found of the KeyPackage, with these receipts.
+fn finding_of(alloc: Global, receipts: &str) -> Result<Result<PackageFinding, RunFault>, Stop> {
+    let input = have(hex::decode(alloc, KEY_PACKAGE))?;
+    let checker = have(Receipts::read(alloc, receipts.as_bytes()))?;
+    match package_finding(alloc, Rules::plain(), input.as_slice(), &checker) {
+        Ok(finding) => Ok(Ok(finding)),
+        Err(OutOfMemory) => Ok(Err(RunFault::Memory)),
+    }
+}
+
+/// Returns how `validate-key-package` ends.
+fn packages_ended(alloc: Global) -> Result<Ended, Stop> {
+    let Ok(mut out) = MemorySink::new(alloc, 1000, 40, None) else {
+        return Err(Stop::Memory);
+    };
+    let outcome = match finding_of(alloc, PACKAGE_RECEIPTS)? {
+        Ok(finding) => match report_package(alloc, 1, &finding, &mut out) {
+            Ok(is_good) => report_package_count(alloc, u32::from(is_good), 1, &mut out),
+            Err(fault) => Err(fault),
+        },
+        Err(fault) => Err(fault),
+    };
+    Ok((outcome, out))
+}
+
+/// Returns how `signatures --key-package` ends.
+fn package_signatures_ended(alloc: Global) -> Result<Ended, Stop> {
+    let Ok(mut out) = MemorySink::new(alloc, 2000, 40, None) else {
+        return Err(Stop::Memory);
+    };
+    let outcome = match finding_of(alloc, "")? {
+        Ok(finding) => match report_package_signatures(alloc, 1, &finding, &mut out) {
+            Ok(true) => Ok(Verdict::Yes),
+            Ok(false) => Ok(Verdict::No),
+            Err(fault) => Err(fault),
+        },
+        Err(fault) => Err(fault),
+    };
+    Ok((outcome, out))
+}
+
 /// Returns how a report ends.
 fn ended(alloc: Global, report: Report) -> Result<Ended, Stop> {
     match report {
@@ -284,6 +334,8 @@ fn ended(alloc: Global, report: Report) -> Result<Ended, Stop> {
         Report::ValidateState => validate_state_ended(alloc, Rules::plain()),
         Report::StrictValidateState => validate_state_ended(alloc, Rules::strict()),
         Report::ReplayState => replay_state_ended(alloc),
+        Report::Packages => packages_ended(alloc),
+        Report::PackageSignatures => package_signatures_ended(alloc),
     }
 }
 
@@ -305,6 +357,8 @@ fn usual(report: Report) -> (&'static str, &'static str) {
         Report::ValidateState => ("yes", STATE_VALIDATED),
         Report::StrictValidateState => ("no", STATE_NOT_STRICT),
         Report::ReplayState => ("no", RESUMED),
+        Report::Packages => ("yes", VALIDATED_PACKAGE),
+        Report::PackageSignatures => ("yes", PACKAGE_SIGNATURES),
     }
 }
 
@@ -323,7 +377,9 @@ pub(crate) fn write_report(alloc: Global, report: Report) -> Result<Output, Stop
             | Report::SignaturesState
             | Report::Gate
             | Report::TimedGate
-            | Report::GateState => usual_text.as_bytes(),
+            | Report::GateState
+            | Report::Packages
+            | Report::PackageSignatures => usual_text.as_bytes(),
             Report::Check
             | Report::Validate
             | Report::StrictValidate

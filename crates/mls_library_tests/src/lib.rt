@@ -3,7 +3,8 @@
 //! The libraries have no tests of their own, since a crate with tests is proved twice. A proof covers what contracts
 //! say; docs/TESTING.md says what is tested, and how. Here are the examples whose arguments or results have no bytes:
 //! devices that fail, journals, cached hashes, indexes, and inputs at the limits. Here are also sets of strict rules, and
-//! those that are added to a follower or asked of a single tree, and KeyPackages by themselves.
+//! those that are added to a follower or asked of a single tree, KeyPackages by themselves, the facts of messages,
+//! groups with keys that begin alike, and the fronts of bodies that a message stores unread.
 //!
 //! Expected values are worked out by hand from the RFC's text, and are never what the libraries returned.
 #![tactic(auto)]
@@ -21,9 +22,13 @@ mod journals;
 #[cfg(test)]
 mod kept_hashes;
 #[cfg(test)]
+mod keys_alike;
+#[cfg(test)]
 mod large_inputs;
 #[cfg(test)]
 mod limits;
+#[cfg(test)]
+mod message_facts;
 #[cfg(test)]
 mod notation;
 #[cfg(test)]
@@ -50,5 +55,7 @@ mod timed_replays;
 mod tree_entries;
 #[cfg(test)]
 mod tree_indexes;
+#[cfg(test)]
+mod unread_bodies;
 #[cfg(test)]
 mod wire;

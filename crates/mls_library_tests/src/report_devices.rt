@@ -83,6 +83,34 @@ fn devices_of_show_that_fail(rt: HostRuntime) {
     }
 }
 
+/// Returns what `show` of a log of two messages writes if the log fails at a call, and the output has capacity for this many
+/// bytes; and the fault.
+fn shown_log(rt: &impl Abort, alloc: Global, fails_at: Option<usize>, capacity: usize) -> String {
+    let log = bytes(rt, alloc, "04000100020400010002");
+    let mut input = MemorySource::new(log.as_slice(), 5, fails_at);
+    let mut out = sink(rt, alloc, capacity, 4, None);
+    let outcome = run_show(alloc, ShowKind::Log, &mut input, &mut out);
+    said(rt, alloc, outcome, &out)
+}
+
+#[test]
+fn lines_of_a_shown_log_before_a_fault(rt: HostRuntime) {
+    let alloc = rt.alloc();
+    const ENDS: &[((Option<usize>, usize), &str)] = &[
+        ((None, 100), "1 4 private 0\n2 4 private 0\nrecords 2\n"),
+        ((Some(2), 100), ": read"),
+        ((Some(4), 100), "1 4 private 0\n: read"),
+        ((Some(5), 100), "1 4 private 0\n2 4 private 0\n: read"),
+        ((None, 10), "1 4 privat: write"),
+        ((None, 16), "1 4 private 0\n2 : write"),
+        ((None, 30), "1 4 private 0\n2 4 private 0\nre: write"),
+    ];
+    for (end, expected) in ENDS {
+        let (fails_at, capacity) = *end;
+        expect_text(&rt, shown_log(&rt, alloc, fails_at, capacity), expected);
+    }
+}
+
 /// Returns what `replay` writes of the example log, read in pieces of a size, if the log fails at a call, and the output
 /// has this capacity; and how many bytes of the log are left.
 fn replayed(
@@ -270,6 +298,9 @@ fn files_that_fail_have_no_report(rt: HostRuntime) {
         "validate --info tree --trust",
         "validate --state tree --trust",
         "validate --info tree --tree other --trust",
+        "validate-key-package tree --trust",
+        "validate-key-package tree other --trust",
+        "signatures --key-package tree",
         "replay --info tree --log tree --trust",
         "replay --state tree --log other --trust",
         "signatures --info tree",
@@ -308,7 +339,7 @@ fn run_over_tree(rt: &impl Abort, alloc: Global, line: &str) -> String {
     run_over(rt, alloc, line, &files)
 }
 
-/// A report and a help of which the first 30 bytes are taken.
+/// Reports and a help of which the first 30 bytes are taken, or the first line.
 #[test]
 fn outputs_fail(rt: HostRuntime) {
     let alloc = rt.alloc();
@@ -318,6 +349,14 @@ fn outputs_fail(rt: HostRuntime) {
             "3 0 leaf 0 a0 b0 key_package 0 1| fault: write\n",
         ),
         ("--help", "3 Checks the public state of MLS| fault: write\n"),
+        (
+            "validate-key-package tree tree --trust",
+            "3 1 unreadable BadTag 10497 0\n| fault: write\n",
+        ),
+        (
+            "signatures --key-package tree tree",
+            "3 1 unreadable BadTag 10497 0\n| fault: write\n",
+        ),
     ];
     for (line, expected) in ROWS {
         expect_text(&rt, run_over_tree(&rt, alloc, line), expected);

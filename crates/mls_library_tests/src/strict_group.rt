@@ -52,7 +52,7 @@ fn group_info(rt: &impl Abort, alloc: Global, notation: &str) -> GroupInfo {
 }
 
 /// Starts a follower from a GroupInfo that has its tree.
-fn start(
+pub(crate) fn start(
     rt: &impl Abort,
     alloc: Global,
     rules: Rules,

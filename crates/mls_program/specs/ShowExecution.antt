@@ -1,14 +1,12 @@
 -- How the command `show` is executed: which file is read, and what is reported. F is what opens files. That no other file
 -- is opened is no clause. Used by contracts.
-use Rattle.std.specs.Prelude.{ℕ, List, [], Option, Err, IfOk, OnErr, ◌≡◌, ◌⊎◌}
-use Rattle.std.specs.Io.KnownBytes.{Appends}
+use Rattle.std.specs.Prelude.{ℕ, List, Option, IfOk, IfErr, ◌⊎◌}
 use Rattle.mls_msgs.specs.declared.profile.Profile.{Profile}
 use Rattle.mls_program.specs.Files.{Opener, CannotOpen}
 use Rattle.mls_program.specs.ReportResult.{ReportResult}
 use Rattle.mls_show.specs.Show.{Shows, ShowsPart}
 use Rattle.mls_show.specs.declared.show.ShowKind.{ShowKind}
 use Rattle.mls_wire.specs.Devices.{ReadFails}
-use Rattle.mls_wire.specs.declared.fault.RunFault.TheVariants.{Memory}
 
 module _ {File : Type 0} (F : Opener File) where
   -- `RunsShow profile k name written0 written1 outcome`: the report `show` of a file of this name.
@@ -18,8 +16,7 @@ module _ {File : Type 0} (F : Opener File) where
     pub ended : File
     pub given : F.gives name opened
     pub shown : IfOk outcome (Shows profile k (F.device opened).bytes (F.device ended).bytes written0 written1)
-    pub part : OnErr outcome (ShowsPart profile k (F.device opened).bytes (F.device ended).bytes written0 written1)
-    pub memory : outcome ≡ Err Memory → Appends written0 written1 []
+    pub part : IfErr outcome (ShowsPart profile k (F.device opened).bytes (F.device ended).bytes written0 written1)
     pub failed : ReadFails outcome (F.device ended)
 
   -- `ExecutesShow profile k name written0 written1 outcome`: the command `show` was executed, or the file cannot be opened.

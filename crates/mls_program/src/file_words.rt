@@ -63,6 +63,8 @@ fn kind_of_show(words: &[String]) -> Option<Kind> {
         "tree" => Some(Kind::Tree),
         "info" => Some(Kind::Info),
         "message" => Some(Kind::Message),
+        "state" => Some(Kind::State),
+        "log" => Some(Kind::Log),
         _ => None,
     }
 }

@@ -10,12 +10,13 @@ use mls_show::{ShowKind, Verdict, run_show_in};
 use mls_wire::{RunFault, Sink};
 use std::alloc::Global;
 
-/// Shows a file. A message is decoded in `profile`.
+/// Shows a file. A message is decoded in `profile`, also that of a log.
 ///
 /// # Errors
 ///
-/// `Read` if the file cannot be opened, and then nothing is written, or if it fails; `Write` if the output fails; a prefix
-/// of the report may be written. `Memory` comes before anything is written.
+/// - `Read` if the file cannot be opened, and then nothing is written, or if it fails.
+/// - `Write` if the output fails; a prefix of the report may be written.
+/// - `Memory`. After it and after a file that fails nothing is written, or of a log the lines of the records before.
 pub fn execute_show<F: Files, K: Sink>(
     alloc: Global,
     profile: Profile,

@@ -1,12 +1,13 @@
 -- Lines that are written one signature after the other.
-use Rattle.std.proofs.Common.{◌≡◌, ◌∙◌, ℕ, List, [], ◌∷◌, ◌++◌, Option, Result, Ok, Err, refl, sym, ap, subst, append_assoc}
+use Rattle.std.proofs.Common.{◌≡◌, ◌∙◌, ℕ, List, [], ◌∷◌, ◌++◌, Option, Result, Ok, Err, refl, sym, ap, subst, append_assoc, append-nil}
 use Rattle.std.specs.Prelude.{OnErr, IfErr}
 use Rattle.std.specs.Io.KnownBytes.{Appends}
 use Rattle.mls_wire.proofs.KnownBytes.{Appends-trans}
 use Rattle.mls_wire.specs.Devices.{AppendsPrefix}
 use Rattle.mls_check.specs.Signatures.{VerifyFn}
 use Rattle.mls_signatures.specs.declared.signature_to_verify.SignatureToVerify.{SignatureToVerify}
-use Rattle.mls_report.specs.SignaturesReport.{line_unless, needed_lines}
+use Rattle.mls_report.specs.PackagesReport.{listed_lines}
+use Rattle.mls_report.specs.SignaturesReport.{line_unless, needed_lines, signature_line}
 use Rattle.mls_report.specs.SignaturesSteps.{StopsInLines}
 use Rattle.mls_wire.specs.declared.fault.RunFault.{RunFault}
 use Rattle.mls_wire.specs.declared.fault.RunFault.TheVariants.{Read, Write, Memory}
@@ -75,3 +76,18 @@ needed_lines-both R [] vs = refl
 needed_lines-both R (w ∷ ws) vs =
     ap (λ (text : List ℕ). line_unless R w ++ text) (needed_lines-both R ws vs)
     ∙ sym (append_assoc (line_unless R w) (needed_lines R ws) (needed_lines R vs))
+
+-- ---- the lines of a KeyPackage's signatures
+
+pub listed_lines-both : (ws vs : List SignatureToVerify) → listed_lines (ws ++ vs) ≡ listed_lines ws ++ listed_lines vs
+listed_lines-both [] vs = refl
+listed_lines-both (w ∷ ws) vs =
+    ap (λ (text : List ℕ). signature_line w ++ text) (listed_lines-both ws vs)
+    ∙ sym (append_assoc (signature_line w) (listed_lines ws) (listed_lines vs))
+
+-- the lines of one more signature were written
+pub wrote-next : (a b c : Option (List ℕ)) (ws vs : List SignatureToVerify) (w : SignatureToVerify) → vs ≡ ws ++ w ∷ [] → Appends a b (listed_lines ws)
+    → Appends b c (signature_line w) → Appends a c (listed_lines vs)
+wrote-next a b c ws vs w next p q =
+    subst (λ (xs : List SignatureToVerify). Appends a c (listed_lines xs)) (sym next)
+    (wrote-both listed_lines listed_lines-both a b c ws (w ∷ []) p (subst (Appends b c) (sym (append-nil (signature_line w))) q))

@@ -10,3 +10,4 @@ pub mod UnreadableReceipts
 pub mod ValidEpochs
 pub mod CoveredReports
 pub mod SavedStates
+pub mod PackagesReport

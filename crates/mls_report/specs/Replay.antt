@@ -1,6 +1,6 @@
 -- The report `replay`: a line for each message of a log, and a last one. `i` is what the group is followed from. `log0` and
 -- `log1` are what the log has left before and after, `written0` and `written1` what the output holds. G is the
--- verification function of the checker, `time` the time at which messages are judged, if one is handed in, `turns` are
+-- verification function of the checker, `time` the time at which messages are judged, if one is passed, `turns` are
 -- processed messages. Used by contracts.
 use Rattle.std.specs.Prelude.{List, [], ◌∷◌, ℕ, ◌+◌, ◌-◌, ◌≤◌, ◌++◌, codes, length, map, Bool, true, false, Option, Some, None, Result, Ok, Err, is_ok, ◌≡◌, ◌≢◌, ◌⊎◌}
 use Rattle.std.specs.Fmt.{decimal}

@@ -1,5 +1,5 @@
 -- A report is a function of what the group is followed from (`i`), of the bytes of the log, of the checker's verification
--- function G, and of the time, if one is handed in. Used by contracts.
+-- function G, and of the time, if one is passed. Used by contracts.
 use Rattle.std.specs.Prelude.{List, ℕ, ◌++◌, Bool, Option, Some, option_map, ◌≡◌, ◌⊎◌}
 use Rattle.mls_check.specs.Signatures.{VerifyFn}
 use Rattle.mls_follow.specs.State.{State}

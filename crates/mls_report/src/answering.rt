@@ -8,7 +8,7 @@ use mls_check::SignatureCheck;
 use mls_follow::{Follower, Refusal, Taken};
 use mls_wire::RunFault;
 
-/// Processes a message, at a time if one is handed in. Returns what came of it, unless memory ran out.
+/// Processes a message, at a time if one is passed. Returns what came of it, unless memory ran out.
 pub fn answer_to<C: SignatureCheck>(
     follower: &mut Follower<C>,
     time: Option<u64>,

@@ -15,7 +15,7 @@ use mls_wire::{RunFault, Sink};
 use std::alloc::{AllocError, Global};
 
 /// Returns the words of a finding with its detail.
-fn with_detail(alloc: Global, head: &str, more: String) -> Result<String, AllocError>
+pub(crate) fn with_detail(alloc: Global, head: &str, more: String) -> Result<String, AllocError>
     ensures { IfOk result
         (λ text. string_bytes text ≡ head.now ++ (codes " " ++ string_bytes more)) }
 {

@@ -21,7 +21,7 @@ use std::alloc::Global;
 /// The most messages that a log may have.
 pub(crate) const MESSAGE_LIMIT: u32 = 1_000_000;
 
-/// A message of a log: its number, the time at which it is judged, if one is handed in, and its bytes.
+/// A message of a log: its number, the time at which it is judged, if one is passed, and its bytes.
 #[derive(Clone, Copy)]
 struct NumberedMessage<'a> {
     number: u32,

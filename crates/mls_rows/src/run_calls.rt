@@ -114,13 +114,18 @@ fn add_file(row: &Row, files: &mut Vec<NamedFile>, at: usize) {
     }
 }
 
-/// The fields from the second on that are files.
-fn files_of(row: &Row) -> Vec<NamedFile> {
+/// The fields from this one on that are files.
+fn files_from(row: &Row, first: usize) -> Vec<NamedFile> {
     let mut files = Vec::new(row.alloc);
-    for at in 2..row.fields.len() {
+    for at in first..row.fields.len() {
         add_file(row, &mut files, at);
     }
     files
+}
+
+/// The fields from the second on that are files.
+fn files_of(row: &Row) -> Vec<NamedFile> {
+    files_from(row, 2)
 }
 
 /// The text that a sink took.
@@ -261,11 +266,11 @@ fn status_text(alloc: Global, printed: &Printed, part: &str) -> Result<String, R
     }
 }
 
-/// `prints | COMMAND | TEXT`: the exit status of a command without files that prints this among other things.
+/// `prints | COMMAND | TEXT | FILE | ..`: the exit status of a command that prints this among other things.
 pub(crate) fn prints(row: &Row) -> Result<CallResult, RowFault> {
-    row.has(2);
+    row.has_at_least(2);
     let part = row.text(2);
-    match run_over(row, &[], 40) {
+    match run_over(row, files_from(row, 3).as_slice(), 40) {
         Ok(printed) => CallResult::of(status_text(row.alloc, &printed, part.as_str())),
         Err(fault) => Err(fault),
     }
@@ -327,6 +332,24 @@ fn group_report(
     text.finish()
 }
 
+/// A report of files in words: its name, and the files.
+fn files_report(
+    alloc: Global,
+    name: &str,
+    files: &[FileName],
+    receipts: &str,
+) -> Result<String, RowFault> {
+    let mut text = TextWriter::new(alloc);
+    text.add(name);
+    for file in files {
+        text.add(" ");
+        text.add(file.as_str());
+    }
+    text.add(" ");
+    text.add(receipts);
+    text.finish()
+}
+
 /// A report that checks signatures, in words.
 fn report_text(alloc: Global, report: &GroupReport, receipts: &str) -> Result<String, RowFault> {
     match report {
@@ -335,6 +358,12 @@ fn report_text(alloc: Global, report: &GroupReport, receipts: &str) -> Result<St
             have(format!(in alloc; "validate {context} {tree} {receipts}"))
         }
         GroupReport::Validate(group) => group_report(alloc, "start", group, &[receipts]),
+        GroupReport::ValidatePackages { files, .. } => {
+            files_report(alloc, "packages", files.as_slice(), receipts)
+        }
+        GroupReport::PackageSignatures { files, .. } => {
+            files_report(alloc, "package-signatures", files.as_slice(), receipts)
+        }
         GroupReport::Replay(options) => {
             let (log, save) = (options.log.as_str(), file_name(&options.save));
             group_report(alloc, "replay", &options.group, &[log, save, receipts])
@@ -359,6 +388,8 @@ fn report_rules(report: &GroupReport) -> Rules {
     match report {
         GroupReport::ValidateTree { rules, .. } => *rules,
         GroupReport::Validate(group) => group_rules(group),
+        GroupReport::ValidatePackages { rules, .. } => *rules,
+        GroupReport::PackageSignatures { rules, .. } => *rules,
         GroupReport::Replay(options) => group_rules(&options.group),
         GroupReport::Signatures { group, .. } => group_rules(group),
         GroupReport::Gate { group, .. } => group_rules(group),
@@ -426,9 +457,14 @@ fn order_text(alloc: Global, order: &Order) -> Result<String, RowFault> {
         } => {
             let kind = match kind {
                 ShowKind::Message if *profile == Profile::Full => "message in full",
+                ShowKind::Log if *profile == Profile::Full => "log in full",
                 ShowKind::Tree => "tree",
                 ShowKind::Info => "info",
                 ShowKind::Message => "message",
+                ShowKind::KeyPackage => "key-package",
+                ShowKind::Members => "members",
+                ShowKind::State => "state",
+                ShowKind::Log => "log",
             };
             have(format!(in alloc; "show {kind} {}", file.as_str()))
         }

@@ -1,3 +1,11 @@
+pub mod Appended
+pub mod Certificates
+pub mod LogLines
+pub mod MembersReports
+pub mod PrintableTexts
+pub mod ShowKinds
+pub mod StateReports
+pub mod StrictNumbers
 pub mod TreeLines
 pub mod Lines
 pub mod Outcomes

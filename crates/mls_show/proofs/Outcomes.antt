@@ -1,8 +1,8 @@
 -- Facts that hold however a call ended.
-use Rattle.std.proofs.Common.{◌≡◌, sym, subst}
+use Rattle.std.proofs.Common.{◌≡◌, refl, sym, subst}
 use Rattle.std.specs.Prelude.{◌≢◌, ◌↔◌, OnErr, IfOk, IfErr, Result, Ok, Err}
 use Rattle.mls_wire.specs.declared.fault.RunFault.{RunFault}
-use Rattle.mls_wire.specs.declared.fault.RunFault.TheVariants.{Read}
+use Rattle.mls_wire.specs.declared.fault.RunFault.TheVariants.{Read, Write, Memory}
 
 pub OnErr-any : {T E : Type 0} {P : Type 0} (r : Result T E) → P → OnErr r P
 OnErr-any (Ok x) p = tt
@@ -22,3 +22,9 @@ IfErr-is (Err x) P e h p = subst P (sym h) p
 pub read-nothing : {T P : Type 0} (r : Result T RunFault) → IfErr r (λ e. e ≢ Read) → (P → ⊥) → ((r ≡ Err Read) ↔ P)
 read-nothing (Ok x) own none = (λ e. absurd cc, λ p. absurd (none p))
 read-nothing (Err x) own none = (λ e. let same : x ≡ Read = cc in absurd (own same), λ p. absurd (none p))
+
+-- a fault that is not of writing, after which nothing is written
+pub nothing_written : {A : Type 0} (P : RunFault → Type 0) (e : RunFault) → e ≢ Write → A → (A → P Read) → (A → P Memory) → P e
+nothing_written P Read other none of_read of_memory = of_read none
+nothing_written P Write other none of_read of_memory = absurd (other refl)
+nothing_written P Memory other none of_read of_memory = of_memory none

@@ -40,10 +40,11 @@ node_line node_index None = decimal node_index ++ codes " blank\n"
 node_line node_index (Some (leaf_node leaf)) = leaf_line node_index leaf
 node_line node_index (Some (parent_node parent)) = parent_line node_index parent
 
--- `node_lines node_index nodes` is the lines of nodes, the first of which is at node index `node_index`.
-abbrev pub node_lines : ℕ → List (Option NodeValue) → List ℕ
-node_lines node_index [] = []
-node_lines node_index (node ∷ nodes) = node_line node_index node ++ node_lines (node_index + 1) nodes
+-- `lines_by line node_index nodes` is what `line` gives for nodes, one after the other, the first of which is at node index
+-- `node_index`.
+abbrev pub lines_by : (ℕ → Option NodeValue → List ℕ) → ℕ → List (Option NodeValue) → List ℕ
+lines_by line node_index [] = []
+lines_by line node_index (node ∷ nodes) = line node_index node ++ lines_by line (node_index + 1) nodes
 
 -- `tree_counts_line leaves members` is the last line: how many leaves the tree has, blank ones included, and how many
 -- members.
@@ -51,6 +52,10 @@ abbrev pub tree_counts_line : ℕ → ℕ → List ℕ
 tree_counts_line leaves members =
     codes "leaves " ++ (decimal leaves ++ (codes " members " ++ (decimal members ++ codes "\n")))
 
+-- `text_by line nodes` is what `line` gives for each node, and the counts.
+abbrev pub text_by : (ℕ → Option NodeValue → List ℕ) → List (Option NodeValue) → List ℕ
+text_by line nodes = lines_by line 0 nodes ++ tree_counts_line ((length nodes + 1) / 2) (leaves_among nodes)
+
 -- `tree_text nodes` is the report of a tree: a line for each node, and the counts.
 abbrev pub tree_text : List (Option NodeValue) → List ℕ
-tree_text nodes = node_lines 0 nodes ++ tree_counts_line ((length nodes + 1) / 2) (leaves_among nodes)
+tree_text nodes = text_by node_line nodes

@@ -29,7 +29,7 @@ pub(crate) fn types_text(alloc: Global, extensions: &Extensions) -> Result<Strin
 }
 
 /// Returns the lines of the cipher suite, the group ID and the epoch.
-fn group_lines(alloc: Global, context: &GroupContext) -> Result<String, AllocError>
+pub(crate) fn group_lines(alloc: Global, context: &GroupContext) -> Result<String, AllocError>
     ensures { IfOk result (λ text. string_bytes text ≡ lines.group_lines context.now) }
 {
     let suite = context.cipher_suite;
@@ -39,7 +39,7 @@ fn group_lines(alloc: Global, context: &GroupContext) -> Result<String, AllocErr
 }
 
 /// Returns the lines of the tree hash and the confirmed transcript hash.
-fn hash_lines(alloc: Global, context: &GroupContext) -> Result<String, AllocError>
+pub(crate) fn hash_lines(alloc: Global, context: &GroupContext) -> Result<String, AllocError>
     ensures { IfOk result (λ text. string_bytes text ≡ lines.hash_lines context.now) }
 {
     let tree_hash = hex_of(alloc, context.tree_hash.as_slice())?;

@@ -3,13 +3,24 @@
 #![tactic(auto)]
 
 mod check_kind;
+mod credential_text;
+mod extensions_text;
 mod fault_text;
 mod info_text;
+mod key_package_text;
+mod log_report;
+mod members_report;
+mod members_text;
+mod message_report;
 mod message_text;
+mod node_lines;
 mod read_to_end;
 mod report;
 mod report_buffer;
 mod show;
+mod state_report;
+mod state_text;
+mod tree_report;
 mod tree_text;
 mod value_text;
 mod verdict;

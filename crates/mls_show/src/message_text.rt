@@ -12,7 +12,7 @@ use mls_msgs::{
 use std::alloc::{AllocError, Global};
 
 /// Returns the sender of a message.
-fn sender_text(alloc: Global, sender: Sender) -> Result<String, AllocError>
+pub(crate) fn sender_text(alloc: Global, sender: Sender) -> Result<String, AllocError>
     ensures { IfOk result (λ text. string_bytes text ≡ lines.sender_text sender) }
 {
     match sender {
@@ -100,7 +100,7 @@ fn commit_text(alloc: Global, commit: &Commit) -> Result<String, AllocError>
 }
 
 /// Returns the content of a message.
-fn content_text(alloc: Global, content: &Content) -> Result<String, AllocError>
+pub(crate) fn content_text(alloc: Global, content: &Content) -> Result<String, AllocError>
     ensures { IfOk result (λ text. string_bytes text ≡ lines.content_text content.now) }
 {
     match content {

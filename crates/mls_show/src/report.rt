@@ -1,7 +1,7 @@
 //! Reports that are made whole before they are written.
 
 ghost use Rattle.std.specs.Prelude.{◌≡◌, ◌++◌, codes, IfOk, string_bytes};
-ghost use Rattle.mls_show.specs.Show.{IsUnreadableReport};
+ghost use Rattle.mls_show.specs.InputReports.{IsUnreadableReport};
 ghost use Rattle.mls_show.specs.ValueTexts.{IsOneLine};
 
 use crate::verdict::Verdict;

@@ -4,4 +4,5 @@ pub returns : goal.returns
 returns c =
     let group = c.with_group-command.ensures _ c.titled.ensures in
     let log = c.with-command.ensures _ _ group c.file-log.ensures in
-    c.with.ensures _ _ log c.file-receipts.ensures
+    let packages = c.with-command-2.ensures _ _ log (c.several-packages.ensures _ c.file.ensures) in
+    c.with.ensures _ _ packages c.file-receipts.ensures

@@ -10,6 +10,5 @@ returns-clause-executed g c =
       given = search rules;
       shown = rw device c.run_show_in.ensures.shown;
       part = rw device c.run_show_in.ensures.effect_on_error;
-      memory = c.run_show_in.ensures.memory;
       failed = rw device c.run_show_in.ensures.read;
     })

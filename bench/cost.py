@@ -5,9 +5,11 @@
     cost.py FOLDER SHAPE K    writes a shape's input, K times its least size, into the folder: `words`, the program's
                               arguments, one a line; `before`, those of a run that is subtracted, as of the start alone;
                               `words.piped` and `before.piped`, which the program reads from a pipe in each run; and the
-                              files that the arguments name. It prints how many bytes came after that start. If messages
-                              touch much of the group, it also prints how many they are, and which share of the time
-                              of a start each may take; if a tree came, how many nodes it has.
+                              files that the arguments name. It prints how many bytes came after that start. If they are
+                              messages, it also prints how many, and which share of the time of a start each may take if
+                              it touches much of the group, otherwise 0. If a tree came, it prints how many nodes it has.
+
+A shape whose name ends with `-in-c` is for queries.c, which calls the library for C. The same without `-in-c` is for the gate.
 
 Where a message is sent again and again to a large group, the group and the number of messages grow with K together, so
 that a cost of the group's size for each message grows with the square of K. Where a message touches much of the group,

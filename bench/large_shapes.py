@@ -2,7 +2,7 @@
 from group import EXTERNAL_INIT, KEY_PACKAGE, Group, Plan, leaf_bytes, new_leaf, number, vector
 from messages import (EXTENSION, Sparse, add, commit, commit_with_path, extensions_of, external_commit, false_path,
                       far_members, frozen, inline, inline_adds, psk, remove)
-from shape import SHAPES, shape
+from shape import SHAPES, shape, shape_of_queries
 
 # ---- messages that are sent again and again to a large group
 
@@ -128,7 +128,7 @@ def resyncs_of_the_right_half_refused_25(put):
     return put.replay(group, [sent] * put.size(25), touches_all=True, share=0.1, profile="full")
 
 
-@shape
+@shape_of_queries
 def queries_of_a_resync_of_the_right_half(put):
     group, last = one_on_the_right()
     return put.gate(group, [(b"q", resync(group, last))] * put.size(25), share=0.1, profile="full")

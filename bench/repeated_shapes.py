@@ -3,11 +3,11 @@ import copy
 
 from group import EXTERNAL_INIT, Group, leaf_bytes, new_leaf, number, vector
 from large_shapes import refused_by
-from messages import (EXTENSION, Sparse, add, bare_leaf, bare_update, commit, commit_with_path,
+from messages import (EXTENSION, Sparse, add, bare_add, bare_leaf, bare_update, commit, commit_with_path,
                       extensions_of, external_commit, false_path, far_members, frozen, inline, inline_adds,
                       many_extensions, proposal, psk, put_leaves, reinit, remove, renew_paths, small_leaf, state_file,
-                      updated_group, with_capabilities)
-from shape import shape
+                      update, updated_group, with_capabilities)
+from shape import shape, shape_of_queries
 
 # Capabilities that list both types of credentials, and those that list the type of EXTENSION.
 BOTH = bytes.fromhex("020001 020001 00 00 0400010002")
@@ -41,12 +41,20 @@ def large_leaf(size):
 # ---- a large context
 
 
+# The index of an external sender whom no context lists.
+NOT_LISTED = 2**32 - 1
+
+
+def external_proposal(group, sender):
+    """A proposal of the external sender with this index in the list of the context."""
+    head = vector(group.NAME) + number(group.epoch, 8) + b"\x02" + number(sender, 4) + vector(b"")
+    return number(1, 2) * 2 + head + b"\x02" + remove(1) + vector(b"")
+
+
 def external_proposals(put, extensions, least, command="replay"):
     """Proposals of an external sender whom the context does not list, in a group with these extensions."""
     group = Extended(extensions)
-    head = vector(group.NAME) + number(group.epoch, 8) + b"\x02" + number(2**32 - 1, 4) + vector(b"")
-    sent = number(1, 2) * 2 + head + b"\x02" + remove(1) + vector(b"")
-    return put.replay(group, [sent] * put.size(least), command, profile="full")
+    return put.replay(group, [external_proposal(group, NOT_LISTED)] * put.size(least), command, profile="full")
 
 
 @shape
@@ -60,6 +68,16 @@ def external_proposals_and_many_senders(put):
 def signatures_of_external_proposals_and_many_senders(put):
     """The signatures of such proposals. The list may not be decoded for each proposal either."""
     return external_proposals(put, external_senders(put.size(40_000)), 100, "signatures")
+
+
+@shape_of_queries
+def queries_of_external_proposals_and_many_senders(put):
+    """Queries of such proposals, in turn with those of the last sender that the context lists. The list may not be decoded for
+    a query."""
+    count = put.size(40_000)
+    group = Extended(external_senders(count))
+    pair = [external_proposal(group, NOT_LISTED), external_proposal(group, count - 1)]
+    return put.queries(group, pair * put.size(200), profile="full")
 
 
 @shape
@@ -114,7 +132,7 @@ def joins_below_many_required_types_refused_25(put):
     return put.replay(group, [joins_without_a_required_type(group)] * put.size(2_000), profile="full")
 
 
-@shape
+@shape_of_queries
 def queries_of_joins_below_many_required_types(put):
     """A few queries of the commits of the shape above. Each signs the whole GroupContext (RFC 9420, 6.1), which is read for its
     signature. What is required may not be read besides."""
@@ -211,7 +229,7 @@ def adds_below_a_long_key_refused_24(put):
     return put.replay(group, [sent] + [add_refused_24(group)] * put.size(1_500))
 
 
-@shape
+@shape_of_queries
 def queries_of_adds_below_a_long_key(put):
     """Queries of such commits, after such a path. The key may not be hashed for them either."""
     group = frozen(below_a_root())
@@ -264,6 +282,15 @@ def known_extensions_named_by_many_refused_19(put):
 
 
 @shape
+def known_large_add_named_by_many_refused_19(put):
+    """A large pending Add, and small commits that each name it once. The Add may be neither copied nor hashed for each
+    commit."""
+    group = Group(2)
+    sent, item = proposal(group, 1, add(large_leaf(put.size(64_000))))
+    return put.replay(group, [sent] + [commit(group, [item], NO_NODES)] * put.size(1_000))
+
+
+@shape
 def known_psks_named_by_many_refused_35(put):
     """Eight pending PSKs of one long id, and small commits that each name all of them, and a ReInit. The ids may not be
     compared for each commit."""
@@ -272,6 +299,41 @@ def known_psks_named_by_many_refused_35(put):
     pairs = [proposal(group, 0, psk(at, name)) for at in range(8)]
     refused = commit(group, [item for _, item in pairs] + [inline(reinit())])
     return put.replay(group, [sent for sent, _ in pairs] + [refused] * put.size(600), profile="full")
+
+
+def queries_that_name(put, body, beside=()):
+    """Queries of commits that each name a large pending proposal once, after that proposal."""
+    group = with_capabilities(Group(2), BOTH)
+    sent, item = proposal(group, 1, body)
+    return put.queries(group, [commit(group, [item, *beside], NO_NODES)] * put.size(1_000), [sent])
+
+
+@shape_of_queries
+def queries_of_commits_that_name_a_large_add(put):
+    """A large pending Add, and queries of small commits that each name it. A stranger can send them. The signatures of the Add
+    were good when it came, so they may be neither copied nor hashed for a query."""
+    return queries_that_name(put, add(large_leaf(put.size(64_000))))
+
+
+@shape_of_queries
+def queries_of_commits_that_name_a_large_update(put):
+    """The same with an Update. Its signature was good too."""
+    return queries_that_name(put, update(large_leaf(put.size(64_000))))
+
+
+@shape_of_queries
+def queries_of_commits_that_name_an_add_of_a_long_chain(put):
+    """The same with an Add that has a long chain of certificates. The chain may not be read for a query."""
+    credential = b"\x00\x02" + vector(vector(b"") * put.size(200_000))
+    return queries_that_name(put, add(new_leaf("chain", capabilities=BOTH)._replace(credential=credential)))
+
+
+@shape_of_queries
+def queries_of_commits_that_name_a_large_add_beside_another(put):
+    """A large pending Add, and queries of commits that each name it, beside a small Add whose leaf node is not from a KeyPackage
+    and is listed at its leaf index. The large one may not be read for that."""
+    other = inline(bare_add(bare_leaf(name=b"other")))
+    return queries_that_name(put, add(large_leaf(put.size(64_000))), [other])
 
 
 @shape
@@ -303,7 +365,7 @@ def large_leaf_removed_in_turn_refused_25(put):
     return put.replay(group, [removing, other] * put.size(400))
 
 
-@shape
+@shape_of_queries
 def large_leaf_removed_by_queries(put):
     """The second commit, each time after a query of the first one, which may leave no trace."""
     group, removing, other = large_leaf_removed_or_not(put)
@@ -331,7 +393,7 @@ def large_leaf_resynced_in_turn_refused_25(put):
     return put.replay(group, [resync, other] * put.size(400), profile="full")
 
 
-@shape
+@shape_of_queries
 def large_leaf_resynced_by_queries(put):
     """The second external commit, each time after a query of the first one, which may leave no trace."""
     group, resync, other = large_leaf_resynced_or_not(put)
@@ -353,7 +415,7 @@ def resyncs_of_a_long_chain_refused_37(put):
     return put.replay(group, [sent] * put.size(500), profile="full")
 
 
-@shape
+@shape_of_queries
 def queries_of_resyncs_of_a_long_chain(put):
     """Queries of such commits. The chain may not be read for them either."""
     group, sent = resync_of_a_long_chain(put)
@@ -500,7 +562,7 @@ def many_required_of_long_lists_unmet_by_the_last(put):
     return put.replay(group, [commits_requiring(group, kinds)] * put.size(12), share=1.0)
 
 
-@shape
+@shape_of_queries
 def queries_of_many_required_of_long_lists(put):
     """Queries of the commits of the shape above. No member's list may be read for them."""
     kinds = range(0x1000, 0x1000 + 2_000)

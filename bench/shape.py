@@ -11,17 +11,30 @@ def shape(make):
     return make
 
 
-class Input:
-    """Where an input is written, and how many times its least size it has."""
+def shape_of_queries(make):
+    """The shape, for the gate, and the same for the library for C."""
+    shape(make)
+    SHAPES[make.__name__.replace("_", "-") + "-in-c"] = lambda put: make(put.in_c())
+    return make
 
-    def __init__(self, folder, times, rules=()):
+
+class Input:
+    """Where an input is written, how many times its least size it has, the strict rules that are asked, and whether its records
+    are for queries.c, which calls the library for C, or for the gate."""
+
+    def __init__(self, folder, times, rules=(), by_library=False):
         self.folder = folder
         self.times = times
         self.rules = rules
+        self.by_library = by_library
 
     def asking(self, *rules):
         """The same, for a follower that has the strict rules which these arguments ask."""
         return Input(self.folder, self.times, rules)
+
+    def in_c(self):
+        """The same, for queries.c, which follows a group without strict rules."""
+        return Input(self.folder, self.times, by_library=True)
 
     def size(self, least):
         return max(round(least * self.times), 2)
@@ -51,25 +64,24 @@ class Input:
         words += self.rules
         words += ["--trust", "--log"] if command == "replay" else ["--log"]
         self.lists([*words, self.write("log", log)], [*words, self.write("empty", b"")])
-        told = [len(log) + (len(group.tree()) if touches_all else 0)]
-        return told if share is None else [*told, len(messages), share]
+        return [len(log) + (len(group.tree()) if touches_all else 0), len(messages), share or 0]
 
     def queries(self, group, messages, before=(), share=None, profile="members"):
-        """Queries of a gate that follows the group, in addition to its start alone, and to the messages that it processes
-        before them."""
+        """Queries of a gate that follows the group, or of queries.c, in addition to its start alone, and to the messages that
+        it processes before them."""
         taken = [(b"m", body) for body in before]
         return self.gate(group, [(b"q", body) for body in messages], share, profile, taken)
 
     def gate(self, group, records, share=None, profile="members", before=()):
-        """Records for a gate that follows the group, each a letter and a message, in addition to its start, and to the
-        records before them."""
+        """Records for a gate that follows the group, or for queries.c, each a letter and a message, in addition to its start,
+        and to the records before them."""
         begin = vector(b"b") + b"".join(vector(letter + body) for letter, body in before)
         sent = b"".join(vector(letter + body) for letter, body in records)
-        words = ["gate", "--info", self.write("info", group.info()), "--tree", self.write("tree", group.tree())]
-        words += ["--profile", "full"] if profile == "full" else []
-        words += [*self.rules, "--trust"]
+        info, tree = self.write("info", group.info()), self.write("tree", group.tree())
+        words = ["gate", "--info", info, "--tree", tree, "--profile", profile, *self.rules, "--trust"]
+        words = [info, tree, profile] if self.by_library else words
         self.lists(words, words, (begin + sent, begin))
-        return [len(sent)] if share is None else [len(sent), len(records), share]
+        return [len(sent), len(records), share or 0]
 
     def validate_tree(self, context, tree, nodes=0):
         words = ["validate-tree", "--context", "CONTEXT", "--tree", "TREE", "--trust"]

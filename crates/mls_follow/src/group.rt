@@ -8,7 +8,6 @@ ghost use Rattle.mls_nodes.specs.ExternalSenders.{senders_by};
 ghost use Rattle.mls_nodes.specs.Requirements.{Requires, RequiresBy};
 ghost use Rattle.mls_nodes.proofs.RequiredOnce.{Requires-prop};
 ghost use Rattle.mls_strict.specs.LeafForms.{requires_types};
-ghost use Rattle.mls_apply.specs.PackageRefs.{added_references};
 ghost use Rattle.mls_apply.specs.Staged.{IsSettled};
 ghost use Rattle.mls_apply.specs.StagedInternal.{IsSettled-prop};
 ghost use Rattle.mls_follow.specs.MessageRules.{reference_of};
@@ -22,8 +21,7 @@ use crate::next_extensions::NextExtensions;
 use crate::resolved::{ResolvedCommit, SentProposal};
 use crate::taken::Taken;
 use mls_apply::{
-    KnownProposal, PendingProposals, Refusal, StagedTree, added_references, confirmed_hash,
-    interim_hash,
+    KnownProposal, PendingProposals, Refusal, StagedTree, confirmed_hash, interim_hash,
 };
 use mls_check::GroupRequirements;
 use mls_hash::Suite;
@@ -59,12 +57,19 @@ pub(crate) struct Group {
     ghost settled: { IsSettled tree } by { IsSettled-prop tree },
 }
 
+/// The transcript hashes after a commit (RFC 9420, 8.2).
+#[derive(Drop)]
+pub(crate) struct TranscriptHashes {
+    pub(crate) confirmed: Opaque,
+    pub(crate) interim: HashValue,
+}
+
 /// The hashes of a commit: the transcript hashes after it (RFC 9420, 8.2), and the KeyPackageRefs of the Adds of its list (5.2).
 #[derive(Drop)]
 pub(crate) struct CommitHashes {
-    confirmed: Opaque,
-    interim: HashValue,
-    added: Vec<HashValue>,
+    pub(crate) confirmed: Opaque,
+    pub(crate) interim: HashValue,
+    pub(crate) added: Vec<HashValue>,
 }
 
 /// Returns a proposal that was sent as a pending one under its reference: a copy.
@@ -120,18 +125,17 @@ impl Group {
         Ok(Taken::Proposal(reference))
     }
 
-    /// Returns the hashes of a commit.
-    pub(crate) fn commit_hashes(
+    /// Returns the transcript hashes after a commit.
+    pub(crate) fn transcript_hashes(
         &self,
         alloc: Global,
         commit: &ResolvedCommit<'_>,
-    ) -> Result<CommitHashes, AllocError>
+    ) -> Result<TranscriptHashes, AllocError>
         ensures confirmed { IfOk result (λ h. confirmed_hash
             (hash_of self.now.suite) self.now.interim commit.now.auth.now ≡ Some h.confirmed) }
         ensures interim { IfOk result (λ h. interim_hash
             (hash_of self.now.suite) h.confirmed commit.now.auth.now.confirmation_tag
             ≡ Some h.interim) }
-        ensures added { IfOk result (λ h. h.added.items ≡ added_references commit.now.items.items) }
     {
         let Some(tag) = commit.auth.confirmation_tag() else {
             unreachable!();
@@ -139,12 +143,7 @@ impl Group {
         let confirmed = confirmed_hash(alloc, self.suite, self.interim.as_slice(), commit.auth)?;
         let interim = interim_hash(alloc, self.suite, confirmed.as_slice(), tag)?;
         let confirmed = confirmed.to_opaque(alloc)?;
-        let added = added_references(alloc, commit.items.as_slice())?;
-        Ok(CommitHashes {
-            confirmed,
-            interim,
-            added,
-        })
+        Ok(TranscriptHashes { confirmed, interim })
     }
 
     /// Moves to the next epoch, whose tree is in place. The extensions, what is read in them and the requirements are

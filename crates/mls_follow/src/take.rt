@@ -28,14 +28,14 @@ use crate::commit_changes::{check_items, check_join_items, stage_judged_commit};
 use crate::framed_content_rules::{
     check_header, check_joiner_frame, check_member_frame, check_outside_frame,
 };
-use crate::group::Group;
+use crate::group::{CommitHashes, Group, TranscriptHashes};
 use crate::next_extensions::{proposed_requirements, required_after};
 use crate::proposal_message::check_proposal_message;
 use crate::received_frame::{JudgedFrame, ReceivedFrame, ReceivedMessage};
 use crate::resolved::{MemberMessage, ReceivedCommit, ResolvedCommit, SentProposal};
 use crate::strict_rules::late_rule;
 use crate::taken::Taken;
-use mls_apply::{PendingProposals, Refusal, has_reinit};
+use mls_apply::{PendingProposals, Refusal, added_references, has_reinit};
 use mls_check::{GroupRequirements, SignatureCheck};
 use mls_msgs::{Authenticated, Commit, Content, Message, Profile, Proposal, Sender};
 use std::alloc::{AllocError, Global};
@@ -121,7 +121,7 @@ impl Group {
             commit.now.path.now o))
             s result (group_state self.new) }
     {
-        let hashes = match self.commit_hashes(alloc, commit) {
+        let hashes = match self.transcript_hashes(alloc, commit) {
             Ok(hashes) => hashes,
             Err(AllocError) => {
                 drop(required);
@@ -140,8 +140,19 @@ impl Group {
         };
         match stage_judged_commit(alloc, &rules, checker, &mut self.tree, commit) {
             Ok(staged) => {
+                let Ok(added) = added_references(alloc, commit.items.as_slice()) else {
+                    drop(staged);
+                    self.tree.rollback();
+                    return Err(Refusal::OutOfMemory);
+                };
                 self.tree.settle();
                 let ends = has_reinit(commit.items.as_slice());
+                let TranscriptHashes { confirmed, interim } = hashes;
+                let hashes = CommitHashes {
+                    confirmed,
+                    interim,
+                    added,
+                };
                 Ok(self.begin_epoch(staged, hashes, required, ends))
             }
             Err(refusal) => {

@@ -61,7 +61,7 @@ module _ (G K : VerifyFn) (more : Extends G K) where
   good_stays suite key signature None h = h
   good_stays suite key signature (Some content) h = more suite key content signature h
 
-  text_stays : (suite : ℕ) (key label : List ℕ) (o : Option (List ℕ)) (signature : List ℕ) → is_signed_text G suite key label o signature ≡ true
+  pub text_stays : (suite : ℕ) (key label : List ℕ) (o : Option (List ℕ)) (signature : List ℕ) → is_signed_text G suite key label o signature ≡ true
       → is_signed_text K suite key label o signature ≡ true
   text_stays suite key label None signature h = h
   text_stays suite key label (Some tbs) signature h = good_stays suite key signature (sign_content label tbs) h

@@ -31,16 +31,32 @@ later_rules asked k = strict_rules (package_refusal asked k.cipher_suite k.versi
 
 abbrev pub is_ruled : Unfit → Bool
 is_ruled unfit.Malformed = true
+is_ruled unfit.PublicMessage = true
+is_ruled unfit.GroupOver = true
+is_ruled unfit.LastEpoch = true
+is_ruled unfit.WrongGroup = true
 is_ruled unfit.WrongVersion = true
 is_ruled unfit.WrongSuite = true
+is_ruled unfit.PastEpoch = true
+is_ruled unfit.TreeHashDiffers = true
+is_ruled unfit.ConfirmedDiffers = true
+is_ruled unfit.ExtensionsDiffer = true
+is_ruled unfit.TagDiffers = true
+is_ruled unfit.SignerNotMember = true
+is_ruled unfit.TreeDiffers = true
+is_ruled (unfit.StartRefused fault) = true
+is_ruled unfit.SignerUnknown = true
+is_ruled unfit.ExternalPubInvalid = true
 is_ruled unfit.LeafSource = true
 is_ruled unfit.InitKeyReused = true
+is_ruled unfit.TooManyLeaves = true
+is_ruled unfit.KeyRepeated = true
 is_ruled (unfit.Member fault) = true
 is_ruled (unfit.Unsigned qs) = false
 is_ruled (unfit.Strict r) = true
 is_ruled unfit.OutOfMemory = false
 
-apart : (r e : Unfit) → is_ruled r ≡ true → is_ruled e ≡ false → r ≡ e → ⊥
+pub apart : (r e : Unfit) → is_ruled r ≡ true → is_ruled e ≡ false → r ≡ e → ⊥
 apart r e ruled other same = let bad = sym ruled ∙ ap is_ruled same ∙ other in absurd cc
 
 -- ---- one rule after the other
@@ -102,7 +118,7 @@ module _ (asked : Rules) (k : KeyPackage) (none : package_fault asked k ≡ None
 
 -- ---- reasons that are no rule's
 
-strict_others : (o : Option StrictRule) (e : Unfit) → is_ruled e ≡ false → AreOthers e (strict_rules o)
+pub strict_others : (o : Option StrictRule) (e : Unfit) → is_ruled e ≡ false → AreOthers e (strict_rules o)
 strict_others None e other = no_rules
 strict_others (Some r) e other = one_more (apart (unfit.Strict r) e refl other) no_rules
 
@@ -118,10 +134,26 @@ fault_is_ruled asked k e other h =
 -- the reason that is a rule's
 pub fault_is_reason : (G : VerifyFn) (asked : Rules) (k : KeyPackage) (e : Unfit) → package_fault asked k ≡ Some e → IsUnfitPackage G asked k e
 fault_is_reason G asked k unfit.Malformed h = h
+fault_is_reason G asked k unfit.PublicMessage h = h
+fault_is_reason G asked k unfit.GroupOver h = h
+fault_is_reason G asked k unfit.LastEpoch h = h
+fault_is_reason G asked k unfit.WrongGroup h = h
 fault_is_reason G asked k unfit.WrongVersion h = h
 fault_is_reason G asked k unfit.WrongSuite h = h
+fault_is_reason G asked k unfit.PastEpoch h = h
+fault_is_reason G asked k unfit.TreeHashDiffers h = h
+fault_is_reason G asked k unfit.ConfirmedDiffers h = h
+fault_is_reason G asked k unfit.ExtensionsDiffer h = h
+fault_is_reason G asked k unfit.TagDiffers h = h
+fault_is_reason G asked k unfit.SignerNotMember h = h
+fault_is_reason G asked k unfit.TreeDiffers h = h
+fault_is_reason G asked k (unfit.StartRefused fault) h = h
+fault_is_reason G asked k unfit.SignerUnknown h = h
+fault_is_reason G asked k unfit.ExternalPubInvalid h = h
 fault_is_reason G asked k unfit.LeafSource h = h
 fault_is_reason G asked k unfit.InitKeyReused h = h
+fault_is_reason G asked k unfit.TooManyLeaves h = h
+fault_is_reason G asked k unfit.KeyRepeated h = h
 fault_is_reason G asked k (unfit.Member fault) h = h
 fault_is_reason G asked k (unfit.Unsigned qs) h = absurd (fault_is_ruled asked k (unfit.Unsigned qs) refl h)
 fault_is_reason G asked k (unfit.Strict r) h = h
@@ -131,10 +163,26 @@ fault_is_reason G asked k unfit.OutOfMemory h = h
 pub reason_is : (G : VerifyFn) (asked : Rules) (k : KeyPackage) (e : Unfit) → IsUnfitPackage G asked k e
     → (package_fault asked k ≡ Some e) ⊎ ((package_fault asked k ≡ None) × (is_signed G k ≡ false) × (e ≡ unfit.Unsigned (unsigned G k)))
 reason_is G asked k unfit.Malformed h = inl h
+reason_is G asked k unfit.PublicMessage h = inl h
+reason_is G asked k unfit.GroupOver h = inl h
+reason_is G asked k unfit.LastEpoch h = inl h
+reason_is G asked k unfit.WrongGroup h = inl h
 reason_is G asked k unfit.WrongVersion h = inl h
 reason_is G asked k unfit.WrongSuite h = inl h
+reason_is G asked k unfit.PastEpoch h = inl h
+reason_is G asked k unfit.TreeHashDiffers h = inl h
+reason_is G asked k unfit.ConfirmedDiffers h = inl h
+reason_is G asked k unfit.ExtensionsDiffer h = inl h
+reason_is G asked k unfit.TagDiffers h = inl h
+reason_is G asked k unfit.SignerNotMember h = inl h
+reason_is G asked k unfit.TreeDiffers h = inl h
+reason_is G asked k (unfit.StartRefused fault) h = inl h
+reason_is G asked k unfit.SignerUnknown h = inl h
+reason_is G asked k unfit.ExternalPubInvalid h = inl h
 reason_is G asked k unfit.LeafSource h = inl h
 reason_is G asked k unfit.InitKeyReused h = inl h
+reason_is G asked k unfit.TooManyLeaves h = inl h
+reason_is G asked k unfit.KeyRepeated h = inl h
 reason_is G asked k (unfit.Member fault) h = inl h
 reason_is G asked k (unfit.Unsigned qs) h = inr (h.0, h.1, ap unfit.Unsigned h.2)
 reason_is G asked k (unfit.Strict r) h = inl h

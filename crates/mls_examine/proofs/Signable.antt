@@ -27,17 +27,17 @@ use Rattle.mls_signatures.specs.declared.signature_to_verify.SignatureToVerify.{
 use Rattle.mls_examine.specs.Packages.{is_accepted, is_signed}
 
 -- an encoding that fits into a vector
-record IsWithin (o : Option (List ℕ)) : Type 0 where
+pub record IsWithin (o : Option (List ℕ)) : Type 0 where
   pub bytes : List ℕ
   pub is : o ≡ Some bytes
   pub within : length bytes ≤ vector_limit
 
-within_left : (a b : Option (List ℕ)) → IsWithin (a ⊕ b) → IsWithin a
+pub within_left : (a b : Option (List ℕ)) → IsWithin (a ⊕ b) → IsWithin a
 within_left a b h =
     let j = joined a b h.bytes h.is in
     record { bytes = j.0; is = j.2; within = omega (arith, length-append j.0 j.1, ap length j.4, h.within) }
 
-within_right : (a b : Option (List ℕ)) → IsWithin (a ⊕ b) → IsWithin b
+pub within_right : (a b : Option (List ℕ)) → IsWithin (a ⊕ b) → IsWithin b
 within_right a b h =
     let j = joined a b h.bytes h.is in
     record { bytes = j.1; is = j.3; within = omega (arith, length-append j.0 j.1, ap length j.4, h.within) }

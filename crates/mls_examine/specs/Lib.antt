@@ -2,5 +2,15 @@ pub mod Packages
 pub mod PackagesInternal
 pub mod UnfitNumbers
 pub mod PackageLaws
+pub mod AddablePackages
+pub mod GroupInfos
+pub mod CurrentInfos
+pub mod LaterInfos
+pub mod Examinations
+pub mod GroupLaws
+pub mod OneAddCommits
+pub mod GroupInternal
+pub mod CurrentInternal
+pub mod LaterInternal
 pub mod PackageFindings
 pub mod PackageFindingLaws

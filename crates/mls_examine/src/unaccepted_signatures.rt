@@ -1,11 +1,12 @@
-//! The signatures of a KeyPackage that a checker does not accept.
+//! The signatures of a KeyPackage or a GroupInfo that a checker does not accept.
 
-ghost use Rattle.std.specs.Prelude.{◌≡◌, ◌↔◌, [], IfOk, IsTrue};
+ghost use Rattle.std.specs.Prelude.{◌≡◌, ◌↔◌, ◌++◌, ◌∷◌, [], IfOk, IsTrue, OnOk};
+ghost use Rattle.mls_examine.specs.GroupInfos.{unaccepted};
 ghost use Rattle.mls_examine.specs.Packages.{is_accepted, unsigned};
 
 use mls_check::{OutOfMemory, SignatureCheck};
 use mls_msgs::KeyPackage;
-use mls_signatures::{SignatureToVerify, package_signatures};
+use mls_signatures::{SignatureList, SignatureToVerify, package_signatures};
 use std::alloc::Global;
 use std::marker::Model;
 
@@ -38,6 +39,22 @@ fn is_accepted<C: SignatureCheck>(checker: &C, signature: &SignatureToVerify) ->
     )
 }
 
+/// Appends a signature, unless a checker accepts it.
+fn push_unaccepted<C: SignatureCheck>(
+    signatures: &mut Vec<SignatureToVerify>,
+    signature: SignatureToVerify,
+    checker: &C,
+) -> Result<(), OutOfMemory>
+    ensures { OnOk result (signatures.new.items
+        ≡ signatures.old.items ++ unaccepted (C.meaning checker.now) (signature ∷ [])) }
+{
+    if is_accepted(checker, &signature) {
+        return Ok(());
+    }
+    signatures.push(signature)?;
+    Ok(())
+}
+
 impl UnacceptedSignatures {
     /// Returns those of a KeyPackage, in any group of its cipher suite: that of its leaf node, then its own.
     pub(crate) fn of_package<C: SignatureCheck>(
@@ -49,6 +66,33 @@ impl UnacceptedSignatures {
     {
         let mut signatures = package_signatures(alloc, key_package)?;
         signatures.retain(|signature| !is_accepted(checker, signature));
+        Ok(UnacceptedSignatures { signatures })
+    }
+
+    /// Returns those among these signatures.
+    pub(crate) fn among<C: SignatureCheck>(
+        mut signatures: Vec<SignatureToVerify>,
+        checker: &C,
+    ) -> UnacceptedSignatures
+        ensures { result ≡ unaccepted (C.meaning checker.now) signatures.items }
+    {
+        signatures.retain(|signature| !is_accepted(checker, signature));
+        UnacceptedSignatures { signatures }
+    }
+
+    /// Returns those of a list.
+    pub(crate) fn of_list<C: SignatureCheck>(
+        alloc: Global,
+        list: &SignatureList,
+        checker: &C,
+    ) -> Result<UnacceptedSignatures, OutOfMemory>
+        ensures { IfOk result (λ found. found ≡ unaccepted (C.meaning checker.now) list.now) }
+    {
+        let mut signatures = Vec::new(alloc);
+        for index in 0..list.len() {
+            let signature = list.get(alloc, index)?;
+            push_unaccepted(&mut signatures, signature, checker)?;
+        }
         Ok(UnacceptedSignatures { signatures })
     }
 

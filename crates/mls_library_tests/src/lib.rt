@@ -3,8 +3,8 @@
 //! The libraries have no tests of their own, since a crate with tests is proved twice. A proof covers what contracts
 //! say; docs/TESTING.md says what is tested, and how. Here are the examples whose arguments or results have no bytes:
 //! devices that fail, journals, cached hashes, indexes, and inputs at the limits. Here are also sets of strict rules, and
-//! those that are added to a follower or asked of a single tree, KeyPackages by themselves, the facts of messages,
-//! groups with keys that begin alike, and the fronts of bodies that a message stores unread.
+//! those that are added to a follower or asked of a single tree, KeyPackages by themselves, KeyPackages and GroupInfos in a
+//! group, the facts of messages, groups with keys that begin alike, and the fronts of bodies that a message stores unread.
 //!
 //! Expected values are worked out by hand from the RFC's text, and are never what the libraries returned.
 #![tactic(auto)]
@@ -13,6 +13,8 @@
 mod added_rules;
 #[cfg(test)]
 mod devices;
+#[cfg(test)]
+mod examinations;
 #[cfg(test)]
 mod failing_runs;
 #[cfg(test)]

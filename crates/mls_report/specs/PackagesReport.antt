@@ -11,7 +11,7 @@ use Rattle.mls_examine.specs.declared.finding.PackageFinding.TheVariants as find
 use Rattle.mls_examine.specs.declared.unfit.Unfit.{Unfit}
 use Rattle.mls_examine.specs.declared.unfit.Unfit.TheVariants as unfit
 use Rattle.mls_msgs.specs.StrictRules.{strict_name, strict_number}
-use Rattle.mls_report.specs.FaultText.{member_fault_text}
+use Rattle.mls_report.specs.FaultText.{member_fault_text, start_fault_text}
 use Rattle.mls_report.specs.SignaturesReport.{signature_line}
 use Rattle.mls_show.specs.FaultText.{wire_fault_text}
 use Rattle.mls_show.specs.ValueTexts.{hex_text}
@@ -30,18 +30,14 @@ facts_text facts =
     ++ (codes " " ++ (decimal facts.lifetime.not_before
     ++ (codes " " ++ decimal facts.lifetime.not_after)))))
 
--- `detail_text e` is what follows the name of a reason: the fault of the leaf node, the number of signatures that are not
--- accepted, or the number and the name of the strict rule.
+-- `detail_text e` is what follows the name of a reason: the fault of a start or of a leaf node, the number of signatures that are
+-- not accepted, or the number and the name of the strict rule.
 abbrev pub detail_text : Unfit → List ℕ
-detail_text unfit.Malformed = []
-detail_text unfit.WrongVersion = []
-detail_text unfit.WrongSuite = []
-detail_text unfit.LeafSource = []
-detail_text unfit.InitKeyReused = []
+detail_text (unfit.StartRefused fault) = codes " " ++ start_fault_text fault
 detail_text (unfit.Member fault) = codes " " ++ member_fault_text fault
 detail_text (unfit.Unsigned signatures) = codes " " ++ decimal (length signatures)
 detail_text (unfit.Strict r) = codes " " ++ (decimal (strict_number r) ++ (codes " " ++ strict_name r))
-detail_text unfit.OutOfMemory = []
+detail_text e = []
 
 -- `unfit_text e` is why a KeyPackage is not good, by number and name, with the detail of the reason.
 abbrev pub unfit_text : Unfit → List ℕ

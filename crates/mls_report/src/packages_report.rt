@@ -7,7 +7,7 @@ ghost use Rattle.mls_examine.specs.PackageFindings.{is_good};
 ghost use Rattle.mls_report.specs.PackagesReport as packages;
 ghost use Rattle.mls_report.specs.SignaturesReport as lines;
 
-use crate::fault_text::member_fault_text;
+use crate::fault_text::{member_fault_text, start_fault_text};
 use crate::finding::with_detail;
 use crate::signature_text::signature_line;
 use mls_examine::{PackageFacts, PackageFinding, Unfit};
@@ -26,11 +26,15 @@ fn facts_text(alloc: Global, facts: &PackageFacts) -> Result<String, AllocError>
     format!(in alloc; "{reference} {suite} {first} {last}")
 }
 
-/// Returns what follows the name of a reason: the fault of the leaf node, the number of signatures, or the strict rule.
+/// Returns what follows the name of a reason: the fault of a start or of a leaf node, the number of signatures, or the strict rule.
 fn detail_text(alloc: Global, reason: &Unfit) -> Result<String, AllocError>
     ensures { IfOk result (λ text. string_bytes text ≡ packages.detail_text reason.now) }
 {
     match reason {
+        Unfit::StartRefused(fault) => {
+            let fault = start_fault_text(alloc, *fault)?;
+            format!(in alloc; " {fault}")
+        }
         Unfit::Member(fault) => {
             let fault = member_fault_text(alloc, *fault)?;
             format!(in alloc; " {fault}")
@@ -43,12 +47,7 @@ fn detail_text(alloc: Global, reason: &Unfit) -> Result<String, AllocError>
             let (number, name) = (rule.number(), rule.name());
             format!(in alloc; " {number} {name}")
         }
-        Unfit::Malformed => Ok(String::new(alloc)),
-        Unfit::WrongVersion => Ok(String::new(alloc)),
-        Unfit::WrongSuite => Ok(String::new(alloc)),
-        Unfit::LeafSource => Ok(String::new(alloc)),
-        Unfit::InitKeyReused => Ok(String::new(alloc)),
-        Unfit::OutOfMemory => Ok(String::new(alloc)),
+        _ => Ok(String::new(alloc)),
     }
 }
 
@@ -166,14 +165,7 @@ fn write_unsigned<K: Sink>(alloc: Global, reason: &Unfit, out: &mut K) -> Result
 {
     match reason {
         Unfit::Unsigned(signatures) => write_signatures(alloc, signatures.as_slice(), out),
-        Unfit::Malformed => Ok(()),
-        Unfit::WrongVersion => Ok(()),
-        Unfit::WrongSuite => Ok(()),
-        Unfit::LeafSource => Ok(()),
-        Unfit::InitKeyReused => Ok(()),
-        Unfit::Member(_) => Ok(()),
-        Unfit::Strict(_) => Ok(()),
-        Unfit::OutOfMemory => Ok(()),
+        _ => Ok(()),
     }
 }
 
